@@ -1,0 +1,2 @@
+-- Document 01's table of bench ladders: Bench.
+pub mod Bench

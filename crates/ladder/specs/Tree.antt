@@ -1,0 +1,48 @@
+-- Ladders as trees. Document 000, figure 3, whose nonterminals input and output stand as types of their own. Assumes nothing.
+use Prim.Native.Nat.{ℕ}
+use mathlib.Core.Bool.{Bool, _&&_}
+use mathlib.Core.List.{List, map}
+
+-- contact(var), contactn(var): the second is document 01's negated contact
+pub data Input : Type 0 where
+  contact contactn : ℕ → Input
+
+pub data Front : Type 0 where
+  input : Input → Front
+  frontAnd frontOr : Front → Front → Front
+
+-- coil(var), coiln(var), jump(label), jumpn(label)
+pub data Output : Type 0 where
+  coil coiln jump jumpn : ℕ → Output
+
+-- document 01: "A rear is an output (5 to 8), or 9 with a front and a rear, or 10 with two rears."
+pub data Rear : Type 0 where
+  output : Output → Rear
+  rearAnd : Front → Rear → Rear
+  rearOr : Rear → Rear → Rear
+
+-- "A rung is a front followed by a rear."
+pub record Rung : Type 0 where
+  pub label : ℕ
+  pub front : Front
+  pub rear : Rear
+
+abbrev pub Ladder : Type 0
+Ladder = List Rung
+
+abbrev pub labels : Ladder → List ℕ
+labels gs = map (λ g. g .label) gs
+
+-- whether each input and each output passes a test
+unfoldable pub frontAll : (Input → Bool) → Front → Bool
+frontAll inputs (input i) = inputs i
+frontAll inputs (frontAnd f g) = frontAll inputs f && frontAll inputs g
+frontAll inputs (frontOr f g) = frontAll inputs f && frontAll inputs g
+
+unfoldable pub rearAll : (Input → Bool) → (Output → Bool) → Rear → Bool
+rearAll inputs outputs (output o) = outputs o
+rearAll inputs outputs (rearAnd f r) = frontAll inputs f && rearAll inputs outputs r
+rearAll inputs outputs (rearOr a b) = rearAll inputs outputs a && rearAll inputs outputs b
+
+unfoldable pub rungAll : (Input → Bool) → (Output → Bool) → Rung → Bool
+rungAll inputs outputs g = frontAll inputs (g .front) && rearAll inputs outputs (g .rear)

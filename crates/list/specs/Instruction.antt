@@ -1,0 +1,84 @@
+-- Instructions, and their words and back. Document 01, "What a list does"; document 002, figure 1, Booleans only. Assumes nothing.
+use Prim.Native.Nat.{ℕ, zero, suc}
+use mathlib.Core.Bool.{Bool, true}
+use mathlib.Core.Option.{Option, none, some}
+use mathlib.Core.List.{List, [], _∷_}
+use lib.ListN.{getD}
+use Rattle.rungs.specs.Words.{word, numberOf, operandOf, isOperand}
+
+pub data Instr : Type 0 where
+  LD LDN ST STN AND ANDN OR ORN XOR XORN : ℕ → Instr
+  NOT : Instr
+  JMP JMPC JMPCN : ℕ → Instr
+
+-- "Operands: a table index below V + 32 for 1 to 10; 0 for NOT; an instruction index from 0 to the list's length for 12 to 14."
+pub data Operand : Type 0 where
+  tableIndex : ℕ → Operand
+  noOperand : Operand
+  instructionIndex : ℕ → Operand
+
+unfoldable pub operand : Instr → Operand
+operand (LD x) = tableIndex x
+operand (LDN x) = tableIndex x
+operand (ST x) = tableIndex x
+operand (STN x) = tableIndex x
+operand (AND x) = tableIndex x
+operand (ANDN x) = tableIndex x
+operand (OR x) = tableIndex x
+operand (ORN x) = tableIndex x
+operand (XOR x) = tableIndex x
+operand (XORN x) = tableIndex x
+operand NOT = noOperand
+operand (JMP j) = instructionIndex j
+operand (JMPC j) = instructionIndex j
+operand (JMPCN j) = instructionIndex j
+
+-- "1 LD, 2 LDN, 3 ST, 4 STN, 5 AND, 6 ANDN, 7 OR, 8 ORN, 9 XOR, 10 XORN, 11 NOT, 12 JMP, 13 JMPC, 14 JMPCN"
+unfoldable pub instrWord : Instr → ℕ
+instrWord (LD x) = word 1 x
+instrWord (LDN x) = word 2 x
+instrWord (ST x) = word 3 x
+instrWord (STN x) = word 4 x
+instrWord (AND x) = word 5 x
+instrWord (ANDN x) = word 6 x
+instrWord (OR x) = word 7 x
+instrWord (ORN x) = word 8 x
+instrWord (XOR x) = word 9 x
+instrWord (XORN x) = word 10 x
+instrWord NOT = word 11 0
+instrWord (JMP j) = word 12 j
+instrWord (JMPC j) = word 13 j
+instrWord (JMPCN j) = word 14 j
+
+-- and back: what each op makes of an operand
+abbrev pub noOp : ℕ → Option Instr
+noOp x = none
+
+abbrev pub op : (ℕ → Instr) → ℕ → Option Instr
+op make x = some (make x)
+
+unfoldable pub onlyNot : ℕ → Option Instr
+onlyNot zero = some NOT
+onlyNot (suc x) = none
+
+-- by op, from 0 to 14
+unfoldable pub ops : List (ℕ → Option Instr)
+ops =
+    noOp ∷ op LD ∷ op LDN ∷ op ST ∷ op STN ∷ op AND ∷ op ANDN ∷ op OR ∷ op ORN ∷ op XOR ∷ op XORN ∷ onlyNot
+    ∷ op JMP ∷ op JMPC ∷ op JMPCN ∷ []
+
+unfoldable pub decodeInstr : ℕ → Option Instr
+decodeInstr w = getD ops (numberOf w) noOp (operandOf w)
+
+unfoldable pub decodeCode : List ℕ → Option (List Instr)
+decodeCode [] = some []
+decodeCode (w ∷ ws) = elim (decodeInstr w) [ none ↦ none | some i ↦ elim (decodeCode ws) [ none ↦ none | some is ↦ some (i ∷ is) ] ]
+
+-- an operand of 16 bits
+unfoldable pub operandFits : Operand → Bool
+operandFits (tableIndex x) = isOperand x
+operandFits noOperand = true
+operandFits (instructionIndex j) = isOperand j
+
+unfoldable pub instrFits : Instr → Bool
+instrFits i = operandFits (operand i)

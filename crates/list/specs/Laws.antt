@@ -1,0 +1,3 @@
+-- Proofs of what Theorems states. No contract cites these modules.
+pub mod Decoding
+pub mod Watchdog

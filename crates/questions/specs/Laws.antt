@@ -1,0 +1,3 @@
+-- What the answers tell. No contract cites these modules.
+pub mod Tests
+pub mod Answers

@@ -1,0 +1,3 @@
+-- Where rungs stand in words and in lists. No contract cites these modules.
+pub mod Rows
+pub mod Layout

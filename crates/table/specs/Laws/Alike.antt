@@ -1,0 +1,135 @@
+-- Two states that are alike but for scratch, and what a write leaves of that. Assumes nothing.
+use mathlib.Core.Path.{_≡_, refl, sym, ap, _∙_}
+use mathlib.Core.Bool.{Bool, true, false}
+use mathlib.Core.Option.{none}
+use mathlib.Core.List.{List}
+use Prim.Native.Nat.{ℕ, _+_, _≤_, _<_}
+use native.Mathlib.Omega.{arith}
+use native.Mathlib.Decide.{ℕ-discrete, decLt}
+use lib.Dec.{eqb, eqb→eq}
+use lib.ListN.{length, getD, set, take, length-set, length-take}
+use lib.Seq.{getD-set-same, getD-set-other, ext-getD, getD-take, set-out, drop-set-lt}
+use mir.Facts.{and-yes}
+use Rattle.questions.specs.Tests.{all}
+use Rattle.questions.specs.Laws.Answers.{ask-passed}
+use Rattle.table.specs.State.{State, scratchBytes, variables, scratch, truth, bit, value, write}
+use Rattle.table.specs.Questions.{question11, isBit}
+
+-- a table that question 11 takes has V + 32 bytes
+pub table-room : (s : State) → question11 s ≡ none → length (s .bytes) ≡ s .vars + scratchBytes
+unfolding question11
+table-room s e = eqb→eq _ _ (and-yes (eqb (length (s .bytes)) (s .vars + scratchBytes)) (all isBit (s .bytes)) (ask-passed 11 _ e) .0)
+
+-- The states s and t have V variables, and these are equal; their scratch may differ.
+pub record Alike (vars : ℕ) (s t : State) : Type 0 where
+  pub vars-left : s .vars ≡ vars
+  pub vars-right : t .vars ≡ vars
+  pub same : (i : ℕ) → i < vars → getD (s .bytes) i 0 ≡ getD (t .bytes) i 0
+  pub same-room : length (s .bytes) ≡ length (t .bytes)
+  pub room : length (t .bytes) ≡ vars + scratchBytes
+
+-- t′ has t's scratch below td
+pub record Keeps (vars d : ℕ) (t t′ : State) : Type 0 where
+  pub kept : (i : ℕ) → vars ≤ i → i < vars + d → getD (t′ .bytes) i 0 ≡ getD (t .bytes) i 0
+
+truth-bit : (b : Bool) → truth (bit b) ≡ b
+truth-bit true = refl
+truth-bit false = refl
+
+set-same : (s t : List ℕ) (v x : ℕ) → length s ≡ length t → (i : ℕ) → getD s i 0 ≡ getD t i 0 → getD (set s v x) i 0 ≡ getD (set t v x) i 0
+set-same s t v x h i e = go (ℕ-discrete i v) (decLt v (length t))
+  where
+    go : Dec (i ≡ v) → Dec (v < length t) → getD (set s v x) i 0 ≡ getD (set t v x) i 0
+    go (yes p) (yes k) = rw (p, getD-set-same s v x 0 (omega arith), getD-set-same t v x 0 k)
+    go (yes p) (no k) = rw (set-out s v x (omega arith), set-out t v x (omega arith)) e
+    go (no p) k = rw (getD-set-other s v i x 0 p, getD-set-other t v i x 0 p) e
+
+module _ {vars : ℕ} {s t : State} (p : Alike vars s t) where
+  pub value-alike : (v : ℕ) → v < vars → value t v ≡ value s v
+  unfolding value
+  value-alike v h = rw (p .same v h)
+
+  -- a variable written in both
+  pub write-both : (v : ℕ) (b : Bool) → v < vars → Alike vars (write s v b) (write t v b)
+  unfolding write
+  write-both v b h = record {
+    vars-left = p .vars-left;
+    vars-right = p .vars-right;
+    same = λ i k. set-same (s .bytes) (t .bytes) v (bit b) (p .same-room) i (p .same i k);
+    same-room = length-set (s .bytes) v (bit b) ∙ p .same-room ∙ sym (length-set (t .bytes) v (bit b));
+    room = rw (length-set (t .bytes) v (bit b)) (p .room);
+  }
+
+  -- scratch written in the second alone
+  pub write-scratch : (d : ℕ) (b : Bool) → d < scratchBytes → Alike vars s (write t (vars + d) b)
+  unfolding write
+  write-scratch d b h = record {
+    vars-left = p .vars-left;
+    vars-right = p .vars-right;
+    same = λ i k. p .same i k ∙ sym (getD-set-other (t .bytes) (vars + d) i (bit b) 0 (omega arith));
+    same-room = p .same-room ∙ sym (length-set (t .bytes) (vars + d) (bit b));
+    room = rw (length-set (t .bytes) (vars + d) (bit b)) (p .room);
+  }
+
+  pub value-written : (d : ℕ) (b : Bool) → d < scratchBytes → value (write t (vars + d) b) (vars + d) ≡ b
+  unfolding value write
+  value-written d b h = let ht = p .room in rw (getD-set-same (t .bytes) (vars + d) (bit b) 0 (omega arith)) (truth-bit b)
+
+  pub variables-alike : variables s ≡ variables t
+  unfolding variables
+  variables-alike =
+      let ls = length-take vars (s .bytes) in let lt = length-take vars (t .bytes) in let hs = p .same-room in let ht = p .room in
+      rw (p .vars-left, p .vars-right) (ext-getD 0 (take vars (s .bytes)) (take vars (t .bytes)) (omega arith)
+      (λ i h. let k : i < vars = omega arith in getD-take vars (s .bytes) i 0 k ∙ p .same i k ∙ sym (getD-take vars (t .bytes) i 0 k)))
+
+-- tables with equal variables that question 11 takes
+pub alike-tables : (s t : State) → question11 s ≡ none → question11 t ≡ none → s .vars ≡ t .vars → variables s ≡ variables t → Alike (t .vars) s t
+unfolding variables
+alike-tables s t hs ht e v = let rs = table-room s hs in let rt = table-room t ht in record {
+  vars-left = e;
+  vars-right = refl;
+  same = λ i k. sym (getD-take (t .vars) (s .bytes) i 0 k) ∙ ap (λ l. getD l i 0) (rw e at v) ∙ getD-take (t .vars) (t .bytes) i 0 k;
+  same-room = omega arith;
+  room = rt;
+}
+
+pub alike-self : (s : State) → question11 s ≡ none → Alike (s .vars) s s
+alike-self s h = alike-tables s s h h refl refl
+
+module _ (vars : ℕ) where
+  pub keeps-all : (d : ℕ) (t : State) → Keeps vars d t t
+  keeps-all d t = record { kept = λ i lo hi. refl }
+
+  pub keeps-variable : (d v : ℕ) (t : State) (b : Bool) → v < vars → Keeps vars d t (write t v b)
+  unfolding write
+  keeps-variable d v t b h = record { kept = λ i lo hi. getD-set-other (t .bytes) v i (bit b) 0 (omega arith) }
+
+  pub keeps-scratch : (d : ℕ) (t : State) (b : Bool) → Keeps vars d t (write t (vars + d) b)
+  unfolding write
+  keeps-scratch d t b = record { kept = λ i lo hi. getD-set-other (t .bytes) (vars + d) i (bit b) 0 (omega arith) }
+
+  pub value-kept : (d : ℕ) (t t′ : State) → Keeps vars (d + 1) t t′ → value t′ (vars + d) ≡ value t (vars + d)
+  unfolding value
+  value-kept d t t′ k = rw (k .kept (vars + d) (omega arith) (omega arith))
+
+  pub keeps-less : (d : ℕ) (t t′ : State) → Keeps vars (d + 1) t t′ → Keeps vars d t t′
+  keeps-less d t t′ k = record { kept = λ i lo hi. k .kept i lo (omega arith) }
+
+  pub keeps-both : (d : ℕ) (t t′ t″ : State) → Keeps vars d t t′ → Keeps vars d t′ t″ → Keeps vars d t t″
+  keeps-both d t t′ t″ k k′ = record { kept = λ i lo hi. k′ .kept i lo hi ∙ k .kept i lo hi }
+
+-- The state s′ has the V and the scratch of s.
+pub record ScratchStays (s s′ : State) : Type 0 where
+  pub same-vars : s′ .vars ≡ s .vars
+  pub same-scratch : scratch s′ ≡ scratch s
+
+pub scratch-self : (s : State) → ScratchStays s s
+scratch-self s = record { same-vars = refl; same-scratch = refl }
+
+pub scratch-both : {s s′ s″ : State} → ScratchStays s s′ → ScratchStays s′ s″ → ScratchStays s s″
+scratch-both h k = record { same-vars = k .same-vars ∙ h .same-vars; same-scratch = k .same-scratch ∙ h .same-scratch }
+
+-- writing a variable leaves scratch
+pub scratch-written : (s : State) (v : ℕ) (b : Bool) → v < s .vars → ScratchStays s (write s v b)
+unfolding write scratch
+scratch-written s v b h = record { same-vars = refl; same-scratch = drop-set-lt (s .vars) (s .bytes) v (bit b) h }

@@ -1,0 +1,43 @@
+-- What a scan works on. Document 01, "What a ladder does". Both scans share it.
+-- The table is document 000's memory e, its Var being the bytes 0 to V - 1. Assumes nothing.
+use Prim.Native.Nat.{ℕ, _+_}
+use mathlib.Core.Bool.{Bool, true, false, not}
+use mathlib.Core.List.{List}
+use lib.Dec.{eqb}
+use lib.ListN.{getD, set, take, drop}
+
+-- V and the bytes of the lent table
+pub record State : Type 0 where
+  pub vars : ℕ
+  pub bytes : List ℕ
+
+-- "The last 32 bytes are scratch t0 to t31"
+abbrev pub scratchBytes : ℕ
+scratchBytes = 32
+
+-- the table index of td
+abbrev pub scratchIndex : ℕ → ℕ → ℕ
+scratchIndex vars d = vars + d
+
+-- "V variables, 1 to 1,024, are bytes 0 to V−1 of a lent table of V + 32 bytes"
+unfoldable pub variables : State → List ℕ
+variables s = take (s .vars) (s .bytes)
+
+unfoldable pub scratch : State → List ℕ
+scratch s = drop (s .vars) (s .bytes)
+
+-- "0 is false, 1 true"
+abbrev pub truth : ℕ → Bool
+truth b = not (eqb b 0)
+
+abbrev pub bit : Bool → ℕ
+bit true = 1
+bit false = 0
+
+-- the value of the byte at a table index
+unfoldable pub value : State → ℕ → Bool
+value s i = truth (getD (s .bytes) i 0)
+
+-- the state with b written at a table index
+unfoldable pub write : State → ℕ → Bool → State
+write s i b = record { vars = s .vars; bytes = set (s .bytes) i (bit b) }

@@ -1,0 +1,8 @@
+-- Proofs of what Agreement and Theorems state. No contract cites these modules.
+pub mod Exec
+pub mod Places
+pub mod Parts
+pub mod Scans
+pub mod Lists
+pub mod Legal
+pub mod Exact

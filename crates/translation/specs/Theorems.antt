@@ -1,0 +1,50 @@
+-- What is promised of ladders and their lists, over trees; the proofs are in Laws. Assumes nothing.
+use Prim.Native.Nat.{ℕ, _*_, _≤_}
+use mathlib.Core.Path.{_≡_}
+use mathlib.Core.Logic.{_↔_}
+use mathlib.Core.Option.{none, some}
+use mathlib.Core.List.{map}
+use lib.Dec.{T}
+use lib.ListN.{length}
+use Rattle.questions.specs.Tests.{all}
+use Rattle.questions.specs.Questions.{question12, mostRungWatchdog, mostInstructionWatchdog}
+use Rattle.questions.specs.Laws.Answers.{ask-passed, passed-ask, each-passed}
+use Rattle.table.specs.State.{State}
+use Rattle.table.specs.Questions.{question11}
+use Rattle.table.specs.Laws.Alike.{alike-self}
+use Rattle.rungs.specs.Records.{longest}
+use Rattle.ladder.specs.Tree.{Ladder}
+use Rattle.ladder.specs.Questions.{question6, question9, rungBelow, Accepted}
+use Rattle.list.specs.Instruction.{instrWord, decodeCode}
+use Rattle.list.specs.Questions.{instrInRange, question10}
+use Rattle.translation.specs.Translate.{translate}
+use Rattle.translation.specs.Agreement.{Agreement}
+use Rattle.translation.specs.Laws.Lists.{start, start-near, translated-agrees}
+use Rattle.translation.specs.Laws.Legal.{list-in-range, list-decodes, watchdog-in-range, codes-ok}
+use Rattle.translation.specs.Laws.Exact.{codes-within}
+
+-- Demand 3: for every accepted ladder of V variables, every legal table, every rung watchdog n and every instruction watchdog.
+pub agreement : (gs : Ladder) (s : State) (n : ℕ) → Accepted (s .vars) gs → question11 s ≡ none → Agreement 2 gs (translate (s .vars) gs) s n
+agreement gs s n accepted legal = translated-agrees (s .vars) gs s n accepted (alike-self s legal)
+
+-- An accepted ladder's list gets a "yes" to question 10,
+pub list-accepted : (vars : ℕ) (gs : Ladder) → Accepted vars gs → question10 vars (map instrWord (translate vars gs .code)) (translate vars gs .records) ≡ none
+list-accepted vars gs accepted = list-in-range vars gs accepted
+
+-- its words decode to its instructions,
+pub list-decoded : (vars : ℕ) (gs : Ladder) → Accepted vars gs → decodeCode (map instrWord (translate vars gs .code)) ≡ some (translate vars gs .code)
+list-decoded vars gs accepted = list-decodes vars gs accepted
+
+-- and k × L is a legal instruction watchdog for every k up to 65,535.
+pub watchdog-accepted : (vars : ℕ) (gs : Ladder) → Accepted vars gs → (k : ℕ) → k ≤ mostRungWatchdog
+    → question12 mostInstructionWatchdog (k * longest (translate vars gs .records)) ≡ none
+watchdog-accepted vars gs accepted k h = watchdog-in-range vars gs accepted k h
+
+-- Question 9 is exact: it gets a "no" only if F and R pass t31. Whatever else stands in the list, variables and jumps, is in range.
+pub scratch-exactly : (vars : ℕ) (gs : Ladder) → question6 vars gs ≡ none
+    → (question9 gs ≡ none) ↔ T (all (instrInRange vars (length (translate vars gs .code))) (translate vars gs .code))
+unfolding question6 question9 translate
+scratch-exactly vars gs variables = (
+  (λ e. codes-ok vars _ (start vars gs) (start-near vars gs) gs (each-passed 6 (rungBelow vars) gs variables) (ask-passed 9 _ e)),
+  (λ h. passed-ask 9 _ (codes-within vars _ (start vars gs) gs h)),
+)
