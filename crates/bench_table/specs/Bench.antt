@@ -4,7 +4,7 @@ use mathlib.Core.Path.{_≡_, refl}
 use mathlib.Core.Option.{Option, none, some, Option·map}
 use mathlib.Core.List.{List, [], _∷_, map, flatMap}
 use Prim.Native.Nat.{ℕ, _*_}
-use Rattle.table.specs.State.{variables, value, write}
+use Rattle.table.specs.State.{variables, valueAt, value, writtenAt, write}
 use Rattle.table.specs.Halt.{Ended, Stopped}
 use Rattle.rungs.specs.Records.{lay, search, startOf, isStart, longest}
 use Rattle.ladder.specs.Meaning.{scanLadder, scanFrom, runRung, runRear, runOutput, workFront, workInput, jumpIf, unlessJumped, from, follow, left}
@@ -60,7 +60,7 @@ asPrinted b = record { ladderScan = expected (b .row); listScan = expected (b .r
 
 -- Both scans of every row end as document 01 says, and row A has the 12 instructions that it prints.
 bench : map outcomes table ≡ map asPrinted table
-unfolding table listA outcomes asPrinted translated start expected ladderOutcome listOutcome watchdog variables value write search
+unfolding table listA outcomes asPrinted translated start expected ladderOutcome listOutcome watchdog variables valueAt value writtenAt write search
     scanLadder scanFrom runRung runRear runOutput workFront workInput jumpIf unlessJumped from follow left
     scanList scanMachine begin step count does halted isStart longest lay startOf F R join outputCode rungCode listRecords translate flatMap
 bench = refl

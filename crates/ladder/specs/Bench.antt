@@ -4,7 +4,7 @@ use mathlib.Core.Path.{_≡_, refl}
 use mathlib.Core.List.{List, [], _∷_, _++_, map}
 use Prim.Native.Nat.{ℕ}
 use lib.ListN.{replicate, length}
-use Rattle.table.specs.State.{State, scratchBytes, variables, value, write}
+use Rattle.table.specs.State.{State, scratchBytes, variables, valueAt, value, writtenAt, write}
 use Rattle.table.specs.Halt.{Halt, Ended, Stopped}
 use Rattle.rungs.specs.Records.{search}
 use Rattle.ladder.specs.Tree.{contact, contactn, Front, input, frontAnd, frontOr, coil, coiln, jump, jumpn, Rear, output, rearAnd, rearOr, Rung, Ladder}
@@ -112,5 +112,5 @@ rows : List Row
 rows = rowA ∷ rowB ∷ rowC ∷ rowD ∷ rowE ∷ rowF ∷ further
 
 ladders-scanned : map ladderOutcome rows ≡ map expected rows
-unfolding rows further start ladderOutcome expected scanLadder scanFrom runRung runRear runOutput workFront workInput jumpIf unlessJumped search from follow left value write variables
+unfolding rows further start ladderOutcome expected scanLadder scanFrom runRung runRear runOutput workFront workInput jumpIf unlessJumped search from follow left valueAt value writtenAt write variables
 ladders-scanned = refl

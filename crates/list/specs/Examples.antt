@@ -6,13 +6,13 @@ use mathlib.Core.Bool.{xor}
 use Prim.Native.Nat.{ℕ}
 use lib.ListN.{replicate, length}
 use Rattle.questions.specs.Tests.{all}
-use Rattle.questions.specs.Questions.{Answer, ask, question1, firstNo}
-use Rattle.table.specs.State.{scratchBytes, variables, value, write}
+use Rattle.questions.specs.Questions.{Answer, ask, varsInRange, question1, firstNo}
+use Rattle.table.specs.State.{scratchBytes, variables, valueAt, value, writtenAt, write}
 use Rattle.table.specs.Halt.{Halt, Ended, Stopped}
 use Rattle.rungs.specs.Records.{RungRecord, isStart, laid}
 use Rattle.list.specs.Instruction.{Instr, LD, LDN, ST, STN, AND, ANDN, OR, ORN, XOR, XORN, NOT, JMP, JMPC, JMPCN, operand, instrWord, decodeInstr, ops, onlyNot}
 use Rattle.list.specs.Machine.{InstructionList, does, count, step, begin, halted, scanMachine, scanList}
-use Rattle.list.specs.Questions.{operandInRange, wordInRange, recordsLaid, question10, listAnswer}
+use Rattle.list.specs.Questions.{operandInRange, wordInRange, recordsLaid, listInRange, question10, listAnswer}
 
 -- a list, its variables before, the instruction watchdog; how the scan halts, its counts and the variables after
 record Row : Type 0 where
@@ -82,7 +82,7 @@ outcome r =
     record { halt = x .halt; instructions = x .counts .instructions; rungs = x .counts .rungs; variables = variables (x .state) }
 
 lists-scanned : map outcome rows ≡ map expected rows
-unfolding rows outcome expected scanList scanMachine begin step count does halted isStart value write variables xor
+unfolding rows outcome expected scanList scanMachine begin step count does halted isStart valueAt value writtenAt write variables xor
 lists-scanned = refl
 
 no-place : Answer
@@ -109,5 +109,5 @@ answers =
     ∷ []
 
 answers-worked : answers ≡ none ∷ no-place ∷ no-place ∷ none ∷ no-place ∷ none ∷ no-place ∷ none ∷ no-place ∷ no-place ∷ none ∷ no-place ∷ no-place ∷ []
-unfolding answers no-place words listAnswer firstNo question1 question10 ask all laid recordsLaid wordInRange operandInRange operand decodeInstr ops onlyNot instrWord
+unfolding answers no-place words listAnswer firstNo question1 varsInRange question10 listInRange ask all laid recordsLaid wordInRange operandInRange operand decodeInstr ops onlyNot instrWord
 answers-worked = refl

@@ -35,12 +35,15 @@ unfoldable pub recordsLaid : ℕ → List RungRecord → Bool
 recordsLaid n rs = laid 0 n rs && all (λ r. ltb 0 (r .length)) rs
 
 -- 10. "List of 1 to 16,384 instructions, with 1 to 256 records laid as above, none of length 0, and ops and operands as above?"
-unfoldable pub question10 : ℕ → List ℕ → List RungRecord → Answer
-question10 vars words rs = ask 10
-    ((leb 1 (length words) && leb (length words) mostInstructions)
+unfoldable pub listInRange : ℕ → List ℕ → List RungRecord → Bool
+listInRange vars words rs =
+    (leb 1 (length words) && leb (length words) mostInstructions)
     && ((leb 1 (length rs) && leb (length rs) mostRecords)
     && (recordsLaid (length words) rs
-    && all (wordInRange vars (length words)) words)))
+    && all (wordInRange vars (length words)) words))
+
+unfoldable pub question10 : ℕ → List ℕ → List RungRecord → Answer
+question10 vars words rs = ask 10 (listInRange vars words rs)
 
 -- the questions that List scan and Listing both put first, in order
 unfoldable pub listAnswer : ℕ → List ℕ → List RungRecord → Answer

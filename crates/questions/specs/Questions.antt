@@ -35,8 +35,11 @@ firstNo (some refusal ∷ later) = some refusal
 abbrev pub mostVariables : ℕ
 mostVariables = 1024
 
+unfoldable pub varsInRange : ℕ → Bool
+varsInRange vars = leb 1 vars && leb vars mostVariables
+
 unfoldable pub question1 : ℕ → Answer
-question1 vars = ask 1 (leb 1 vars && leb vars mostVariables)
+question1 vars = ask 1 (varsInRange vars)
 
 -- 2. "Text of 1 to 65,535 bytes?", over the number of bytes
 abbrev pub mostTextBytes : ℕ
@@ -61,5 +64,8 @@ pub record Buffer : Type 0 where
   pub lent : ℕ
 
 -- 13. "Every output buffer long enough?"
+unfoldable pub longEnough : Buffer → Bool
+longEnough b = leb (b .needed) (b .lent)
+
 unfoldable pub question13 : List Buffer → Answer
-question13 buffers = ask 13 (all (λ b. leb (b .needed) (b .lent)) buffers)
+question13 buffers = ask 13 (all longEnough buffers)

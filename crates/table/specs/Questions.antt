@@ -11,5 +11,8 @@ abbrev pub isBit : ℕ → Bool
 isBit b = leb b 1
 
 -- 11. "Table of V + 32 bytes, all 0 or 1?"
+unfoldable pub tableInRange : State → Bool
+tableInRange s = eqb (length (s .bytes)) (s .vars + scratchBytes) && all isBit (s .bytes)
+
 unfoldable pub question11 : State → Answer
-question11 s = ask 11 (eqb (length (s .bytes)) (s .vars + scratchBytes) && all isBit (s .bytes))
+question11 s = ask 11 (tableInRange s)

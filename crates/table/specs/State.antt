@@ -35,9 +35,15 @@ bit true = 1
 bit false = 0
 
 -- the value of the byte at a table index
-unfoldable pub value : State → ℕ → Bool
-value s i = truth (getD (s .bytes) i 0)
+unfoldable pub valueAt : List ℕ → ℕ → Bool
+valueAt bytes i = truth (getD bytes i 0)
 
--- the state with b written at a table index
+unfoldable pub value : State → ℕ → Bool
+value s i = valueAt (s .bytes) i
+
+-- the bytes with b written at a table index
+unfoldable pub writtenAt : List ℕ → ℕ → Bool → List ℕ
+writtenAt bytes i b = set bytes i (bit b)
+
 unfoldable pub write : State → ℕ → Bool → State
-write s i b = record { vars = s .vars; bytes = set (s .bytes) i (bit b) }
+write s i b = record { vars = s .vars; bytes = writtenAt (s .bytes) i b }

@@ -8,7 +8,7 @@ use native.Mathlib.Omega.{arith}
 use lib.Dec.{T, leb, leb→le, le→leb}
 use mir.Facts.{and-yes}
 use Rattle.questions.specs.Tests.{all, firstFailed}
-use Rattle.questions.specs.Questions.{Answer, ask, askEach, firstNo, question1, mostVariables, question12}
+use Rattle.questions.specs.Questions.{Answer, ask, askEach, firstNo, varsInRange, question1, mostVariables, question12}
 use Rattle.questions.specs.Laws.Tests.{none-failed, failed-none}
 
 pub ask-passed : (number : ℕ) (test : Bool) → ask number test ≡ none → T test
@@ -41,7 +41,7 @@ later-yes none later e = e
 later-yes (some r) later e = cc
 
 pub vars-in-range : (vars : ℕ) → question1 vars ≡ none → (1 ≤ vars) × (vars ≤ mostVariables)
-unfolding question1
+unfolding question1 varsInRange
 vars-in-range vars e =
     let h = and-yes (leb 1 vars) (leb vars mostVariables) (ask-passed 1 _ e) in
     (leb→le 1 vars (h .0), leb→le vars mostVariables (h .1))

@@ -12,12 +12,12 @@ use lib.Seq.{getD-set-same, getD-set-other, ext-getD, getD-take, set-out, drop-s
 use mir.Facts.{and-yes}
 use Rattle.questions.specs.Tests.{all}
 use Rattle.questions.specs.Laws.Answers.{ask-passed}
-use Rattle.table.specs.State.{State, scratchBytes, variables, scratch, truth, bit, value, write}
-use Rattle.table.specs.Questions.{question11, isBit}
+use Rattle.table.specs.State.{State, scratchBytes, variables, scratch, truth, bit, valueAt, value, writtenAt, write}
+use Rattle.table.specs.Questions.{tableInRange, question11, isBit}
 
 -- a table that question 11 takes has V + 32 bytes
 pub table-room : (s : State) → question11 s ≡ none → length (s .bytes) ≡ s .vars + scratchBytes
-unfolding question11
+unfolding question11 tableInRange
 table-room s e = eqb→eq _ _ (and-yes (eqb (length (s .bytes)) (s .vars + scratchBytes)) (all isBit (s .bytes)) (ask-passed 11 _ e) .0)
 
 -- The states s and t have V variables, and these are equal; their scratch may differ.
@@ -46,12 +46,12 @@ set-same s t v x h i e = go (ℕ-discrete i v) (decLt v (length t))
 
 module _ {vars : ℕ} {s t : State} (p : Alike vars s t) where
   pub value-alike : (v : ℕ) → v < vars → value t v ≡ value s v
-  unfolding value
+  unfolding value valueAt
   value-alike v h = rw (p .same v h)
 
   -- a variable written in both
   pub write-both : (v : ℕ) (b : Bool) → v < vars → Alike vars (write s v b) (write t v b)
-  unfolding write
+  unfolding write writtenAt
   write-both v b h = record {
     vars-left = p .vars-left;
     vars-right = p .vars-right;
@@ -62,7 +62,7 @@ module _ {vars : ℕ} {s t : State} (p : Alike vars s t) where
 
   -- scratch written in the second alone
   pub write-scratch : (d : ℕ) (b : Bool) → d < scratchBytes → Alike vars s (write t (vars + d) b)
-  unfolding write
+  unfolding write writtenAt
   write-scratch d b h = record {
     vars-left = p .vars-left;
     vars-right = p .vars-right;
@@ -72,7 +72,7 @@ module _ {vars : ℕ} {s t : State} (p : Alike vars s t) where
   }
 
   pub value-written : (d : ℕ) (b : Bool) → d < scratchBytes → value (write t (vars + d) b) (vars + d) ≡ b
-  unfolding value write
+  unfolding value valueAt write writtenAt
   value-written d b h = let ht = p .room in rw (getD-set-same (t .bytes) (vars + d) (bit b) 0 (omega arith)) (truth-bit b)
 
   pub variables-alike : variables s ≡ variables t
@@ -101,15 +101,15 @@ module _ (vars : ℕ) where
   keeps-all d t = record { kept = λ i lo hi. refl }
 
   pub keeps-variable : (d v : ℕ) (t : State) (b : Bool) → v < vars → Keeps vars d t (write t v b)
-  unfolding write
+  unfolding write writtenAt
   keeps-variable d v t b h = record { kept = λ i lo hi. getD-set-other (t .bytes) v i (bit b) 0 (omega arith) }
 
   pub keeps-scratch : (d : ℕ) (t : State) (b : Bool) → Keeps vars d t (write t (vars + d) b)
-  unfolding write
+  unfolding write writtenAt
   keeps-scratch d t b = record { kept = λ i lo hi. getD-set-other (t .bytes) (vars + d) i (bit b) 0 (omega arith) }
 
   pub value-kept : (d : ℕ) (t t′ : State) → Keeps vars (d + 1) t t′ → value t′ (vars + d) ≡ value t (vars + d)
-  unfolding value
+  unfolding value valueAt
   value-kept d t t′ k = rw (k .kept (vars + d) (omega arith) (omega arith))
 
   pub keeps-less : (d : ℕ) (t t′ : State) → Keeps vars (d + 1) t t′ → Keeps vars d t t′
@@ -131,5 +131,5 @@ scratch-both h k = record { same-vars = k .same-vars ∙ h .same-vars; same-scra
 
 -- writing a variable leaves scratch
 pub scratch-written : (s : State) (v : ℕ) (b : Bool) → v < s .vars → ScratchStays s (write s v b)
-unfolding write scratch
+unfolding write writtenAt scratch
 scratch-written s v b h = record { same-vars = refl; same-scratch = drop-set-lt (s .vars) (s .bytes) v (bit b) h }

@@ -21,7 +21,7 @@ use Rattle.ladder.specs.Tree.{contact, contactn, Front, input, frontAnd, frontO
 use Rattle.ladder.specs.Kept.{frontWords, rearWords, rungWords, encode}
 use Rattle.ladder.specs.Questions.{inputBelow, outputBelow, rungBelow, joinScratch, frontScratch, rearScratch, rungScratch, question5, mostRungs, mostRungWords, mostWords, Accepted}
 use Rattle.list.specs.Instruction.{Instr, LD, LDN, ST, STN, AND, ANDN, OR, ORN, JMPC, JMPCN, Operand, tableIndex, noOperand, instructionIndex, operand, operandFits, instrFits, instrWord, decodeCode}
-use Rattle.list.specs.Questions.{operandInRange, instrInRange, wordInRange, mostInstructions, mostRecords, recordsLaid, question10}
+use Rattle.list.specs.Questions.{operandInRange, instrInRange, wordInRange, mostInstructions, mostRecords, recordsLaid, listInRange, question10}
 use Rattle.list.specs.Laws.Decoding.{decode-instr, decode-code}
 use Rattle.translation.specs.Translate.{F, R, join, outputCode, rungCode, translate}
 use Rattle.translation.specs.Laws.Places.{labelOf, sizeBy, listOf}
@@ -265,7 +265,7 @@ module _ (vars : ℕ) (gs : Ladder) (a : Accepted vars gs) where
       (some-length gs 0)
 
   pub list-in-range : question10 vars (map instrWord (translate vars gs .code)) (translate vars gs .records) ≡ none
-  unfolding question10 listOf
+  unfolding question10 listInRange listOf
   list-in-range =
       let k = limits in
       let least = k .code-least in let most = k .code-most in let some = k .some-rung in let rungs = k .rungs in
