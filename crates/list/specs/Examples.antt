@@ -1,17 +1,19 @@
 -- Worked lists: case A of document 01, and a list for each rule of "What a list does" that it leaves untried; and worked question 10. Assumes nothing.
 use mathlib.Core.Path.{_≡_, refl}
 use mathlib.Core.Option.{none, some}
-use mathlib.Core.List.{List, [], _∷_, _++_, map}
+use mathlib.Core.List.{List, [], _∷_, _++_, map, flatMap}
 use mathlib.Core.Bool.{xor}
 use Prim.Native.Nat.{ℕ}
 use lib.ListN.{replicate, length}
+use Rattle.questions.specs.Bytes.{bytes, decimal, digits}
 use Rattle.questions.specs.Tests.{all}
 use Rattle.questions.specs.Questions.{Answer, ask, varsInRange, question1, firstNo}
 use Rattle.table.specs.State.{scratchBytes, variables, valueAt, value, writtenAt, write}
 use Rattle.table.specs.Halt.{Halt, Ended, Stopped}
 use Rattle.rungs.specs.Records.{RungRecord, isStart, laid}
-use Rattle.list.specs.Instruction.{Instr, LD, LDN, ST, STN, AND, ANDN, OR, ORN, XOR, XORN, NOT, JMP, JMPC, JMPCN, operand, instrWord, decodeInstr, ops, onlyNot}
+use Rattle.list.specs.Instruction.{Instr, LD, LDN, ST, STN, AND, ANDN, OR, ORN, XOR, XORN, NOT, JMP, JMPC, JMPCN, operand, opOf, operandNumber, instrWord, decodeInstr, ops, onlyNot}
 use Rattle.list.specs.Machine.{InstructionList, does, count, step, begin, halted, scanMachine, scanList}
+use Rattle.list.specs.Listing.{fixedNames, trimmed, nameOf, operandText, instrLine, labelLine, rungLines, listingLines, ended, listingText}
 use Rattle.list.specs.Questions.{operandInRange, wordInRange, recordsLaid, listInRange, question10, listAnswer}
 
 -- a list, its variables before, the instruction watchdog; how the scan halts, its counts and the variables after
@@ -109,5 +111,15 @@ answers =
     ∷ []
 
 answers-worked : answers ≡ none ∷ no-place ∷ no-place ∷ none ∷ no-place ∷ none ∷ no-place ∷ none ∷ no-place ∷ no-place ∷ none ∷ no-place ∷ no-place ∷ []
-unfolding answers no-place words listAnswer firstNo question1 varsInRange question10 listInRange ask all laid recordsLaid wordInRange operandInRange operand decodeInstr ops onlyNot instrWord
+unfolding answers no-place words listAnswer firstNo question1 varsInRange question10 listInRange ask all laid recordsLaid wordInRange operandInRange operand decodeInstr ops onlyNot instrWord opOf operandNumber
 answers-worked = refl
+
+-- document 01, "Listing": what stands above the count line
+A-listing : listingText fixedNames 5 listA ≡ bytes "L10:\nLD v0\nST t0\nLD v1\nANDN v2\nOR t0\nST t0\nST v1\nLD t0\nAND v3\nJMPC @10\nL20:\nLDN v3\nST v4\n"
+unfolding listingText listingLines rungLines labelLine instrLine operandText operand opOf nameOf trimmed fixedNames ended bytes decimal digits flatMap
+A-listing = refl
+
+-- a line without operand, and numbers of several digits
+others-listed : map (instrLine fixedNames 1000) (NOT ∷ XORN 999 ∷ STN 1031 ∷ JMPCN 16384 ∷ JMP 0 ∷ []) ≡ bytes "NOT" ∷ bytes "XORN v999" ∷ bytes "STN t31" ∷ bytes "JMPCN @16384" ∷ bytes "JMP @0" ∷ []
+unfolding instrLine operandText operand opOf nameOf trimmed fixedNames bytes decimal digits
+others-listed = refl

@@ -34,21 +34,30 @@ operand (JMPC j) = instructionIndex j
 operand (JMPCN j) = instructionIndex j
 
 -- "1 LD, 2 LDN, 3 ST, 4 STN, 5 AND, 6 ANDN, 7 OR, 8 ORN, 9 XOR, 10 XORN, 11 NOT, 12 JMP, 13 JMPC, 14 JMPCN"
+unfoldable pub opOf : Instr → ℕ
+opOf (LD x) = 1
+opOf (LDN x) = 2
+opOf (ST x) = 3
+opOf (STN x) = 4
+opOf (AND x) = 5
+opOf (ANDN x) = 6
+opOf (OR x) = 7
+opOf (ORN x) = 8
+opOf (XOR x) = 9
+opOf (XORN x) = 10
+opOf NOT = 11
+opOf (JMP j) = 12
+opOf (JMPC j) = 13
+opOf (JMPCN j) = 14
+
+unfoldable pub operandNumber : Operand → ℕ
+operandNumber (tableIndex x) = x
+operandNumber noOperand = 0
+operandNumber (instructionIndex j) = j
+
+-- "An instruction is op × 65,536 + operand"
 unfoldable pub instrWord : Instr → ℕ
-instrWord (LD x) = word 1 x
-instrWord (LDN x) = word 2 x
-instrWord (ST x) = word 3 x
-instrWord (STN x) = word 4 x
-instrWord (AND x) = word 5 x
-instrWord (ANDN x) = word 6 x
-instrWord (OR x) = word 7 x
-instrWord (ORN x) = word 8 x
-instrWord (XOR x) = word 9 x
-instrWord (XORN x) = word 10 x
-instrWord NOT = word 11 0
-instrWord (JMP j) = word 12 j
-instrWord (JMPC j) = word 13 j
-instrWord (JMPCN j) = word 14 j
+instrWord i = word (opOf i) (operandNumber (operand i))
 
 -- and back: what each op makes of an operand
 abbrev pub noOp : ℕ → Option Instr
@@ -73,6 +82,10 @@ decodeInstr w = getD ops (numberOf w) noOp (operandOf w)
 unfoldable pub decodeCode : List ℕ → Option (List Instr)
 decodeCode [] = some []
 decodeCode (w ∷ ws) = elim (decodeInstr w) [ none ↦ none | some i ↦ elim (decodeCode ws) [ none ↦ none | some is ↦ some (i ∷ is) ] ]
+
+-- the instructions that some words hold; none where a word holds none
+unfoldable pub codeOf : List ℕ → List Instr
+codeOf ws = elim (decodeCode ws) [ none ↦ [] | some is ↦ is ]
 
 -- an operand of 16 bits
 unfoldable pub operandFits : Operand → Bool

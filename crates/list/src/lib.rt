@@ -1,0 +1,104 @@
+// The list side: List scan and Listing. Document 01, "What a list does", "Listing".
+ghost use mathlib.Core.Path.{_≡_};
+ghost use Rattle.rungs.specs.Records.{rowOf};
+ghost use Rattle.questions.specs.Refusals.{answerOf};
+ghost use Rattle.list.specs.Questions.{listAnswer};
+ghost use Rattle.list.specs.ListScan.{listScan, ListScanDone};
+ghost use Rattle.list.specs.Listing.{fixedNames, listing, ListingDone};
+use questions::Refusal;
+use questions::Verdict;
+
+mod print;
+mod question;
+mod scan;
+
+// The instructions carried out and the rungs entered.
+pub struct Counts {
+    pub instructions: u32,
+    pub rungs: u32,
+}
+
+// The answer of List scan.
+pub enum ListScanned {
+    Ended(Counts),
+    Stopped(Counts),
+    Refused(Refusal),
+}
+
+// The answer of Listing: the bytes written, or the refusal.
+pub enum Listed {
+    Written(usize),
+    Refused(Refusal),
+}
+
+// Questions 1 and 10, in order.
+pub fn list_answer(
+    vars: u32,
+    code: &[u32],
+    labels: &[u16],
+    offsets: &[u32],
+    lengths: &[u32],
+) -> Verdict
+    ensures { λ r. ⌜ answerOf r ≡ listAnswer vars (now (code .entry)) (rowOf (now (labels .entry)) (now (offsets .entry)) (now (lengths .entry))) ⌝ }
+{
+    if !questions::vars_in_range(vars) {
+        return Verdict::Refused(Refusal::Variables);
+    }
+    if !question::list_in_range(vars, code, labels, offsets, lengths) {
+        return Verdict::Refused(Refusal::List);
+    }
+    Verdict::Accepted
+}
+
+// List scan.
+pub fn list_scan(
+    vars: u32,
+    code: &[u32],
+    labels: &[u16],
+    offsets: &[u32],
+    lengths: &[u32],
+    table: &mut [u8],
+    watchdog: u32,
+) -> ListScanned
+    ensures { λ r. ⌜ ListScanDone (listScan vars (now (code .entry)) (rowOf (now (labels .entry)) (now (offsets .entry)) (now (lengths .entry))) (now (table .entry)) watchdog) r (now (table .exit)) ⌝ }
+{
+    match list_answer(vars, code, labels, offsets, lengths) {
+        Verdict::Refused(refusal) => {
+            return ListScanned::Refused(refusal);
+        }
+        Verdict::Accepted => {}
+    }
+    if !table::table_in_range(vars, table) {
+        return ListScanned::Refused(Refusal::Table);
+    }
+    if !questions::watchdog_in_range(16777215, watchdog) {
+        return ListScanned::Refused(Refusal::Watchdog);
+    }
+    scan::run(code, offsets, table, watchdog)
+}
+
+// Listing.
+pub fn listing(
+    vars: u32,
+    code: &[u32],
+    labels: &[u16],
+    offsets: &[u32],
+    lengths: &[u32],
+    out: &mut [u8],
+) -> Listed
+    ensures { λ r. ⌜ ListingDone (listing fixedNames vars (now (code .entry)) (rowOf (now (labels .entry)) (now (offsets .entry)) (now (lengths .entry))) (now (out .entry))) r (now (out .exit)) ⌝ }
+{
+    match list_answer(vars, code, labels, offsets, lengths) {
+        Verdict::Refused(refusal) => {
+            return Listed::Refused(refusal);
+        }
+        Verdict::Accepted => {}
+    }
+    let mut none = [0u8; 0];
+    let needed = print::put_list(vars, code, labels, offsets, lengths, &mut none);
+    if out.len() < needed {
+        return Listed::Refused(Refusal::Buffer);
+    }
+    let end = print::put_list(vars, code, labels, offsets, lengths, out);
+    Listed::Written(end)
+}

@@ -1,4 +1,6 @@
--- Questions before work. Definitions: Tests, Questions. Laws of them, which no contract cites: Laws.
+-- Questions before work. Definitions: Bytes, Tests, Questions, Refusals. Laws of them, which no contract cites: Laws.
+pub mod Bytes
 pub mod Tests
 pub mod Questions
+pub mod Refusals
 pub mod Laws

@@ -9,7 +9,7 @@ use lib.ListN.{getD}
 use Rattle.questions.specs.Tests.{all}
 use Rattle.questions.specs.Laws.Tests.{all-head, all-tail, all-cons}
 use Rattle.rungs.specs.Words.{operands, word, numberOf, operandOf, isOperand}
-use Rattle.list.specs.Instruction.{Instr, LD, LDN, ST, STN, AND, ANDN, OR, ORN, XOR, XORN, NOT, JMP, JMPC, JMPCN, operand, operandFits, instrFits, instrWord, noOp, op, onlyNot, ops, decodeInstr, decodeCode}
+use Rattle.list.specs.Instruction.{Instr, LD, LDN, ST, STN, AND, ANDN, OR, ORN, XOR, XORN, NOT, JMP, JMPC, JMPCN, operand, operandFits, instrFits, opOf, operandNumber, instrWord, noOp, op, onlyNot, ops, decodeInstr, decodeCode}
 
 decode-word : (k x : ℕ) → T (isOperand x) → decodeInstr (word k x) ≡ getD ops k noOp x
 unfolding decodeInstr
@@ -20,7 +20,7 @@ decode-word k x h =
     rw (p, q)
 
 pub decode-instr : (i : Instr) → T (instrFits i) → decodeInstr (instrWord i) ≡ some i
-unfolding instrWord instrFits operand operandFits ops onlyNot
+unfolding instrWord opOf operandNumber instrFits operand operandFits ops onlyNot
 decode-instr (LD x) h = decode-word 1 x h
 decode-instr (LDN x) h = decode-word 2 x h
 decode-instr (ST x) h = decode-word 3 x h
@@ -49,7 +49,7 @@ made : (k : ℕ) (make : ℕ → Instr) → ((x : ℕ) → instrWord (make x) �
 made k make h f x i e = let z : make x ≡ i = cc in record { same = rw (← z) (sym (h x)); fits = λ l. rw (← z) (f x l) }
 
 made-not : (x : ℕ) (i : Instr) → onlyNot x ≡ some i → Made 11 x i
-unfolding onlyNot instrWord instrFits operand operandFits
+unfolding onlyNot instrWord opOf operandNumber instrFits operand operandFits
 made-not zero i e = let z : NOT ≡ i = cc in record { same = rw (← z) refl; fits = λ l. rw (← z) tt }
 made-not (suc x) i e = absurd (impossible e)
 
@@ -57,7 +57,7 @@ fit : (x : ℕ) → x < operands → T (isOperand x)
 fit x h = lt→ltb x operands h
 
 made-by : (k x : ℕ) (i : Instr) → getD ops k noOp x ≡ some i → Made k x i
-unfolding ops instrWord instrFits operand operandFits
+unfolding ops instrWord opOf operandNumber instrFits operand operandFits
 made-by zero x i e = absurd (impossible e)
 made-by (suc zero) x i e = made 1 LD (λ y. refl) fit x i e
 made-by (suc (suc zero)) x i e = made 2 LDN (λ y. refl) fit x i e

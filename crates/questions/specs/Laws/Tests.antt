@@ -1,11 +1,14 @@
 -- Laws of the tests over rows. Assumes nothing.
-use Prim.Native.Nat.{ℕ, suc}
+use Prim.Native.Nat.{ℕ, suc, _+_, _≤_, _<_}
+use native.Mathlib.Numerals.{add-one}
 use mathlib.Core.Path.{_≡_, refl}
 use mathlib.Core.Bool.{Bool, true, false, _&&_}
 use mathlib.Core.Option.{none, map-eq-none-iff}
 use mathlib.Core.List.{List, [], _∷_, _++_, map}
 use native.Mathlib.Omega.{arith}
 use lib.Dec.{T}
+use lib.ListN.{length, getD, drop, drop-of-length-le}
+use lib.Seq.{drop-cons}
 use mir.Facts.{and-yes, yes-and}
 use Rattle.questions.specs.Tests.{all, firstFailed}
 
@@ -61,3 +64,16 @@ module _ {A : Type 0} (test : A → Bool) where
   unfolding firstFailed
   failed-none [] h = refl
   failed-none (x ∷ xs) h = rw (T→true (test x) (all-head x xs h), firstFailed, failed-none xs (all-tail x xs h))
+
+  -- a loop that tests entry by entry: what is left to test from place i on
+  pub all-more : (xs : List A) (i : ℕ) (d : A) → i < length xs → test (getD xs i d) ≡ true → all test (drop (i + 1) xs) ≡ all test (drop i xs)
+  unfolding all
+  all-more xs i d h e = rw (add-one, drop-cons xs i d h, e)
+
+  pub all-fails : (xs : List A) (i : ℕ) (d : A) → i < length xs → test (getD xs i d) ≡ false → all test (drop i xs) ≡ false
+  unfolding all
+  all-fails xs i d h e = rw (drop-cons xs i d h, e)
+
+  pub all-ends : (xs : List A) (i : ℕ) → length xs ≤ i → all test (drop i xs) ≡ true
+  unfolding all
+  all-ends xs i h = rw (drop-of-length-le xs h)

@@ -1,0 +1,93 @@
+-- What the functions inside this crate promise to each other. Nothing here is a sentence of document 01. Assumes nothing.
+use Prim.Native.Nat.{ℕ, suc, _+_, _-_, _*_, _≤_, _<_}
+use mathlib.Core.Path.{_≡_}
+use mathlib.Core.Bool.{Bool, true, false, _&&_}
+use mathlib.Core.Option.{none, some}
+use mathlib.Core.List.{List, [], _∷_, flatMap}
+use lib.Dec.{eqb, ltb}
+use lib.ListN.{length, getD}
+use lib.Seq.{sets}
+use Rattle.table.specs.State.{bit}
+use Rattle.rungs.specs.Records.{RungRecord, offsets, isStart}
+use Rattle.list.specs.Instruction.{Instr, NOT, tableIndex, noOperand, instructionIndex, decodeInstr, decodeCode}
+use Rattle.list.specs.Machine.{InstructionList, Machine, does, step, scanList}
+use Rattle.list.specs.ListScan.{countsOf, scanEnds, ListScanDone}
+use Rattle.list.specs.Listing.{fixedNames, operandText, instrLine, ended}
+use Rattle.list.specs.declared.ListScanned.{ListScanned}
+use Rattle.list.specs.declared.scan.Machine.{Machine as MachineStruct}
+use Rattle.list.specs.declared.scan.Effect.{Effect}
+
+-- records laid from `start` on, none of length 0, up to `end`, over two number slices
+unfoldable pub laidPairs : ℕ → ℕ → List ℕ → List ℕ → Bool
+laidPairs start end [] ns = eqb start end
+laidPairs start end (o ∷ os) [] = false
+laidPairs start end (o ∷ os) (n ∷ ns) = eqb o start && (ltb 0 n && laidPairs (start + n) end os ns)
+
+-- a word that holds an instruction does what the instruction does, from accumulator v
+pub record Did (word : ℕ) (v : Bool) (following : ℕ) (t : List ℕ) (r : Effect) (u : List ℕ) : Type 0 where
+  pub same : (i : Instr) → decodeInstr word ≡ some i → (vars pc : ℕ) → following ≡ pc + 1
+      → does i v (record { vars = vars; bytes = t }) pc ≡ (r .accumulator, record { vars = vars; bytes = u }, r .index)
+
+unfoldable pub machineOf : MachineStruct → Machine
+machineOf m = record { accumulator = m .accumulator; index = m .index; counts = countsOf (m .counts) }
+
+pub record Stepped (word entered : ℕ) (m : MachineStruct) (t : List ℕ) (r : MachineStruct) (u : List ℕ) : Type 0 where
+  pub same : (i : Instr) → decodeInstr word ≡ some i → (rs : List RungRecord) → entered ≡ bit (isStart rs (m .index)) → (vars : ℕ)
+      → step rs i (machineOf m) (record { vars = vars; bytes = t }) ≡ (machineOf r, record { vars = vars; bytes = u })
+  pub carried : r .counts .instructions ≡ m .counts .instructions + 1
+  pub rungs : r .counts .rungs ≡ m .counts .rungs + entered
+
+-- 1 where the record `next` begins at the index, and else 0
+unfoldable pub startsHere : List ℕ → ℕ → ℕ → ℕ
+startsHere os next index = bit (ltb next (length os) && eqb (getD os next 0) index)
+
+-- offsets that ascend from `least` on
+unfoldable pub ascending : ℕ → List ℕ → Type 0
+ascending least [] = Unit {0}
+ascending least (o ∷ os) = (least ≤ o) × ascending (suc o) os
+
+-- how many offsets stand before the first that is not below the index
+unfoldable pub before : List ℕ → ℕ → ℕ
+before [] index = 0
+before (o ∷ os) index = elim (ltb o index) [ true ↦ suc (before os index) | false ↦ 0 ]
+
+pub record Sought (os : List ℕ) (index r : ℕ) : Type 0 where
+  pub same : ascending 0 os → r ≡ before os index
+  pub within : r ≤ length os
+
+-- a list's words and offsets are scanned as the list
+pub record Ran (ws os t : List ℕ) (watchdog : ℕ) (r : ListScanned) (u : List ℕ) : Type 0 where
+  pub same : (l : InstructionList) → decodeCode ws ≡ some (l .code) → offsets (l .records) ≡ os → ascending 0 os → (vars : ℕ)
+      → ListScanDone (scanEnds (scanList l watchdog (record { vars = vars; bytes = t }))) r u
+
+-- a text written from `at` on, and the position after it
+pub record Put (out : List ℕ) (at : ℕ) (text : List ℕ) (r : ℕ) (u : List ℕ) : Type 0 where
+  pub end : r ≡ at + length text
+  pub wrote : u ≡ sets out at text
+
+-- the instruction of a word
+unfoldable pub instrOf : ℕ → Instr
+instrOf w = elim (decodeInstr w) [ none ↦ NOT | some i ↦ i ]
+
+pub record Decodes (w : ℕ) : Type 0 where
+  pub instr : Instr
+  pub same : decodeInstr w ≡ some instr
+
+-- the lines of some words
+unfoldable pub wordLine : ℕ → ℕ → List ℕ
+wordLine vars w = ended (instrLine fixedNames vars (instrOf w))
+
+unfoldable pub wordLines : ℕ → List ℕ → List ℕ
+wordLines vars ws = flatMap (wordLine vars) ws
+
+-- the text of an operand, by its op
+unfoldable pub operandBy : ℕ → ℕ → ℕ → List ℕ
+operandBy vars op x = operandText vars (elim (ltb op 11) [ true ↦ tableIndex x | false ↦ elim (eqb op 11) [ true ↦ noOperand | false ↦ instructionIndex x ] ])
+
+-- words from one index up to another that can be printed from `at` on
+pub record RungReady (vars : ℕ) (ws : List ℕ) (from to at : ℕ) : Type 0 where
+  pub few : vars ≤ 1024
+  pub ordered : from ≤ to
+  pub within : to ≤ length ws
+  pub room : at + 14 * (to - from) < 500000
+  pub decodes : (i : ℕ) → i < length ws → Decodes (getD ws i 0)

@@ -1,0 +1,154 @@
+// The printed list. Each function writes its text from `at` on and gives the position after it; past the buffer's end nothing is written, so that
+// the same functions count the bytes, over a buffer of none.
+ghost use mathlib.Core.Path.{_≡_};
+ghost use mathlib.Core.List.{[], _∷_};
+ghost use Prim.Native.Nat.{_+_, _≤_, _<_};
+ghost use lib.Dec.{T};
+ghost use lib.Seq.{slice};
+ghost use Rattle.questions.specs.Bytes.{decimal};
+ghost use Rattle.rungs.specs.Records.{rowOf};
+ghost use Rattle.list.specs.Questions.{listInRange};
+ghost use Rattle.list.specs.ListScan.{listOf};
+ghost use Rattle.list.specs.Listing.{fixedNames, nameOf, labelLine, ended, listingText};
+ghost use Rattle.list.specs.Parts.{Put, Decodes, operandBy, wordLine, wordLines, RungReady};
+
+// Six bytes a name, filled with zeros, by op from 1.
+const NAMES: [[u8; 6]; 14] = [
+    [76, 68, 0, 0, 0, 0],
+    [76, 68, 78, 0, 0, 0],
+    [83, 84, 0, 0, 0, 0],
+    [83, 84, 78, 0, 0, 0],
+    [65, 78, 68, 0, 0, 0],
+    [65, 78, 68, 78, 0, 0],
+    [79, 82, 0, 0, 0, 0],
+    [79, 82, 78, 0, 0, 0],
+    [88, 79, 82, 0, 0, 0],
+    [88, 79, 82, 78, 0, 0],
+    [78, 79, 84, 0, 0, 0],
+    [74, 77, 80, 0, 0, 0],
+    [74, 77, 80, 67, 0, 0],
+    [74, 77, 80, 67, 78, 0],
+];
+
+pub fn put_byte(out: &mut [u8], at: usize, b: u8) -> usize
+    requires { ⌜ at < 1000000 ⌝ }
+    ensures { λ r. ⌜ Put (now (out .entry)) at (b ∷ []) r (now (out .exit)) ⌝ }
+{
+    if at < out.len() {
+        out[at] = b;
+    }
+    at + 1
+}
+
+// A number in decimal, without leading zeros.
+pub fn put_number(out: &mut [u8], at: usize, n: u32) -> usize
+    requires { ⌜ (at < 900000) × (n < 65536) ⌝ }
+    ensures { λ r. ⌜ Put (now (out .entry)) at (decimal n) r (now (out .exit)) ⌝ }
+{
+    let mut end = at;
+    if 10 <= n {
+        end = put_number(out, at, n / 10);
+    }
+    put_byte(out, end, (n % 10) as u8 + 48)
+}
+
+// The name of an op, up to its filling.
+pub fn put_name(out: &mut [u8], at: usize, op: usize) -> usize
+    requires { ⌜ (at < 800000) × (1 ≤ op) × (op ≤ 14) ⌝ }
+    ensures { λ r. ⌜ Put (now (out .entry)) at (nameOf fixedNames op) r (now (out .exit)) ⌝ }
+{
+    let name = NAMES[op - 1];
+    let mut k: usize = 0;
+    while k < 6 {
+        let b = name[k];
+        if b == 0 {
+            return at + k;
+        }
+        put_byte(out, at + k, b);
+        k += 1;
+    }
+    at + k
+}
+
+// A space, and the operand of an op with its letter; nothing for NOT.
+pub fn put_operand(out: &mut [u8], at: usize, vars: u32, op: u32, operand: u32) -> usize
+    requires { ⌜ (at < 700000) × (vars ≤ 1024) × (operand < 65536) ⌝ }
+    ensures { λ r. ⌜ Put (now (out .entry)) at (operandBy vars op operand) r (now (out .exit)) ⌝ }
+{
+    if op == 11 {
+        return at;
+    }
+    let space = put_byte(out, at, 32);
+    if 11 < op {
+        let sign = put_byte(out, space, 64);
+        return put_number(out, sign, operand);
+    }
+    if operand < vars {
+        let sign = put_byte(out, space, 118);
+        return put_number(out, sign, operand);
+    }
+    let sign = put_byte(out, space, 116);
+    put_number(out, sign, operand - vars)
+}
+
+// The line of an instruction.
+pub fn put_instruction(out: &mut [u8], at: usize, vars: u32, word: u32) -> usize
+    requires { ⌜ (at < 600000) × (vars ≤ 1024) × Decodes word ⌝ }
+    ensures { λ r. ⌜ Put (now (out .entry)) at (wordLine vars word) r (now (out .exit)) ⌝ }
+{
+    let op = word / 65536;
+    let operand = word % 65536;
+    let name = put_name(out, at, op as usize);
+    let end = put_operand(out, name, vars, op, operand);
+    put_byte(out, end, 10)
+}
+
+// The line of a label.
+pub fn put_label(out: &mut [u8], at: usize, label: u16) -> usize
+    requires { ⌜ at < 600000 ⌝ }
+    ensures { λ r. ⌜ Put (now (out .entry)) at (ended (labelLine label)) r (now (out .exit)) ⌝ }
+{
+    let sign = put_byte(out, at, 76);
+    let number = put_number(out, sign, label as u32);
+    let colon = put_byte(out, number, 58);
+    put_byte(out, colon, 10)
+}
+
+// The lines of the instructions from one index up to another.
+pub fn put_rung(out: &mut [u8], at: usize, vars: u32, code: &[u32], from: usize, to: usize) -> usize
+    requires { ⌜ RungReady vars (now code) from to at ⌝ }
+    ensures { λ r. ⌜ Put (now (out .entry)) at (wordLines vars (slice from to (now (code .entry)))) r (now (out .exit)) ⌝ }
+{
+    let mut end = at;
+    let mut i = from;
+    while i < to {
+        end = put_instruction(out, end, vars, code[i]);
+        i += 1;
+    }
+    end
+}
+
+// The whole listing.
+pub fn put_list(
+    vars: u32,
+    code: &[u32],
+    labels: &[u16],
+    offsets: &[u32],
+    lengths: &[u32],
+    out: &mut [u8],
+) -> usize
+    requires { ⌜ (vars ≤ 1024) × T (listInRange vars (now code) (rowOf (now labels) (now offsets) (now lengths))) ⌝ }
+    ensures { λ r. ⌜ Put (now (out .entry)) 0 (listingText fixedNames vars (listOf (now (code .entry)) (rowOf (now (labels .entry)) (now (offsets .entry)) (now (lengths .entry))))) r (now (out .exit)) ⌝ }
+{
+    let mut end: usize = 0;
+    let mut start: usize = 0;
+    let mut k: usize = 0;
+    while k < labels.len() {
+        end = put_label(out, end, labels[k]);
+        let next = start + lengths[k] as usize;
+        end = put_rung(out, end, vars, code, start, next);
+        start = next;
+        k += 1;
+    }
+    end
+}

@@ -1,0 +1,105 @@
+// Question 10.
+ghost use mathlib.Core.Path.{_≡_};
+ghost use Prim.Native.Nat.{_≤_};
+ghost use lib.ListN.{length};
+ghost use Rattle.questions.specs.Tests.{all};
+ghost use Rattle.rungs.specs.Records.{rowOf};
+ghost use Rattle.list.specs.Questions.{wordInRange, listInRange};
+ghost use Rattle.list.specs.Parts.{laidPairs};
+
+// An op and its operand, in a list of n instructions.
+pub fn word_in_range(vars: u32, n: usize, word: u32) -> bool
+    requires { ⌜ vars ≤ 1024 ⌝ }
+    ensures { λ r. ⌜ r ≡ wordInRange vars n word ⌝ }
+{
+    let op = word / 65536;
+    let operand = word % 65536;
+    if op < 1 {
+        return false;
+    }
+    if op <= 10 {
+        return operand < vars + 32;
+    }
+    if op == 11 {
+        return operand == 0;
+    }
+    if op <= 14 {
+        return operand as usize <= n;
+    }
+    false
+}
+
+pub fn code_in_range(vars: u32, code: &[u32]) -> bool
+    requires { ⌜ vars ≤ 1024 ⌝ }
+    ensures { λ r. ⌜ r ≡ all (wordInRange vars (length (now (code .entry)))) (now (code .entry)) ⌝ }
+{
+    let mut i: usize = 0;
+    while i < code.len() {
+        if !word_in_range(vars, code.len(), code[i]) {
+            return false;
+        }
+        i += 1;
+    }
+    true
+}
+
+fn wide(x: u32) -> u64
+    ensures { λ r. ⌜ r ≡ x ⌝ }
+{
+    x as u64
+}
+
+// Records laid one after the other, none of length 0, up to `end`. Sums are wider than offsets and lengths, so none wraps.
+pub fn records_laid(offsets: &[u32], lengths: &[u32], end: usize) -> bool
+    requires { ⌜ length (now offsets) ≡ length (now lengths) ⌝ }
+    ensures { λ r. ⌜ r ≡ laidPairs 0 end (now (offsets .entry)) (now (lengths .entry)) ⌝ }
+{
+    let mut start: u64 = 0;
+    let mut i: usize = 0;
+    while i < offsets.len() {
+        if wide(offsets[i]) != start {
+            return false;
+        }
+        let n = wide(lengths[i]);
+        if n < 1 {
+            return false;
+        }
+        start += n;
+        i += 1;
+    }
+    start == end as u64
+}
+
+pub fn list_in_range(
+    vars: u32,
+    code: &[u32],
+    labels: &[u16],
+    offsets: &[u32],
+    lengths: &[u32],
+) -> bool
+    requires { ⌜ vars ≤ 1024 ⌝ }
+    ensures { λ r. ⌜ r ≡ listInRange vars (now (code .entry)) (rowOf (now (labels .entry)) (now (offsets .entry)) (now (lengths .entry))) ⌝ }
+{
+    if code.len() < 1 {
+        return false;
+    }
+    if 16384 < code.len() {
+        return false;
+    }
+    if labels.len() != offsets.len() {
+        return false;
+    }
+    if offsets.len() != lengths.len() {
+        return false;
+    }
+    if labels.len() < 1 {
+        return false;
+    }
+    if 256 < labels.len() {
+        return false;
+    }
+    if !records_laid(offsets, lengths, code.len()) {
+        return false;
+    }
+    code_in_range(vars, code)
+}
