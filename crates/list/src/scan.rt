@@ -172,10 +172,10 @@ pub fn run(code: &[u32], offsets: &[u32], table: &mut [u8], watchdog: u32) -> Li
     loop {
         let index = m.index;
         let counts = m.counts;
+        let carried = counts.instructions;
         if code.len() <= index {
             return ListScanned::Ended(counts);
         }
-        let carried = counts.instructions;
         if carried == watchdog {
             return ListScanned::Stopped(counts);
         }

@@ -3,4 +3,5 @@ pub mod Bytes
 pub mod Tests
 pub mod Questions
 pub mod Refusals
+pub mod Examples
 pub mod Laws

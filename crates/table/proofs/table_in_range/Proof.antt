@@ -1,11 +1,14 @@
 -- `table::table_in_range` meets its contract. The loop's invariant: the bytes from `i` on are 0 and 1 just when all are. Assumes nothing.
 use mathlib.Core.Path.{_≡_, refl, sym, _∙_}
-use Prim.Native.Nat.{_≤_, _-_}
+use mathlib.Core.Bool.{false}
+use Prim.Native.Nat.{_+_, _≤_, _-_}
 use native.Mathlib.Omega.{arith}
 use borrow.Author.Tests.{eq-eqb, ne-eqb, le-leb, lt-leb}
+use lib.Dec.{eqb}
 use lib.ListN.{length, drop}
 use Rattle.questions.specs.Tests.{all}
 use Rattle.questions.specs.Laws.Tests.{all-more, all-fails, all-ends}
+use Rattle.table.specs.State.{scratchBytes}
 use Rattle.table.specs.Questions.{isBit, tableInRange}
 use Rattle.table.proofs.table_in_range.Statement.{statement}
 use Rattle.table.proofs.table_in_range.Tie as tie
@@ -21,7 +24,10 @@ add-if1 c = omega arith
 
 returns : tie.Need-returns Inv-loop μ-loop
 unfolding tableInRange
-returns c = rw (ne-eqb _ _ (c .if1 .taken))
+returns c =
+    let t = c .before .args .table .now in
+    let differ : eqb (length t) (c .before .args .vars + scratchBytes) ≡ false = ne-eqb _ _ (c .if1 .taken) in
+    rw differ
 
 loop-holds : tie.Need-loop-holds Inv-loop μ-loop
 loop-holds c = (omega arith, refl)

@@ -1,0 +1,59 @@
+-- `vectors_list::answer_scan` is safe and ends. Assumes nothing.
+use mathlib.Core.Path.{sym}
+use lib.Seq.{length-take-le}
+use borrow.Author.Needs.{needs}
+use Rattle.vectors_list.proofs.answer_scan.Statement.{statement}
+use Rattle.vectors_list.proofs.answer_scan.Tie as tie
+
+slice-aggregate-list-scan : tie.Need-slice-aggregate-list-scan
+slice-aggregate-list-scan c = sym (length-take-le _ _ (search needs))
+
+slice-aggregate-list-scan-2 : tie.Need-slice-aggregate-list-scan-2
+slice-aggregate-list-scan-2 c = sym (length-take-le _ _ (search needs))
+
+slice-aggregate-list-scan-3 : tie.Need-slice-aggregate-list-scan-3
+slice-aggregate-list-scan-3 c = sym (length-take-le _ _ (search needs))
+
+slice-aggregate-list-scan-4 : tie.Need-slice-aggregate-list-scan-4
+slice-aggregate-list-scan-4 c = sym (length-take-le _ _ (search needs))
+
+list-scan-requires : tie.Need-list-scan-requires
+list-scan-requires c κs = search needs
+
+scan-head-requires : tie.Need-scan-head-requires
+scan-head-requires c κs = search needs
+
+put-head-requires : tie.Need-put-head-requires
+put-head-requires c κs = search needs
+
+put-bytes-requires : tie.Need-put-bytes-requires
+put-bytes-requires c κs = search needs
+
+put-byte-requires : tie.Need-put-byte-requires
+put-byte-requires c κs = search needs
+
+same-length : tie.Need-same-length
+same-length c = search needs
+
+same-length-2 : tie.Need-same-length-2
+same-length-2 c = search needs
+
+returns : tie.Need-returns
+returns c = search needs
+
+pub answer-scan-spec : {M : Type 1} → statement M
+answer-scan-spec =
+    tie.close
+    (tie.spec
+    slice-aggregate-list-scan
+    slice-aggregate-list-scan-2
+    slice-aggregate-list-scan-3
+    slice-aggregate-list-scan-4
+    list-scan-requires
+    scan-head-requires
+    put-head-requires
+    put-bytes-requires
+    put-byte-requires
+    same-length
+    same-length-2
+    returns)
