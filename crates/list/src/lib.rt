@@ -71,7 +71,7 @@ pub fn list_scan(
     if !table::table_in_range(vars, table) {
         return ListScanned::Refused(Refusal::Table);
     }
-    if !questions::watchdog_in_range(16777215, watchdog) {
+    if !questions::watchdog_in_range(questions::MOST_INSTRUCTION_WATCHDOG, watchdog) {
         return ListScanned::Refused(Refusal::Watchdog);
     }
     scan::run(code, offsets, table, watchdog)

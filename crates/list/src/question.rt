@@ -7,6 +7,14 @@ ghost use Rattle.rungs.specs.Records.{rowOf};
 ghost use Rattle.list.specs.Questions.{wordInRange, listInRange};
 ghost use Rattle.list.specs.Parts.{laidPairs};
 
+// A list of 1 to 16,384 instructions, with 1 to 256 records.
+const MOST_INSTRUCTIONS: usize = 16384;
+
+const MOST_RECORDS: usize = 256;
+
+// Scratch t0 to t31 stands after the variables.
+const SCRATCH_BYTES: u32 = 32;
+
 // An op and its operand, in a list of n instructions.
 pub fn word_in_range(vars: u32, n: usize, word: u32) -> bool
     requires { ⌜ vars ≤ 1024 ⌝ }
@@ -18,7 +26,7 @@ pub fn word_in_range(vars: u32, n: usize, word: u32) -> bool
         return false;
     }
     if op <= 10 {
-        return operand < vars + 32;
+        return operand < vars + SCRATCH_BYTES;
     }
     if op == 11 {
         return operand == 0;
@@ -83,7 +91,7 @@ pub fn list_in_range(
     if code.len() < 1 {
         return false;
     }
-    if 16384 < code.len() {
+    if MOST_INSTRUCTIONS < code.len() {
         return false;
     }
     if labels.len() != offsets.len() {
@@ -95,7 +103,7 @@ pub fn list_in_range(
     if labels.len() < 1 {
         return false;
     }
-    if 256 < labels.len() {
+    if MOST_RECORDS < labels.len() {
         return false;
     }
     if !records_laid(offsets, lengths, code.len()) {

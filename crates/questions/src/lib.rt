@@ -3,6 +3,14 @@ ghost use mathlib.Core.Path.{_≡_};
 ghost use lib.Dec.{leb};
 ghost use Rattle.questions.specs.Questions.{varsInRange};
 
+// V from 1 to 1,024.
+pub const MOST_VARIABLES: u32 = 1024;
+
+// A rung watchdog is 0 to 65,535, an instruction watchdog 0 to 16,777,215.
+pub const MOST_RUNG_WATCHDOG: u32 = 65535;
+
+pub const MOST_INSTRUCTION_WATCHDOG: u32 = 16777215;
+
 // One case for each question: specs/Refusals.antt gives its number and place.
 pub enum Refusal {
     Variables,
@@ -32,7 +40,7 @@ pub fn vars_in_range(vars: u32) -> bool
     if vars < 1 {
         return false;
     }
-    vars <= 1024
+    vars <= MOST_VARIABLES
 }
 
 pub fn watchdog_in_range(most: u32, watchdog: u32) -> bool

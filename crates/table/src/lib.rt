@@ -3,6 +3,9 @@ ghost use mathlib.Core.Path.{_≡_};
 ghost use Rattle.table.specs.State.{valueAt, writtenAt};
 ghost use Rattle.table.specs.Questions.{tableInRange};
 
+// Scratch t0 to t31 stands after the variables.
+const SCRATCH_BYTES: usize = 32;
+
 pub fn value(table: &[u8], index: usize) -> bool
     ensures { λ r. ⌜ r ≡ valueAt (now (table .entry)) index ⌝ }
 {
@@ -29,7 +32,7 @@ pub fn write(table: &mut [u8], index: usize, b: bool)
 pub fn table_in_range(vars: u32, table: &[u8]) -> bool
     ensures { λ r. ⌜ r ≡ tableInRange (record { vars = vars; bytes = now (table .entry) }) ⌝ }
 {
-    if table.len() != vars as usize + 32 {
+    if table.len() != vars as usize + SCRATCH_BYTES {
         return false;
     }
     let mut i: usize = 0;
