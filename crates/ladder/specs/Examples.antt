@@ -8,7 +8,7 @@ use Rattle.questions.specs.Tests.{all, firstFailed}
 use Rattle.questions.specs.Questions.{Answer, ask, askEach, varsInRange, question1, firstNo}
 use Rattle.ladder.specs.Tree.{Front, frontAnd, rearOr, Ladder, frontAll, rearAll, rungAll}
 use Rattle.ladder.specs.Kept.{inputWord, outputWord, frontWords, rearWords, rungWords, encode, decode, decodeFrom, decodeRung, decodeWords, oneRung, kinds, putInput, putFront, putOutput, putRearAnd, putRearOr}
-use Rattle.ladder.specs.Questions.{ladderOf, question4, question5, question6, question7, question8, question9, newLabels, inputBelow, outputBelow, outputLeads, joinScratch, frontScratch, rearScratch, rungScratch, ladderAnswer}
+use Rattle.ladder.specs.Questions.{ladderOf, holdsLadder, question4, sizesInRange, question5, question6, question7, question8, scratchInRange, question9, newLabels, inputBelow, outputBelow, outputLeads, joinScratch, frontScratch, rearScratch, rungScratch, ladderAnswer}
 use Rattle.ladder.specs.Bench.{rung, c, o, j, k, ladderA}
 
 -- the kept words and records of case A
@@ -55,6 +55,6 @@ answers-worked : answers ≡
     none ∷ refused 1 0 ∷ refused 1 0 ∷ refused 4 0 ∷ refused 4 0 ∷ refused 4 0 ∷ none ∷ refused 4 0 ∷ refused 6 1 ∷ refused 6 0 ∷ refused 7 2 ∷ refused 7 3 ∷ refused 8 1 ∷ none ∷ refused 9 0 ∷ []
 unfolding answers refused nested labelled ladderAnswer ladderOf encode lay rungWords frontWords rearWords inputWord outputWord flatMap
     decode decodeFrom decodeRung decodeWords oneRung kinds putInput putFront putOutput putRearAnd putRearOr ask askEach firstNo firstFailed all
-    varsInRange question1 question4 question5 question6 question7 question8 question9 newLabels present search frontAll rearAll rungAll inputBelow outputBelow outputLeads
+    varsInRange question1 holdsLadder question4 sizesInRange question5 question6 question7 question8 scratchInRange question9 newLabels present search frontAll rearAll rungAll inputBelow outputBelow outputLeads
     joinScratch frontScratch rearScratch rungScratch
 answers-worked = refl

@@ -1,10 +1,15 @@
--- The ladder side. Definitions: Tree, Meaning, Kept, Questions. Worked ladders: Bench, Examples. What is proved of the definitions: Theorems.
--- Laws, which no contract cites: Laws.
+-- The ladder side. Definitions: Tree, Meaning, Kept, Questions, LadderScan. Worked ladders: Bench, Examples. What is proved of the definitions: Theorems.
+-- What functions inside promise each other: Owing, Asking, Walking, Scanned. Laws, which no contract cites: Laws.
 pub mod Tree
 pub mod Meaning
 pub mod Standing
 pub mod Kept
 pub mod Questions
+pub mod LadderScan
+pub mod Owing
+pub mod Asking
+pub mod Walking
+pub mod Scanned
 pub mod Bench
 pub mod Examples
 pub mod Theorems

@@ -18,8 +18,11 @@ unfoldable pub ladderOf : Kept → Ladder
 ladderOf k = elim (decode k) [ none ↦ [] | some gs ↦ gs ]
 
 -- 4. "Words and records as above, at least one rung?"
+unfoldable pub holdsLadder : Kept → Bool
+holdsLadder k = leb 1 (length (ladderOf k))
+
 unfoldable pub question4 : Kept → Answer
-question4 k = ask 4 (leb 1 (length (ladderOf k)))
+question4 k = ask 4 (holdsLadder k)
 
 abbrev pub mostRungs : ℕ
 mostRungs = 256
@@ -31,8 +34,11 @@ abbrev pub mostWords : ℕ
 mostWords = 8192
 
 -- 5. "At most 256 rungs, 128 words a rung, 8,192 words?"
+unfoldable pub sizesInRange : Ladder → Bool
+sizesInRange gs = leb (length gs) mostRungs && (all (λ g. leb (length (rungWords g)) mostRungWords) gs && leb (length (encode gs .words)) mostWords)
+
 unfoldable pub question5 : Ladder → Answer
-question5 gs = ask 5 (leb (length gs) mostRungs && (all (λ g. leb (length (rungWords g)) mostRungWords) gs && leb (length (encode gs .words)) mostWords))
+question5 gs = ask 5 (sizesInRange gs)
 
 -- 6. "Every variable below V?"
 unfoldable pub inputBelow : ℕ → Input → Bool
@@ -94,8 +100,11 @@ unfoldable pub rungScratch : Rung → ℕ
 rungScratch g = max (frontScratch (g .front)) (rearScratch (g .rear))
 
 -- 9. "Translation within t0 to t31?"
+unfoldable pub scratchInRange : Ladder → Bool
+scratchInRange gs = all (λ g. leb (rungScratch g) scratchBytes) gs
+
 unfoldable pub question9 : Ladder → Answer
-question9 gs = ask 9 (all (λ g. leb (rungScratch g) scratchBytes) gs)
+question9 gs = ask 9 (scratchInRange gs)
 
 -- the questions that Translate and Ladder scan both put first, in order
 unfoldable pub ladderAnswer : ℕ → Kept → Answer

@@ -14,7 +14,7 @@ use Rattle.table.specs.Questions.{question11}
 use Rattle.table.specs.Laws.Alike.{alike-self}
 use Rattle.rungs.specs.Records.{longest}
 use Rattle.ladder.specs.Tree.{Ladder}
-use Rattle.ladder.specs.Questions.{question6, question9, rungBelow, Accepted}
+use Rattle.ladder.specs.Questions.{question6, scratchInRange, question9, rungBelow, Accepted}
 use Rattle.list.specs.Instruction.{instrWord, decodeCode}
 use Rattle.list.specs.Questions.{instrInRange, question10}
 use Rattle.translation.specs.Translate.{translate}
@@ -43,7 +43,7 @@ watchdog-accepted vars gs accepted k h = watchdog-in-range vars gs accepted k h
 -- Question 9 is exact: it gets a "no" only if F and R pass t31. Whatever else stands in the list, variables and jumps, is in range.
 pub scratch-exactly : (vars : ℕ) (gs : Ladder) → question6 vars gs ≡ none
     → (question9 gs ≡ none) ↔ T (all (instrInRange vars (length (translate vars gs .code))) (translate vars gs .code))
-unfolding question6 question9 translate
+unfolding question6 question9 scratchInRange translate
 scratch-exactly vars gs variables = (
   (λ e. codes-ok vars _ (start vars gs) (start-near vars gs) gs (each-passed 6 (rungBelow vars) gs variables) (ask-passed 9 _ e)),
   (λ h. passed-ask 9 _ (codes-within vars _ (start vars gs) gs h)),

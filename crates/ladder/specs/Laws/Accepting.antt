@@ -11,7 +11,7 @@ use Rattle.questions.specs.Questions.{firstNo, question1}
 use Rattle.questions.specs.Laws.Answers.{ask-passed, passed-ask, first-yes, later-yes}
 use Rattle.ladder.specs.Tree.{Ladder}
 use Rattle.ladder.specs.Kept.{Kept, encode, decode}
-use Rattle.ladder.specs.Questions.{ladderOf, question4, question5, question6, question7, question8, question9, ladderAnswer, Accepted}
+use Rattle.ladder.specs.Questions.{ladderOf, holdsLadder, question4, question5, question6, question7, question8, question9, ladderAnswer, Accepted}
 use Rattle.ladder.specs.Laws.Decoding.{rungFits, ladder-back, ladder-held}
 
 pub decode-encode : (gs : Ladder) → T (all rungFits gs) → decode (encode gs) ≡ some gs
@@ -30,7 +30,7 @@ ladder-is k gs e = rw (e, ladderOf)
 
 -- question 4 got a yes: the words and records hold a ladder
 pub holds : (k : Kept) → question4 k ≡ none → (decode k ≡ some (ladderOf k)) × (1 ≤ length (ladderOf k))
-unfolding question4 ladderOf
+unfolding question4 holdsLadder ladderOf
 holds k e = go (decode k) refl
   where
     some-rung : 1 ≤ length (ladderOf k)
@@ -41,7 +41,7 @@ holds k e = go (decode k) refl
     go (some gs) q = (rw (ladder-is k gs q) q, some-rung)
 
 pub some-question4 : (k : Kept) → 1 ≤ length (ladderOf k) → question4 k ≡ none
-unfolding question4
+unfolding question4 holdsLadder
 some-question4 k h = passed-ask 4 _ (le→leb 1 (length (ladderOf k)) h)
 
 -- the questions that got a yes, one by one

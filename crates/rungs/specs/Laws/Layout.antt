@@ -34,6 +34,11 @@ module _ {A : Type 0} (label : A → ℕ) (size : A → ℕ) where
   lay-labels start [] = refl
   lay-labels start (g ∷ gs) = ap (λ ls. label g ∷ ls) (lay-labels (start + size g) gs)
 
+  pub lay-lengths : (start : ℕ) (gs : List A) → map (λ r. r .length) (lay label size start gs) ≡ map size gs
+  unfolding lay
+  lay-lengths start [] = refl
+  lay-lengths start (g ∷ gs) = ap (λ ns. size g ∷ ns) (lay-lengths (start + size g) gs)
+
   -- the records are laid
   pub lay-laid : (start : ℕ) (gs : List A) → T (laid start (start + sizes size gs) (lay label size start gs))
   unfolding lay laid sizes
@@ -41,7 +46,7 @@ module _ {A : Type 0} (label : A → ℕ) (size : A → ℕ) where
   lay-laid start (g ∷ gs) = yes-and (eqb start start) _ (eqb-refl start)
       (rw (← (add-assoc start (size g) (sizes size gs))) (lay-laid (start + size g) gs))
 
-  offset-at : (start i : ℕ) (gs : List A) → i < length gs → getD (offsets (lay label size start gs)) i 0 ≡ start + sizes size (take i gs)
+  pub offset-at : (start i : ℕ) (gs : List A) → i < length gs → getD (offsets (lay label size start gs)) i 0 ≡ start + sizes size (take i gs)
   unfolding lay sizes
   offset-at start i [] h = absurd (omega arith)
   offset-at start zero (g ∷ gs) h = omega arith

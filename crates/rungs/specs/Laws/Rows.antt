@@ -74,6 +74,10 @@ pub row-labels : (ls os ns : List ℕ) → Even ls os ns → labels (rowOf ls os
 row-labels = row-induction (λ ls os ns. labels (rowOf ls os ns) ≡ ls) (rw row-nil)
     (λ l o n ls os ns e t ih. rw (row-cons l o n ls os ns e) (ap (λ x. l ∷ x) ih))
 
+pub row-lengths : (ls os ns : List ℕ) → Even ls os ns → map (λ r. r .length) (rowOf ls os ns) ≡ ns
+row-lengths = row-induction (λ ls os ns. map (λ r. r .length) (rowOf ls os ns) ≡ ns) (rw row-nil)
+    (λ l o n ls os ns e t ih. rw (row-cons l o n ls os ns e) (ap (λ x. n ∷ x) ih))
+
 -- slices that make a row are even
 pub row-even : (ls os ns : List ℕ) → 1 ≤ length (rowOf ls os ns) → Even ls os ns
 row-even ls os ns h = go (ℕ-discrete (length ls) (length os)) (ℕ-discrete (length os) (length ns))

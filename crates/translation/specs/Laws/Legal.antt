@@ -19,7 +19,7 @@ use Rattle.rungs.specs.Records.{RungRecord, laid, lay, longest}
 use Rattle.rungs.specs.Laws.Layout.{sizes, lay-length, lay-laid, longest-most, pieces-length}
 use Rattle.ladder.specs.Tree.{contact, contactn, Front, input, frontAnd, frontOr, Output, coil, coiln, jump, jumpn, Rear, output, rearAnd, rearOr, Rung, Ladder, frontAll, rearAll, rungAll}
 use Rattle.ladder.specs.Kept.{frontWords, rearWords, rungWords, encode}
-use Rattle.ladder.specs.Questions.{inputBelow, outputBelow, rungBelow, joinScratch, frontScratch, rearScratch, rungScratch, question5, mostRungs, mostRungWords, mostWords, Accepted}
+use Rattle.ladder.specs.Questions.{inputBelow, outputBelow, rungBelow, joinScratch, frontScratch, rearScratch, rungScratch, sizesInRange, question5, mostRungs, mostRungWords, mostWords, Accepted}
 use Rattle.list.specs.Instruction.{Instr, LD, LDN, ST, STN, AND, ANDN, OR, ORN, JMPC, JMPCN, Operand, tableIndex, noOperand, instructionIndex, operand, operandFits, instrFits, instrWord, decodeCode}
 use Rattle.list.specs.Questions.{operandInRange, instrInRange, wordInRange, mostInstructions, mostRecords, recordsLaid, listInRange, question10}
 use Rattle.list.specs.Laws.Decoding.{decode-instr, decode-code}
@@ -174,7 +174,7 @@ pub record Sized (gs : Ladder) : Type 0 where
   pub words : length (flatMap rungWords gs) ≤ mostWords
 
 pub sized : (gs : Ladder) → question5 gs ≡ none → Sized gs
-unfolding question5 encode
+unfolding question5 sizesInRange encode
 sized gs e =
     let small = all (λ g. leb (length (rungWords g)) mostRungWords) gs in
     let h = and-yes (leb (length gs) mostRungs) (small && leb (length (flatMap rungWords gs)) mostWords) (ask-passed 5 _ e) in

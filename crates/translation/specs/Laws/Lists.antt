@@ -16,7 +16,7 @@ use Rattle.rungs.specs.Laws.Rows.{present-below}
 use Rattle.rungs.specs.Laws.Layout.{sizes, start-at, start-most, lay-same, pieces-length}
 use Rattle.ladder.specs.Tree.{Rung, Ladder, labels}
 use Rattle.ladder.specs.Meaning.{runRung}
-use Rattle.ladder.specs.Questions.{rungBelow, rungLeads, rungScratch, question6, question8, question9, Accepted}
+use Rattle.ladder.specs.Questions.{rungBelow, rungLeads, rungScratch, question6, question8, scratchInRange, question9, Accepted}
 use Rattle.list.specs.Instruction.{Instr}
 use Rattle.translation.specs.Translate.{rungCode, listRecords, translate}
 use Rattle.translation.specs.Agreement.{Agreement}
@@ -34,7 +34,7 @@ unfolding question8
 leads-all vars gs a = each-passed 8 (rungLeads (labels gs)) gs (a .jumps)
 
 pub scratch-all : (vars : ℕ) (gs : Ladder) → Accepted vars gs → T (all (λ g. leb (rungScratch g) scratchBytes) gs)
-unfolding question9
+unfolding question9 scratchInRange
 scratch-all vars gs a = ask-passed 9 _ (a .scratch)
 
 module _ (vars : ℕ) (gs : Ladder) where

@@ -1,0 +1,229 @@
+-- Laws of the questions in order: the first "no" of Ladder scan. Assumes nothing.
+use Prim.Native.Nat.{ℕ, _≤_}
+use native.Mathlib.Omega.{arith}
+use mathlib.Core.Path.{_≡_, sym, ap, _∙_}
+use mathlib.Core.Bool.{Bool, true, false}
+use mathlib.Core.Option.{none, some}
+use mathlib.Core.List.{List, [], _∷_, map}
+use lib.Dec.{leb}
+use lib.ListN.{length}
+use Rattle.questions.specs.Questions.{Answer, ask, askEach, firstNo, varsInRange, question1, question12, mostRungWatchdog}
+use Rattle.questions.specs.Tests.{firstFailed}
+use Rattle.questions.specs.Refusals.{refusalOf, answerOf}
+use Rattle.questions.specs.declared.Refusal.{Refusal as RefusalCase}
+use Rattle.questions.specs.declared.Refusal.the-variants.{Variables, Kept as KeptCase, Sizes, Variable, Label, Jump, Scratch, Table, Watchdog}
+use Rattle.questions.specs.declared.Verdict.{Verdict}
+use Rattle.questions.specs.declared.Verdict.the-variants.{Accepted, Refused}
+use Rattle.table.specs.State.{State}
+use Rattle.table.specs.Questions.{tableInRange, question11}
+use Rattle.rungs.specs.Records.{RungRecord, rowOf}
+use Rattle.rungs.specs.Records.{labels as recordLabels, offsets}
+use Rattle.rungs.specs.Laws.Rows.{Even, row-even, row-labels, row-offsets, row-lengths}
+use Rattle.rungs.specs.Laws.Layout.{lay-length, lay-labels, lay-lengths}
+use Rattle.ladder.specs.Tree.{Ladder, labels}
+use Rattle.ladder.specs.Meaning.{scanLadder}
+use Rattle.ladder.specs.Kept.{Kept, rungWords, encode, decode}
+use Rattle.ladder.specs.Questions.{ladderOf, holdsLadder, question4, sizesInRange, question5, rungBelow, question6, newLabels, question7, rungLeads, question8, scratchInRange, question9, ladderAnswer}
+use Rattle.ladder.specs.Laws.Accepting.{encode-decode, holds, accepted}
+use Rattle.ladder.specs.Asking.{LadderIn, placeOf, SizesAsked, VariablesAsked, LabelsAsked, JumpsAsked}
+use Rattle.ladder.specs.Scanned.{LadderHeld, ScratchAsked, Scanned}
+use Rattle.ladder.specs.LadderScan.{scanEnds, ladderScan, LadderScanDone}
+use Rattle.ladder.specs.LadderScan.{answerOf as scanAnswerOf}
+use Rattle.ladder.specs.declared.Found.{Found}
+use Rattle.ladder.specs.declared.Found.the-variants.{At, Nothing}
+use Rattle.ladder.specs.declared.LadderScanned.{LadderScanned}
+use Rattle.ladder.specs.declared.LadderScanned.the-variants.{Refused as RefusedScan}
+
+-- ---- what question 4 took
+
+abbrev keptOf : List ℕ → List ℕ → List ℕ → List ℕ → Kept
+keptOf ws ls os ns = record { words = ws; records = rowOf ls os ns }
+
+module _ (ws ls os ns : List ℕ) (gs : Ladder) (e : decode (keptOf ws ls os ns) ≡ some gs) (h : 1 ≤ length gs) where
+  abbrev laidOut : List RungRecord
+  laidOut = encode gs .records
+
+  rows : rowOf ls os ns ≡ encode gs .records
+  rows = ap (λ k. k .records) (encode-decode (keptOf ws ls os ns) gs e .0)
+
+  even : Even ls os ns
+  unfolding encode
+  even = let n = ap length rows ∙ lay-length (λ g. g .label) (λ g. length (rungWords g)) 0 gs in row-even ls os ns (omega arith)
+
+  held : LadderHeld ws ls os gs
+  unfolding encode
+  held = record {
+    words = ap (λ k. k .words) (encode-decode (keptOf ws ls os ns) gs e .0);
+    same-labels = sym (row-labels ls os ns even) ∙ ap (λ rs. recordLabels rs) rows ∙ lay-labels (λ g. g .label) (λ g. length (rungWords g)) 0 gs;
+    same-offsets = sym (row-offsets ls os ns even) ∙ ap (λ rs. offsets rs) rows;
+    fits = encode-decode (keptOf ws ls os ns) gs e .1;
+  }
+
+  ladder-in : LadderIn ws ns gs
+  unfolding encode
+  ladder-in = record {
+    words = ap (λ k. k .words) (encode-decode (keptOf ws ls os ns) gs e .0);
+    lengths = sym (row-lengths ls os ns even) ∙ ap (λ rs. map (λ r. r .length) rs) rows ∙ lay-lengths (λ g. g .label) (λ g. length (rungWords g)) 0 gs;
+    fits = encode-decode (keptOf ws ls os ns) gs e .1;
+  }
+
+-- ---- the questions in order
+
+module _ (vars : ℕ) (ws ls os ns : List ℕ) where
+  abbrev kept : Kept
+  kept = keptOf ws ls os ns
+
+  abbrev gs : Ladder
+  gs = ladderOf kept
+
+  -- the questions that got a "yes": 1; 1 and 4; and so on
+  pub record Past1 : Type 0 where
+    pub yes1 : varsInRange vars ≡ true
+
+  pub record Past4 : Type 0 where
+    pub past : Past1
+    pub yes4 : holdsLadder kept ≡ true
+
+  pub record Past5 : Type 0 where
+    pub past : Past4
+    pub yes5 : sizesInRange gs ≡ true
+
+  pub record Past6 : Type 0 where
+    pub past : Past5
+    pub yes6 : firstFailed (map (rungBelow vars) gs) ≡ none
+
+  pub record Past7 : Type 0 where
+    pub past : Past6
+    pub yes7 : firstFailed (newLabels [] (labels gs)) ≡ none
+
+  pub record Past8 : Type 0 where
+    pub past : Past7
+    pub yes8 : firstFailed (map (rungLeads (labels gs)) gs) ≡ none
+
+  pub refused1 : varsInRange vars ≡ false → answerOf (Refused Variables) ≡ ladderAnswer vars kept
+  unfolding answerOf refusalOf ladderAnswer firstNo question1 ask
+  refused1 e = rw e
+
+  pub refused4 : Past1 → holdsLadder kept ≡ false → answerOf (Refused KeptCase) ≡ ladderAnswer vars kept
+  unfolding answerOf refusalOf ladderAnswer firstNo question1 question4 ask
+  refused4 p e = rw (p .yes1, e)
+
+  module _ (p : Past4) where
+    holding : (decode kept ≡ some gs) × (1 ≤ length gs)
+    unfolding question4 ask
+    holding = holds kept (rw (p .yes4))
+
+    inside : LadderIn ws ns gs
+    inside = ladder-in ws ls os ns gs (holding .0) (holding .1)
+
+    stands : LadderHeld ws ls os gs
+    stands = held ws ls os ns gs (holding .0) (holding .1)
+
+    pub refused5 : (r : Bool) → SizesAsked ws ns r → r ≡ false → answerOf (Refused Sizes) ≡ ladderAnswer vars kept
+    unfolding answerOf refusalOf ladderAnswer firstNo question1 question4 question5 ask
+    refused5 r a e = let n : sizesInRange gs ≡ false = sym (a .same gs inside) ∙ e in rw (p .past .yes1, p .yes4, n)
+
+    pub past5 : (r : Bool) → SizesAsked ws ns r → r ≡ true → Past5
+    past5 r a e = record { past = p; yes5 = sym (a .same gs inside) ∙ e }
+
+  module _ (p : Past5) where
+    pub refused6 : (r : Found) (i : ℕ) → VariablesAsked vars ws ns r → r ≡ At i → answerOf (Refused (Variable i)) ≡ ladderAnswer vars kept
+    unfolding answerOf refusalOf ladderAnswer firstNo question1 question4 question5 question6 ask askEach placeOf
+    refused6 r i a e =
+        let n : firstFailed (map (rungBelow vars) gs) ≡ some i = sym (a .same gs (inside (p .past))) ∙ ap placeOf e in
+        rw (p .past .past .yes1, p .past .yes4, p .yes5, n)
+
+    pub past6 : (r : Found) → VariablesAsked vars ws ns r → r ≡ Nothing → Past6
+    unfolding placeOf
+    past6 r a e = record { past = p; yes6 = sym (a .same gs (inside (p .past))) ∙ ap placeOf e }
+
+  module _ (p : Past6) where
+    labelled : ls ≡ labels gs
+    labelled = stands (p .past .past) .same-labels
+
+    pub refused7 : (r : Found) (i : ℕ) → LabelsAsked ls r → r ≡ At i → answerOf (Refused (Label i)) ≡ ladderAnswer vars kept
+    unfolding answerOf refusalOf ladderAnswer firstNo question1 question4 question5 question6 question7 ask askEach placeOf
+    refused7 r i a e =
+        let n : firstFailed (newLabels [] (labels gs)) ≡ some i = sym (ap (λ l. firstFailed (newLabels [] l)) labelled) ∙ sym (a .same) ∙ ap placeOf e in
+        rw (p .past .past .past .yes1, p .past .past .yes4, p .past .yes5, p .yes6, n)
+
+    pub past7 : (r : Found) → LabelsAsked ls r → r ≡ Nothing → Past7
+    unfolding placeOf
+    past7 r a e = record { past = p; yes7 = sym (ap (λ l. firstFailed (newLabels [] l)) labelled) ∙ sym (a .same) ∙ ap placeOf e }
+
+  module _ (p : Past7) where
+    leads : (r : Found) → JumpsAsked ls ws ns r → placeOf r ≡ firstFailed (map (rungLeads (labels gs)) gs)
+    leads r a = a .same gs (inside (p .past .past .past)) ∙ ap (λ l. firstFailed (map (rungLeads l) gs)) (labelled (p .past))
+
+    pub refused8 : (r : Found) (i : ℕ) → JumpsAsked ls ws ns r → r ≡ At i → answerOf (Refused (Jump i)) ≡ ladderAnswer vars kept
+    unfolding answerOf refusalOf ladderAnswer firstNo question1 question4 question5 question6 question7 question8 ask askEach placeOf
+    refused8 r i a e =
+        let n : firstFailed (map (rungLeads (labels gs)) gs) ≡ some i = sym (leads r a) ∙ ap placeOf e in
+        rw (p .past .past .past .past .yes1, p .past .past .past .yes4, p .past .past .yes5, p .past .yes6, p .yes7, n)
+
+    pub past8 : (r : Found) → JumpsAsked ls ws ns r → r ≡ Nothing → Past8
+    unfolding placeOf
+    past8 r a e = record { past = p; yes8 = sym (leads r a) ∙ ap placeOf e }
+
+  module _ (p : Past8) (r : Bool) (a : ScratchAsked ws os r) where
+    scratch : r ≡ scratchInRange gs
+    scratch = a .same ls gs (stands (p .past .past .past .past))
+
+    pub refused9 : r ≡ false → answerOf (Refused Scratch) ≡ ladderAnswer vars kept
+    unfolding answerOf refusalOf ladderAnswer firstNo question1 question4 question5 question6 question7 question8 question9 ask askEach
+    refused9 e =
+        let n : scratchInRange gs ≡ false = sym scratch ∙ e in
+        rw (p .past .past .past .past .past .yes1, p .past .past .past .past .yes4, p .past .past .past .yes5, p .past .past .yes6, p .past .yes7, p .yes8, n)
+
+    pub accepted9 : r ≡ true → answerOf Accepted ≡ ladderAnswer vars kept
+    unfolding answerOf ladderAnswer firstNo question1 question4 question5 question6 question7 question8 question9 ask askEach
+    accepted9 e =
+        let n : scratchInRange gs ≡ true = sym scratch ∙ e in
+        rw (p .past .past .past .past .past .yes1, p .past .past .past .past .yes4, p .past .past .past .yes5, p .past .past .yes6, p .past .yes7, p .yes8, n)
+
+-- ---- Ladder scan
+
+-- the verdict of ladder_answer, by its cases
+pub verdict-refused : {v : Verdict} {a : Answer} (refusal : RefusalCase) → answerOf v ≡ a → v ≡ Refused refusal → a ≡ some (refusalOf refusal)
+unfolding answerOf
+verdict-refused refusal e q = sym e ∙ ap answerOf q
+
+pub verdict-accepted : {v : Verdict} {a : Answer} → answerOf v ≡ a → v ≡ Accepted → a ≡ none
+unfolding answerOf
+verdict-accepted e q = sym e ∙ ap answerOf q
+
+module _ (vars : ℕ) (k : Kept) (t : List ℕ) (w : ℕ) where
+  abbrev s : State
+  s = record { vars = vars; bytes = t }
+
+  refuses : (refusal : RefusalCase) → firstNo (ladderAnswer vars k ∷ question11 s ∷ question12 mostRungWatchdog w ∷ []) ≡ some (refusalOf refusal)
+      → LadderScanDone (ladderScan vars k t w) (RefusedScan refusal) t
+  unfolding ladderScan scanAnswerOf
+  refuses refusal e = record { answer = rw (e, ladderScan); same-table = rw (e, ladderScan) }
+
+  pub scan-refused : (refusal : RefusalCase) → ladderAnswer vars k ≡ some (refusalOf refusal) → LadderScanDone (ladderScan vars k t w) (RefusedScan refusal) t
+  unfolding firstNo
+  scan-refused refusal e = refuses refusal (rw e)
+
+  module _ (ok : ladderAnswer vars k ≡ none) where
+    pub scan-refused-table : tableInRange s ≡ false → LadderScanDone (ladderScan vars k t w) (RefusedScan Table) t
+    unfolding firstNo question11 ask refusalOf
+    scan-refused-table e = refuses Table (rw (ok, e))
+
+    pub scan-refused-watchdog : tableInRange s ≡ true → leb w mostRungWatchdog ≡ false → LadderScanDone (ladderScan vars k t w) (RefusedScan Watchdog) t
+    unfolding firstNo question11 question12 ask refusalOf
+    scan-refused-watchdog e f = refuses Watchdog (rw (ok, e, f))
+
+    pub scan-done : tableInRange s ≡ true → leb w mostRungWatchdog ≡ true → (r : LadderScanned) (u : List ℕ)
+        → LadderScanDone (scanEnds (scanLadder (ladderOf k) w s)) r u → LadderScanDone (ladderScan vars k t w) r u
+    unfolding firstNo question11 question12 ask ladderScan
+    scan-done e f r u d =
+        let q : firstNo (ladderAnswer vars k ∷ question11 s ∷ question12 mostRungWatchdog w ∷ []) ≡ none = rw (ok, e, f) in
+        record { answer = rw (q, ladderScan) (d .answer); same-table = rw (q, ladderScan) (d .same-table) }
+
+-- the scan of what the questions took
+pub scanned-done : (vars : ℕ) (ws ls os ns t : List ℕ) (w : ℕ) (r : LadderScanned) (u : List ℕ) → ladderAnswer vars (record { words = ws; records = rowOf ls os ns }) ≡ none
+    → Scanned ws ls os t w r u → LadderScanDone (scanEnds (scanLadder (ladderOf (record { words = ws; records = rowOf ls os ns })) w (record { vars = vars; bytes = t }))) r u
+scanned-done vars ws ls os ns t w r u ok scanned =
+    let a = accepted vars (keptOf ws ls os ns) ok in
+    scanned .same (ladderOf (keptOf ws ls os ns)) (held ws ls os ns (ladderOf (keptOf ws ls os ns)) (a .0) (a .1 .some-rung)) vars

@@ -1,0 +1,376 @@
+-- Laws of questions 5 to 8: the first test that fails, the words of a rung tested one by one, the walk over a ladder's rungs, the search for a label.
+-- Assumes nothing.
+use Prim.Native.Nat.{ℕ, zero, suc, _+_, _-_, _/_, _%_, _≤_, _<_}
+use native.Mathlib.Numerals.{add-one}
+use native.Mathlib.Omega.{arith}
+use mathlib.Core.Path.{_≡_, refl, sym, ap, _∙_}
+use mathlib.Core.Bool.{Bool, true, false, not, _&&_, and-assoc, and-true, and-false}
+use mathlib.Core.Option.{none, some}
+use mathlib.Core.List.{List, [], _∷_, _++_, map, flatMap, append-assoc, append-nil}
+use lib.Dec.{T, eqb, leb, ltb, ltb→lt}
+use lib.ListN.{length, getD, take, drop, length-append, length-drop, length-map, drop-of-length-le}
+use lib.Seq.{drop-cons, drop-drop, take-append-seam, drop-append-seam, length-take-le, getD-take}
+use mir.Facts.{and-yes}
+use borrow.Author.Count.{below-more}
+use borrow.Author.Tests.{eq-eqb, ne-eqb, lt-ltb, le-ltb, le-leb, lt-leb}
+use Rattle.questions.specs.Tests.{all, firstFailed}
+use Rattle.questions.specs.Laws.Tests.{all-head, all-tail}
+use Rattle.rungs.specs.Words.{operands, word}
+use Rattle.rungs.specs.Records.{search, present}
+use Rattle.ladder.specs.Tree.{Input, contact, contactn, Front, input, frontAnd, frontOr, Output, coil, coiln, jump, jumpn, Rear, output, rearAnd, rearOr, Rung, Ladder, frontAll, rearAll, rungAll}
+use Rattle.ladder.specs.Kept.{inputWord, outputWord, frontWords, rearWords, rungWords, encode, inputFits, outputFits}
+use Rattle.ladder.specs.Questions.{mostRungs, mostWords, sizesInRange, inputBelow, outputBelow, newLabels, outputLeads}
+use Rattle.ladder.specs.Asking.{LadderIn, placeOf, RungEnd, lengthInRange, namesVariable, namesLabel, operandBelow, operandLeads, wordBelow, wordLeads, SizesAsked, LabelsAsked}
+use Rattle.ladder.specs.declared.Found.{Found}
+use Rattle.ladder.specs.declared.Found.the-variants.{At, Nothing}
+
+-- ---- the first test that fails
+
+true-false : true ≡ false → ⊥
+true-false e = let z : _≡_ {A = ℕ} 0 1 = cc in omega arith
+
+-- the tests before k passed
+abbrev pub Passed : List Bool → ℕ → Type 0
+Passed bs k = (m : ℕ) → m < k → getD bs m true ≡ true
+
+none-before : (bs : List Bool) → Passed bs 0
+none-before bs m h = absurd (omega arith)
+
+passed-more : (bs : List Bool) (k : ℕ) → Passed bs k → getD bs k true ≡ true → Passed bs (k + 1)
+passed-more bs k h e = below-more (λ m. getD bs m true ≡ true) k h e
+
+failed-at : (bs : List Bool) (k : ℕ) → Passed bs k → getD bs k true ≡ false → some k ≡ firstFailed bs
+unfolding firstFailed
+failed-at [] k h e = absurd (true-false e)
+failed-at (true ∷ bs) zero h e = absurd (true-false e)
+failed-at (true ∷ bs) (suc k) h e = rw (← (failed-at bs k (λ m l. h (suc m) (omega arith)) e))
+failed-at (false ∷ bs) zero h e = refl
+failed-at (false ∷ bs) (suc k) h e = absurd (true-false (sym (h 0 (omega arith))))
+
+none-failed : (bs : List Bool) (k : ℕ) → Passed bs k → length bs ≤ k → none ≡ firstFailed bs
+unfolding firstFailed
+none-failed [] k h e = refl
+none-failed (b ∷ bs) zero h e = absurd (omega arith)
+none-failed (true ∷ bs) (suc k) h e = rw (← (none-failed bs k (λ m l. h (suc m) (omega arith)) (omega arith)))
+none-failed (false ∷ bs) (suc k) h e = absurd (true-false (sym (h 0 (omega arith))))
+
+-- ---- lists
+
+getD-map : {A B : Type 0} (f : A → B) (xs : List A) (k : ℕ) (d : A) (e : B) → k < length xs → getD (map f xs) k e ≡ f (getD xs k d)
+getD-map f [] k d e h = absurd (omega arith)
+getD-map f (x ∷ xs) zero d e h = refl
+getD-map f (x ∷ xs) (suc k) d e h = getD-map f xs k d e (omega arith)
+
+module _ {A : Type 0} (test : A → Bool) where
+  all-both : (xs ys : List A) → all test (xs ++ ys) ≡ (all test xs && all test ys)
+  unfolding all
+  all-both [] ys = refl
+  all-both (x ∷ xs) ys = rw (all-both xs ys) (sym (and-assoc (test x) (all test xs) (all test ys)))
+
+  all-getD : (xs : List A) (k : ℕ) (d : A) → k < length xs → T (all test xs) → T (test (getD xs k d))
+  all-getD [] k d h t = absurd (omega arith)
+  all-getD (x ∷ xs) zero d h t = all-head test x xs t
+  all-getD (x ∷ xs) (suc k) d h t = all-getD xs k d (omega arith) (all-tail test x xs t)
+
+all-map : {A B : Type 0} (test : B → Bool) (f : A → B) (xs : List A) → all test (map f xs) ≡ all (λ x. test (f x)) xs
+unfolding all
+all-map test f [] = refl
+all-map test f (x ∷ xs) = rw (all-map test f xs)
+
+-- ---- the words of a rung, tested one by one
+
+-- a test of words that says of a tree's words what two tests say of its inputs and outputs
+pub record Tests (test : ℕ → Bool) (inputs : Input → Bool) (outputs : Output → Bool) : Type 0 where
+  pub of-input : (i : Input) → T (inputFits i) → test (inputWord i) ≡ inputs i
+  pub of-output : (o : Output) → T (outputFits o) → test (outputWord o) ≡ outputs o
+  pub front-and : test (word 3 0) ≡ true
+  pub front-or : test (word 4 0) ≡ true
+  pub rear-and : test (word 9 0) ≡ true
+  pub rear-or : test (word 10 0) ≡ true
+
+module _ {test : ℕ → Bool} {inputs : Input → Bool} {outputs : Output → Bool} (t : Tests test inputs outputs) where
+  front-tested : (f : Front) → T (frontAll inputFits f) → all test (frontWords f) ≡ frontAll inputs f
+  unfolding frontWords frontAll all
+  front-tested (input i) h = rw (t .of-input i h) (and-true (inputs i))
+  front-tested (frontAnd f g) h =
+      let b = and-yes (frontAll inputFits f) (frontAll inputFits g) h in
+      rw (t .front-and, all-both test (frontWords f) (frontWords g), front-tested f (b .0), front-tested g (b .1))
+  front-tested (frontOr f g) h =
+      let b = and-yes (frontAll inputFits f) (frontAll inputFits g) h in
+      rw (t .front-or, all-both test (frontWords f) (frontWords g), front-tested f (b .0), front-tested g (b .1))
+
+  rear-tested : (r : Rear) → T (rearAll inputFits outputFits r) → all test (rearWords r) ≡ rearAll inputs outputs r
+  unfolding rearWords rearAll all
+  rear-tested (output o) h = rw (t .of-output o h) (and-true (outputs o))
+  rear-tested (rearAnd f r) h =
+      let b = and-yes (frontAll inputFits f) (rearAll inputFits outputFits r) h in
+      rw (t .rear-and, all-both test (frontWords f) (rearWords r), front-tested f (b .0), rear-tested r (b .1))
+  rear-tested (rearOr p q) h =
+      let b = and-yes (rearAll inputFits outputFits p) (rearAll inputFits outputFits q) h in
+      rw (t .rear-or, all-both test (rearWords p) (rearWords q), rear-tested p (b .0), rear-tested q (b .1))
+
+  rung-tested : (g : Rung) → T (rungAll inputFits outputFits g) → all test (rungWords g) ≡ rungAll inputs outputs g
+  unfolding rungWords rungAll
+  rung-tested g h =
+      let b = and-yes (frontAll inputFits (g .front)) (rearAll inputFits outputFits (g .rear)) h in
+      rw (all-both test (frontWords (g .front)) (rearWords (g .rear)), front-tested (g .front) (b .0), rear-tested (g .rear) (b .1))
+
+-- the kind and the operand of a word are read back
+kept : (test : ℕ → ℕ → Bool) (k o : ℕ) → T (ltb o operands) → test (word k o / operands) (word k o % operands) ≡ test k o
+kept test k o h =
+    let l = ltb→lt o operands h in
+    let p : word k o / operands ≡ k = omega arith in
+    let q : word k o % operands ≡ o = omega arith in
+    rw (p, q)
+
+pub below-tests : (vars : ℕ) → Tests (wordBelow vars) (inputBelow vars) (outputBelow vars)
+unfolding operandBelow inputFits outputFits inputWord outputWord inputBelow outputBelow
+below-tests vars = record {
+  of-input = inputs;
+  of-output = outputs;
+  front-and = refl;
+  front-or = refl;
+  rear-and = refl;
+  rear-or = refl;
+}
+  where
+    inputs : (i : Input) → T (inputFits i) → wordBelow vars (inputWord i) ≡ inputBelow vars i
+    inputs (contact v) h = kept (operandBelow vars) 1 v h
+    inputs (contactn v) h = kept (operandBelow vars) 2 v h
+
+    outputs : (o : Output) → T (outputFits o) → wordBelow vars (outputWord o) ≡ outputBelow vars o
+    outputs (coil v) h = kept (operandBelow vars) 5 v h
+    outputs (coiln v) h = kept (operandBelow vars) 6 v h
+    outputs (jump l) h = kept (operandBelow vars) 7 l h
+    outputs (jumpn l) h = kept (operandBelow vars) 8 l h
+
+pub leads-tests : (ls : List ℕ) → Tests (wordLeads ls) (λ i. true) (outputLeads ls)
+unfolding operandLeads inputFits outputFits inputWord outputWord outputLeads
+leads-tests ls = record {
+  of-input = inputs;
+  of-output = outputs;
+  front-and = refl;
+  front-or = refl;
+  rear-and = refl;
+  rear-or = refl;
+}
+  where
+    inputs : (i : Input) → T (inputFits i) → wordLeads ls (inputWord i) ≡ true
+    inputs (contact v) h = kept (operandLeads ls) 1 v h
+    inputs (contactn v) h = kept (operandLeads ls) 2 v h
+
+    outputs : (o : Output) → T (outputFits o) → wordLeads ls (outputWord o) ≡ outputLeads ls o
+    outputs (coil v) h = kept (operandLeads ls) 5 v h
+    outputs (coiln v) h = kept (operandLeads ls) 6 v h
+    outputs (jump l) h = kept (operandLeads ls) 7 l h
+    outputs (jumpn l) h = kept (operandLeads ls) 8 l h
+
+-- what the code asks of a kind and an operand
+module _ (vars k o : ℕ) where
+  pub below-variable : namesVariable k ≡ true → ltb o vars ≡ operandBelow vars k o
+  unfolding operandBelow
+  below-variable h = rw h
+
+  pub below-other : namesVariable k ≡ false → true ≡ operandBelow vars k o
+  unfolding operandBelow
+  below-other h = rw h
+
+module _ (ls : List ℕ) (k o : ℕ) where
+  pub leads-label : (r : ℕ) → namesLabel k ≡ true → r ≡ search o ls → ltb r (length ls) ≡ operandLeads ls k o
+  unfolding operandLeads present
+  leads-label r h e = rw (h, e)
+
+  pub leads-other : namesLabel k ≡ false → true ≡ operandLeads ls k o
+  unfolding operandLeads
+  leads-other h = rw h
+
+-- ---- question 5
+
+module _ (ws ns : List ℕ) where
+  sizes-asked : (gs : Ladder) → LadderIn ws ns gs → sizesInRange gs ≡ (leb (length ns) mostRungs && (all lengthInRange ns && leb (length ws) mostWords))
+  unfolding sizesInRange encode
+  sizes-asked gs l = rw (l .words, l .lengths, length-map gs (λ g. length (rungWords g)), all-map lengthInRange (λ g. length (rungWords g)) gs)
+
+  pub many-rungs : mostRungs < length ns → SizesAsked ws ns false
+  many-rungs h = record { same = λ gs l. sym (sizes-asked gs l ∙ rw (lt-leb (length ns) mostRungs h)) }
+
+  pub long-rung : all lengthInRange ns ≡ false → SizesAsked ws ns false
+  long-rung e = record { same = λ gs l. sym (sizes-asked gs l ∙ rw e (and-false (leb (length ns) mostRungs))) }
+
+  pub words-left : length ns ≤ mostRungs → all lengthInRange ns ≡ true → SizesAsked ws ns (leb (length ws) mostWords)
+  words-left h e = record { same = λ gs l. sym (sizes-asked gs l ∙ rw (le-leb (length ns) mostRungs h, e)) }
+
+-- ---- the walk over a ladder's rungs
+
+-- the loop's invariant: the words from `from` on are those of the rungs from k on, and the rungs before passed
+pub record Walked (test : Rung → Bool) (ws ns : List ℕ) (from k : ℕ) : Type 0 where
+  pub within : from ≤ length ws
+  pub left : (gs : Ladder) → LadderIn ws ns gs → drop from ws ≡ flatMap rungWords (drop k gs)
+  pub passed : (gs : Ladder) → LadderIn ws ns gs → Passed (map test gs) k
+
+pub walk-start : (test : Rung → Bool) (ws ns : List ℕ) → Walked test ws ns 0 0
+walk-start test ws ns = record { within = omega arith; left = λ gs l. l .words; passed = λ gs l. none-before (map test gs) }
+
+-- stands past the last rung
+blank : Rung
+blank = record { label = 0; front = input (contact 0); rear = output (coil 0) }
+
+ladder-length : {ws ns : List ℕ} {gs : Ladder} → LadderIn ws ns gs → length gs ≡ length ns
+ladder-length {ws} {ns} {gs} l = sym (rw (l .lengths) (length-map gs (λ g. length (rungWords g))))
+
+-- the words from `from` up to `to`
+abbrev part : ℕ → ℕ → List ℕ → List ℕ
+part from to ws = take (to - from) (drop from ws)
+
+-- the rung at place k, and its words
+record Here (ws : List ℕ) (gs : Ladder) (from k to : ℕ) : Type 0 where
+  words : part from to ws ≡ rungWords (getD gs k blank)
+  rest : drop to ws ≡ flatMap rungWords (drop (suc k) gs)
+
+here : {ws ns : List ℕ} {gs : Ladder} {from k to : ℕ} → LadderIn ws ns gs → from ≤ length ws → drop from ws ≡ flatMap rungWords (drop k gs)
+    → k < length ns → RungEnd from (getD ns k 0) (length ws) to → Here ws gs from k to
+unfolding flatMap
+here {ws} {ns} {gs} {from} {k} {to} l w left h e =
+    let m = ladder-length l in
+    let g = getD gs k blank in
+    let size : getD ns k 0 ≡ length (rungWords g) = rw (l .lengths) (getD-map (λ x. length (rungWords x)) gs k blank 0 (omega arith)) in
+    let now : drop from ws ≡ rungWords g ++ flatMap rungWords (drop (suc k) gs) = rw (drop-cons gs k blank (omega arith)) at left in
+    let count = sym (length-drop from ws) ∙ ap length now ∙ length-append (rungWords g) (flatMap rungWords (drop (suc k) gs)) in
+    let end : to ≡ from + length (rungWords g) = e .whole (omega arith) ∙ ap (λ n. from + n) size in
+    let many : to - from ≡ length (rungWords g) = omega arith in
+    record {
+      words = rw (many, now) (take-append-seam (rungWords g) (flatMap rungWords (drop (suc k) gs)));
+      rest = rw (end, ← (drop-drop (length (rungWords g)) from ws), now) (drop-append-seam (rungWords g) (flatMap rungWords (drop (suc k) gs)));
+    }
+
+module _ {test : ℕ → Bool} {inputs : Input → Bool} {outputs : Output → Bool} (t : Tests test inputs outputs) {ws ns : List ℕ} {from k : ℕ}
+    (w : Walked (rungAll inputs outputs) ws ns from k) where
+  module _ {to : ℕ} (h : k < length ns) (e : RungEnd from (getD ns k 0) (length ws) to) where
+    tested : (gs : Ladder) → LadderIn ws ns gs → getD (map (rungAll inputs outputs) gs) k true ≡ all test (part from to ws)
+    tested gs l =
+        let m = ladder-length l in
+        getD-map (rungAll inputs outputs) gs k blank true (omega arith)
+        ∙ sym (ap (all test) (here l (w .within) (w .left gs l) h e .words)
+        ∙ rung-tested t (getD gs k blank) (all-getD (rungAll inputFits outputFits) gs k blank (omega arith) (l .fits)))
+
+    pub walk-failed : all test (part from to ws) ≡ false → (gs : Ladder) → LadderIn ws ns gs → placeOf (At k) ≡ firstFailed (map (rungAll inputs outputs) gs)
+    unfolding placeOf
+    walk-failed f gs l = failed-at (map (rungAll inputs outputs) gs) k (w .passed gs l) (tested gs l ∙ f)
+
+    pub walk-more : all test (part from to ws) ≡ true → Walked (rungAll inputs outputs) ws ns to (k + 1)
+    walk-more f = record {
+      within = e .within;
+      left = λ gs l. rw add-one (here l (w .within) (w .left gs l) h e .rest);
+      passed = λ gs l. passed-more (map (rungAll inputs outputs) gs) k (w .passed gs l) (tested gs l ∙ f);
+    }
+
+  pub walk-end : length ns ≤ k → (gs : Ladder) → LadderIn ws ns gs → placeOf Nothing ≡ firstFailed (map (rungAll inputs outputs) gs)
+  unfolding placeOf
+  walk-end h gs l =
+      let m = ladder-length l in
+      none-failed (map (rungAll inputs outputs) gs) k (w .passed gs l) (rw (length-map gs (rungAll inputs outputs)) (omega arith))
+
+-- ---- labels
+
+module _ (l : ℕ) where
+  search-here : (ls : List ℕ) (i : ℕ) → i < length ls → getD ls i 0 ≡ l → search l (drop i ls) ≡ 0
+  unfolding search
+  search-here ls i h e = rw (drop-cons ls i 0 h, search, eq-eqb _ _ e)
+
+  search-later : (ls : List ℕ) (i : ℕ) → i < length ls → (getD ls i 0 ≡ l → ⊥) → search l (drop i ls) ≡ suc (search l (drop (suc i) ls))
+  unfolding search
+  search-later ls i h e = rw (drop-cons ls i 0 h, search, ne-eqb _ _ e)
+
+-- the loop's invariant: the search from i on is the whole search
+pub record Searched (l : ℕ) (ls : List ℕ) (i : ℕ) : Type 0 where
+  pub same : i + search l (drop i ls) ≡ search l ls
+
+pub search-start : (l : ℕ) (ls : List ℕ) → Searched l ls 0
+search-start l ls = record { same = omega arith }
+
+module _ {l : ℕ} {ls : List ℕ} {i : ℕ} (s : Searched l ls i) where
+  pub search-found : i < length ls → getD ls i 0 ≡ l → i ≡ search l ls
+  search-found h e = let p = search-here l ls i h e in omega (arith, s .same)
+
+  pub search-more : i < length ls → (getD ls i 0 ≡ l → ⊥) → Searched l ls (i + 1)
+  search-more h e = let p = search-later l ls i h e in record { same = rw add-one (omega (arith, s .same)) }
+
+  pub search-end : length ls ≤ i → i ≡ search l ls
+  unfolding search
+  search-end h = let p = ap (search l) (drop-of-length-le ls h) in omega (arith, s .same)
+
+-- a label is present where it stands, and nowhere else
+search-below : (l : ℕ) (ls : List ℕ) (i : ℕ) → i < length ls → getD ls i 0 ≡ l → search l ls < length ls
+unfolding search
+search-below l [] i h e = absurd (omega arith)
+search-below l (m ∷ ls) zero h e = rw (eq-eqb m l e, search) (omega arith)
+search-below l (m ∷ ls) (suc i) h e = go (eqb m l) refl (search-below l ls i (omega arith) e)
+  where
+    go : (b : Bool) → eqb m l ≡ b → search l ls < length ls → search l (m ∷ ls) < suc (length ls)
+    go true q ih = rw (q, search) (omega arith)
+    go false q ih = rw (q, search) (omega arith)
+
+search-past : (l : ℕ) (ls : List ℕ) → ((i : ℕ) → i < length ls → getD ls i 0 ≡ l → ⊥) → search l ls ≡ length ls
+unfolding search
+search-past l [] h = refl
+search-past l (m ∷ ls) h = rw (ne-eqb m l (h 0 (omega arith)), search, search-past l ls (λ i k. h (suc i) (omega arith)))
+
+present-at : (l : ℕ) (ls : List ℕ) (i : ℕ) → i < length ls → getD ls i 0 ≡ l → present l ls ≡ true
+unfolding present
+present-at l ls i h e = lt-ltb (search l ls) (length ls) (search-below l ls i h e)
+
+absent : (l : ℕ) (ls : List ℕ) → ((i : ℕ) → i < length ls → getD ls i 0 ≡ l → ⊥) → present l ls ≡ false
+unfolding present
+absent l ls h = let e = search-past l ls h in le-ltb (search l ls) (length ls) (omega arith)
+
+new-length : (es ls : List ℕ) → length (newLabels es ls) ≡ length ls
+unfolding newLabels
+new-length es [] = refl
+new-length es (l ∷ ls) = ap suc (new-length (es ++ l ∷ []) ls)
+
+new-at : (es ls : List ℕ) (j : ℕ) → j < length ls → getD (newLabels es ls) j true ≡ not (present (getD ls j 0) (es ++ take j ls))
+unfolding newLabels
+new-at es [] j h = absurd (omega arith)
+new-at es (l ∷ ls) zero h = rw append-nil
+new-at es (l ∷ ls) (suc j) h = new-at (es ++ l ∷ []) ls j (omega arith) ∙ rw append-assoc
+
+-- the loops' invariants: the labels before j are new; none of those before i is the one at j
+pub record Outer (ls : List ℕ) (end : ℕ) (found : Found) (j : ℕ) : Type 0 where
+  pub nothing : found ≡ Nothing
+  pub last : end ≡ length ls
+  pub passed : Passed (newLabels [] ls) j
+
+pub record Inner (ls : List ℕ) (j : ℕ) (found : Found) (i : ℕ) : Type 0 where
+  pub nothing : found ≡ Nothing
+  pub others : (m : ℕ) → m < i → getD ls m 0 ≡ getD ls j 0 → ⊥
+
+pub outer-start : (ls : List ℕ) → Outer ls (length ls) Nothing 0
+outer-start ls = record { nothing = refl; last = refl; passed = none-before (newLabels [] ls) }
+
+module _ {ls : List ℕ} {end : ℕ} {found : Found} {j : ℕ} (o : Outer ls end found j) where
+  pub outer-end : end ≤ j → LabelsAsked ls found
+  unfolding placeOf
+  outer-end h = record {
+    same = ap placeOf (o .nothing) ∙ none-failed (newLabels [] ls) j (o .passed) (rw (new-length [] ls) (omega (arith, o .last)));
+  }
+
+  pub inner-start : Inner ls j found 0
+  inner-start = record { nothing = o .nothing; others = λ m h. absurd (omega arith) }
+
+  module _ (w : j < end) {found′ : Found} {i : ℕ} (n : Inner ls j found′ i) where
+    pub inner-found : i < j → getD ls i 0 ≡ getD ls j 0 → LabelsAsked ls (At j)
+    unfolding placeOf
+    inner-found h e =
+        let k : j < length ls = omega (arith, o .last) in
+        let p = present-at (getD ls j 0) (take j ls) i (rw (length-take-le j ls (omega arith)) h) (getD-take j ls i 0 h ∙ e) in
+        record { same = failed-at (newLabels [] ls) j (o .passed) (new-at [] ls j k ∙ ap not p) }
+
+    pub inner-more : i < j → (getD ls i 0 ≡ getD ls j 0 → ⊥) → Inner ls j found′ (i + 1)
+    inner-more h e = record { nothing = n .nothing; others = below-more (λ m. getD ls m 0 ≡ getD ls j 0 → ⊥) i (n .others) e }
+
+    pub outer-more : j ≤ i → Outer ls end found′ (j + 1)
+    outer-more h =
+        let k : j < length ls = omega (arith, o .last) in
+        let size = length-take-le j ls (omega arith) in
+        let p = absent (getD ls j 0) (take j ls) (λ m q e. n .others m (omega arith) (sym (getD-take j ls m 0 (omega arith)) ∙ e)) in
+        record { nothing = n .nothing; last = o .last; passed = passed-more (newLabels [] ls) j (o .passed) (new-at [] ls j k ∙ ap not p) }

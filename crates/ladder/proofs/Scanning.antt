@@ -1,0 +1,137 @@
+-- Laws of the scan's loop: a scan from the rung that comes next is the scan from the start. Assumes nothing.
+use Prim.Native.Nat.{ℕ, zero, suc, _+_, _-_, _≤_, _<_}
+use native.Mathlib.Nat.{sub-zero, zero-add}
+use native.Mathlib.Numerals.{add-one}
+use native.Mathlib.Omega.{arith}
+use mathlib.Core.Path.{_≡_, refl, sym, ap, _∙_}
+use mathlib.Core.List.{List, [], _∷_, flatMap}
+use lib.ListN.{length, getD, take, drop, length-map, take-append-drop, drop-of-length-le}
+use Rattle.questions.specs.Laws.Tests.{all-head, all-second}
+use Rattle.table.specs.State.{State}
+use Rattle.table.specs.Halt.{Ended, Stopped}
+use Rattle.rungs.specs.Records.{search}
+use Rattle.rungs.specs.Laws.Layout.{sizes, offset-at, drop-pieces}
+use Rattle.ladder.specs.Tree.{Rung, Ladder, rungAll}
+use Rattle.ladder.specs.Meaning.{Run, left, runRung, from, follow, LadderScan, scanFrom, scanLadder}
+use Rattle.ladder.specs.Kept.{rungWords, encode, inputFits, outputFits}
+use Rattle.ladder.specs.LadderScan.{scanEnds, answerOf}
+use Rattle.ladder.specs.Walking.{RungAt, RungRun, runOf}
+use Rattle.ladder.specs.Scanned.{LadderHeld, Scanned}
+use Rattle.ladder.specs.declared.LadderScanned.the-variants.{Ended as EndedCase, Stopped as StoppedCase}
+use Rattle.ladder.specs.declared.walk.Ran.{Ran}
+use Rattle.ladder.specs.declared.walk.Ran.the-variants.{Onward, Jumped}
+
+-- ---- the rung at a place
+
+-- gs stands apart at place k
+pub record Apart (gs : Ladder) (k : ℕ) : Type 0 where
+  pub rung : Rung
+  pub here : drop k gs ≡ rung ∷ drop (suc k) gs
+
+pub apart : (gs : Ladder) (k : ℕ) → k < length gs → Apart gs k
+apart [] k h = absurd (omega arith)
+apart (g ∷ gs) zero h = record { rung = g; here = refl }
+apart (g ∷ gs) (suc k) h = let a = apart gs k (omega arith) in record { rung = a .rung; here = a .here }
+
+module _ (ws ls os : List ℕ) (gs : Ladder) (held : LadderHeld ws ls os gs) where
+  pub many : length ls ≡ length gs
+  many = ap length (held .same-labels) ∙ length-map gs (λ g. g .label)
+
+  -- the words of the rung at place k stand from its offset on
+  pub rung-at : (k : ℕ) → k < length gs → (a : Apart gs k) → RungAt ws (getD os k 0) (a .rung)
+  unfolding encode flatMap
+  rung-at k h a = record {
+    fits = all-head (rungAll inputFits outputFits) (a .rung) (drop (suc k) gs)
+        (rw (a .here) at (all-second (rungAll inputFits outputFits) (take k gs) (drop k gs) (rw (take-append-drop k gs) (held .fits))));
+    rest = flatMap rungWords (drop (suc k) gs);
+    words =
+        let o = ap (λ l. getD l k 0) (held .same-offsets) ∙ offset-at (λ g. g .label) (λ g. length (rungWords g)) 0 k gs h ∙ zero-add _ in
+        ap (λ n. drop n ws) o ∙ ap (λ l. drop (sizes (λ g. length (rungWords g)) (take k gs)) l) (held .words)
+        ∙ drop-pieces rungWords gs (take k gs) (drop k gs) (sym (take-append-drop k gs)) ∙ rw (a .here);
+  }
+
+-- ---- one step of the scan
+
+scan-step : (gs rest : Ladder) (n k : ℕ) (g : Rung) (s : State)
+    → scanFrom gs (suc n) k (g ∷ rest) s ≡ scanFrom gs n (k + 1) (follow gs rest (runRung g s)) (left (runRung g s))
+unfolding scanFrom
+scan-step gs rest n k g s = refl
+
+scan-past : (gs rest : Ladder) (n k : ℕ) (g : Rung) (s : State) (x : Run) → runRung g s ≡ x
+    → scanFrom gs (suc n) k (g ∷ rest) s ≡ scanFrom gs n (k + 1) (follow gs rest x) (left x)
+scan-past gs rest n k g s x e = scan-step gs rest n k g s ∙ ap (λ y. scanFrom gs n (k + 1) (follow gs rest y) (left y)) e
+
+-- ---- the loop's invariant
+
+pub record Scanning (ws ls os t : List ℕ) (w : ℕ) (u : List ℕ) (entered rung : ℕ) : Type 0 where
+  pub same : (gs : Ladder) → LadderHeld ws ls os gs → (vars : ℕ)
+      → scanFrom gs (w - entered) entered (drop rung gs) (record { vars = vars; bytes = u }) ≡ scanLadder gs w (record { vars = vars; bytes = t })
+  pub within : entered ≤ w
+  pub long : length u ≡ length t
+
+pub scanning-first : (ws ls os t : List ℕ) (w : ℕ) → Scanning ws ls os t w t 0 0
+unfolding scanLadder
+scanning-first ws ls os t w = record { same = λ gs held vars. rw sub-zero refl; within = omega arith; long = refl }
+
+module _ (ws ls os t : List ℕ) (w : ℕ) (u : List ℕ) (entered rung : ℕ) (s : Scanning ws ls os t w u entered rung) where
+  done : (gs : Ladder) → LadderHeld ws ls os gs → (vars : ℕ) (x : LadderScan)
+      → scanFrom gs (w - entered) entered (drop rung gs) (record { vars = vars; bytes = u }) ≡ x → x ≡ scanLadder gs w (record { vars = vars; bytes = t })
+  done gs held vars x e = sym e ∙ s .same gs held vars
+
+  pub scan-ended : length ls ≤ rung → Scanned ws ls os t w (EndedCase (record { rungs = entered })) u
+  unfolding scanFrom scanEnds answerOf
+  scan-ended h = record {
+    same = λ gs held vars.
+        let m = many ws ls os gs held in
+        let none : drop rung gs ≡ [] = drop-of-length-le gs {i = rung} (omega arith) in
+        let e = done gs held vars (record { halt = Ended; rungs = entered; state = record { vars = vars; bytes = u } }) (rw none (over gs vars (w - entered))) in
+        record { answer = ap (λ x. scanEnds x .answer) e; same-table = ap (λ x. scanEnds x .table) e };
+  }
+    where
+      over : (gs : Ladder) (vars n : ℕ) → scanFrom gs n entered [] (record { vars = vars; bytes = u }) ≡ record { halt = Ended; rungs = entered; state = record { vars = vars; bytes = u } }
+      over gs vars zero = refl
+      over gs vars (suc n) = refl
+
+  pub scan-stopped : rung < length ls → entered ≡ w → Scanned ws ls os t w (StoppedCase (record { rungs = entered })) u
+  unfolding scanFrom scanEnds answerOf
+  scan-stopped h z = record {
+    same = λ gs held vars.
+        let m = many ws ls os gs held in
+        let a = apart gs rung (omega arith) in
+        let n : w - entered ≡ 0 = omega arith in
+        let e = done gs held vars (record { halt = Stopped; rungs = entered; state = record { vars = vars; bytes = u } }) (rw (n, a .here) refl) in
+        record { answer = ap (λ x. scanEnds x .answer) e; same-table = ap (λ x. scanEnds x .table) e };
+  }
+
+  module _ (h : rung < length ls) (z : entered ≡ w → ⊥) (start : ℕ) (at : start ≡ getD os rung 0) (r : Ran) (v : List ℕ) (run : RungRun ws start u r v) (stays : length v ≡ length u) where
+    -- the scan after the rung
+    after : (gs : Ladder) → LadderHeld ws ls os gs → (vars : ℕ)
+        → scanFrom gs (w - (entered + 1)) (entered + 1) (follow gs (drop (suc rung) gs) (runOf r (record { vars = vars; bytes = v }))) (left (runOf r (record { vars = vars; bytes = v })))
+        ≡ scanLadder gs w (record { vars = vars; bytes = t })
+    after gs held vars =
+        let m = many ws ls os gs held in
+        let a = apart gs rung (omega arith) in
+        let d = run .done (a .rung) (rw at (rung-at ws ls os gs held rung (omega arith) a)) .same vars in
+        let b = s .within in
+        let n : w - entered ≡ suc (w - (entered + 1)) = omega arith in
+        sym (ap (λ n. scanFrom gs n entered (drop rung gs) (record { vars = vars; bytes = u })) n
+        ∙ ap (λ l. scanFrom gs (suc (w - (entered + 1))) entered l (record { vars = vars; bytes = u })) (a .here)
+        ∙ scan-past gs (drop (suc rung) gs) (w - (entered + 1)) entered (a .rung) (record { vars = vars; bytes = u }) (runOf r (record { vars = vars; bytes = v })) d)
+        ∙ s .same gs held vars
+
+    pub scan-onward : (n : ℕ) → r ≡ Onward n → Scanning ws ls os t w v (entered + 1) (rung + 1)
+    unfolding runOf follow left
+    scan-onward n q = let b = s .within in record {
+      same = λ gs held vars. ap (λ k. scanFrom gs (w - (entered + 1)) (entered + 1) (drop k gs) (record { vars = vars; bytes = v })) (add-one rung)
+          ∙ (rw q at (after gs held vars));
+      within = omega arith;
+      long = stays ∙ s .long;
+    }
+
+    pub scan-jumped : (l found : ℕ) → r ≡ Jumped l → found ≡ search l ls → Scanning ws ls os t w v (entered + 1) found
+    unfolding runOf follow left from
+    scan-jumped l found q f = let b = s .within in record {
+      same = λ gs held vars. rw (f, held .same-labels) (rw q at (after gs held vars));
+      within = omega arith;
+      long = stays ∙ s .long;
+    }

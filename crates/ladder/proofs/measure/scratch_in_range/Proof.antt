@@ -1,0 +1,62 @@
+-- `ladder::measure::scratch_in_range` meets its contract. The loop's invariant: what is left decides for all. Assumes nothing.
+use Prim.Native.Nat.{_-_}
+use native.Mathlib.Omega.{arith}
+use mathlib.Core.Path.{refl}
+use lib.ListN.{length}
+use borrow.Author.Needs.{needs}
+use Rattle.ladder.proofs.Measuring.{Measuring, measuring-first, measured-all, measured-more, measured-few}
+use Rattle.ladder.proofs.measure.scratch_in_range.Statement.{statement}
+use Rattle.ladder.proofs.measure.scratch_in_range.Tie as tie
+
+abbrev Inv-loop : tie.InvT-loop
+Inv-loop words offsets k₀ k = Measuring words offsets k
+
+abbrev μ-loop : tie.MeasureT-loop
+μ-loop words offsets k₀ k = length offsets - k
+
+loop-holds : tie.Need-loop-holds Inv-loop μ-loop
+loop-holds c = measuring-first _ _
+
+mul-start : tie.Need-mul-start Inv-loop μ-loop
+mul-start c = search needs
+
+shared-slice-read-start : tie.Need-shared-slice-read-start Inv-loop μ-loop
+shared-slice-read-start c = search needs
+
+cast-start : tie.Need-cast-start Inv-loop μ-loop
+cast-start c = omega (arith, c .shared-slice-known3 .given (c .before .before .loop .k))
+
+rung-scratch-requires : tie.Need-rung-scratch-requires Inv-loop μ-loop
+rung-scratch-requires c κs = search needs
+
+returns : tie.Need-returns Inv-loop μ-loop
+returns c = measured-more _ _ _ (c .before .before .before .before .loop .inv) (c .before .before .before .loop-test .taken) _ refl _ (c .before .rung-scratch .ensures) (c .if1 .taken)
+
+add-k : tie.Need-add-k Inv-loop μ-loop
+add-k c = omega arith
+
+loop-less : tie.Need-loop-less Inv-loop μ-loop
+loop-less c = omega arith
+
+loop-again : tie.Need-loop-again Inv-loop μ-loop
+loop-again c = measured-few _ _ _ (c .before .before .before .before .loop .inv) (c .before .before .before .loop-test .taken) _ refl _ (c .before .rung-scratch .ensures) (c .if1 .left)
+
+returns-2 : tie.Need-returns-2 Inv-loop μ-loop
+returns-2 c = measured-all _ _ _ (c .before .loop .inv) (c .loop-test .left)
+
+pub scratch-in-range-spec : {M : Type 1} → statement M
+scratch-in-range-spec =
+    tie.close
+    (tie.spec
+    Inv-loop
+    μ-loop
+    loop-holds
+    mul-start
+    shared-slice-read-start
+    cast-start
+    rung-scratch-requires
+    returns
+    add-k
+    loop-less
+    loop-again
+    returns-2)

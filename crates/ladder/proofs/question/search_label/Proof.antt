@@ -1,0 +1,56 @@
+-- `ladder::question::search_label` meets its contract. The loop's invariant: the search from `i` on is the whole search. Assumes nothing.
+use Prim.Native.Nat.{_-_}
+use native.Mathlib.Omega.{arith}
+use lib.ListN.{length}
+use Rattle.ladder.proofs.Asked.{Searched, search-start, search-found, search-more, search-end}
+use Rattle.ladder.proofs.question.search_label.Statement.{statement}
+use Rattle.ladder.proofs.question.search_label.Tie as tie
+
+abbrev Inv-loop : tie.InvT-loop
+Inv-loop labels label i₀ i = Searched label labels i
+
+abbrev μ-loop : tie.MeasureT-loop
+μ-loop labels label i₀ i = length labels - i
+
+loop-holds : tie.Need-loop-holds Inv-loop μ-loop
+loop-holds c = search-start _ _
+
+mul-if1 : tie.Need-mul-if1 Inv-loop μ-loop
+mul-if1 c = omega arith
+
+shared-slice-read-if1 : tie.Need-shared-slice-read-if1 Inv-loop μ-loop
+shared-slice-read-if1 c = omega arith
+
+cast-if1 : tie.Need-cast-if1 Inv-loop μ-loop
+cast-if1 c = omega (arith, c .shared-slice-known .given (c .before .before .loop .i))
+
+returns : tie.Need-returns Inv-loop μ-loop
+returns c = search-found (c .before .before .before .loop .inv) (c .before .before .loop-test .taken) (c .if1 .taken)
+
+add-i : tie.Need-add-i Inv-loop μ-loop
+add-i c = omega arith
+
+loop-less : tie.Need-loop-less Inv-loop μ-loop
+loop-less c = omega arith
+
+loop-again : tie.Need-loop-again Inv-loop μ-loop
+loop-again c = search-more (c .before .before .before .loop .inv) (c .before .before .loop-test .taken) (c .if1 .left)
+
+returns-2 : tie.Need-returns-2 Inv-loop μ-loop
+returns-2 c = search-end (c .before .loop .inv) (c .loop-test .left)
+
+pub search-label-spec : {M : Type 1} → statement M
+search-label-spec =
+    tie.close
+    (tie.spec
+    Inv-loop
+    μ-loop
+    loop-holds
+    mul-if1
+    shared-slice-read-if1
+    cast-if1
+    returns
+    add-i
+    loop-less
+    loop-again
+    returns-2)

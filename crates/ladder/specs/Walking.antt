@@ -1,0 +1,79 @@
+-- What the functions that walk a rung's kept words promise to each other. Nothing here is a sentence of document 01. Assumes nothing.
+use Prim.Native.Nat.{ℕ, _+_, _≤_}
+use mathlib.Core.Path.{_≡_}
+use mathlib.Core.Bool.{Bool}
+use mathlib.Core.List.{List, _++_}
+use lib.Dec.{T}
+use lib.ListN.{length, drop}
+use Rattle.table.specs.State.{State}
+use Rattle.ladder.specs.Tree.{Front, Rear, Rung, frontAll, rearAll, rungAll}
+use Rattle.ladder.specs.Meaning.{workFront, Run, onward, jumped, runRear, runRung}
+use Rattle.ladder.specs.Kept.{frontWords, rearWords, rungWords, inputFits, outputFits}
+use Rattle.ladder.specs.Questions.{joinScratch, frontScratch, rearScratch, rungScratch}
+use Rattle.ladder.specs.declared.walk.Worked.{Worked}
+use Rattle.ladder.specs.declared.walk.Ran.{Ran}
+use Rattle.ladder.specs.declared.walk.Ran.the-variants.{Onward, Jumped}
+use Rattle.ladder.specs.declared.measure.Taken.{Taken}
+
+-- a tree's words stand in ws from `at` on, and its operands have 16 bits
+pub record FrontAt (ws : List ℕ) (at : ℕ) (f : Front) : Type 0 where
+  pub fits : T (frontAll inputFits f)
+  pub rest : List ℕ
+  pub words : drop at ws ≡ frontWords f ++ rest
+
+pub record RearAt (ws : List ℕ) (at : ℕ) (r : Rear) : Type 0 where
+  pub fits : T (rearAll inputFits outputFits r)
+  pub rest : List ℕ
+  pub words : drop at ws ≡ rearWords r ++ rest
+
+pub record RungAt (ws : List ℕ) (at : ℕ) (g : Rung) : Type 0 where
+  pub fits : T (rungAll inputFits outputFits g)
+  pub rest : List ℕ
+  pub words : drop at ws ≡ rungWords g ++ rest
+
+-- a front worked: its value, over any number of variables, and the state stays
+pub record FrontDone (at : ℕ) (t : List ℕ) (r : Worked) (f : Front) : Type 0 where
+  pub same : (vars : ℕ) → workFront f (record { vars = vars; bytes = t }) ≡ record { power = r .value; state = record { vars = vars; bytes = t } }
+  pub next : r .next ≡ at + length (frontWords f)
+
+pub record FrontWorked (ws : List ℕ) (at : ℕ) (t : List ℕ) (r : Worked) : Type 0 where
+  pub onward : at ≤ r .next
+  pub done : (f : Front) → FrontAt ws at f → FrontDone at t r f
+
+-- the run that an answer tells, with the state that it left
+unfoldable pub runOf : Ran → State → Run
+runOf (Onward n) s = onward s
+runOf (Jumped l) s = jumped l s
+
+-- a run of a tree with n words: what it leaves, and where it ends if it takes no jump
+pub record RunDone (at n : ℕ) (run : State → Run) (t : List ℕ) (r : Ran) (u : List ℕ) : Type 0 where
+  pub same : (vars : ℕ) → run (record { vars = vars; bytes = t }) ≡ runOf r (record { vars = vars; bytes = u })
+  pub next : (e : ℕ) → r ≡ Onward e → e ≡ at + n
+
+pub record RearRun (ws : List ℕ) (at : ℕ) (power : Bool) (t : List ℕ) (r : Ran) (u : List ℕ) : Type 0 where
+  pub onward : (e : ℕ) → r ≡ Onward e → at ≤ e
+  pub done : (k : Rear) → RearAt ws at k → RunDone at (length (rearWords k)) (runRear k power) t r u
+
+pub record RungRun (ws : List ℕ) (at : ℕ) (t : List ℕ) (r : Ran) (u : List ℕ) : Type 0 where
+  pub done : (g : Rung) → RungAt ws at g → RunDone at (length (rungWords g)) (runRung g) t r u
+
+-- what a front takes where it is joined: none, or what it takes through td
+pub record JoinMeasured (ws : List ℕ) (at through r : ℕ) : Type 0 where
+  pub few : r ≤ through
+  pub same : (f : Front) → FrontAt ws at f → (n : ℕ) → through ≡ n + 1 → r ≡ joinScratch f n
+
+-- the measure of a tree with n words, and the position after it
+pub record TakenDone (at n bytes : ℕ) (r : Taken) : Type 0 where
+  pub same : r .bytes ≡ bytes
+  pub next : r .next ≡ at + n
+
+pub record FrontMeasured (ws : List ℕ) (at : ℕ) (r : Taken) : Type 0 where
+  pub onward : at + r .bytes ≤ r .next
+  pub done : (f : Front) → FrontAt ws at f → TakenDone at (length (frontWords f)) (frontScratch f) r
+
+pub record RearMeasured (ws : List ℕ) (at : ℕ) (r : Taken) : Type 0 where
+  pub onward : at + r .bytes ≤ r .next
+  pub done : (k : Rear) → RearAt ws at k → TakenDone at (length (rearWords k)) (rearScratch k) r
+
+pub record RungMeasured (ws : List ℕ) (at r : ℕ) : Type 0 where
+  pub same : (g : Rung) → RungAt ws at g → r ≡ rungScratch g

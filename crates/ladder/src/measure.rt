@@ -1,0 +1,107 @@
+// The scratch that a rung's code takes, along the prefix order of its kept words: question 9.
+ghost use mathlib.Core.Path.{_≡_};
+ghost use Prim.Native.Nat.{max};
+ghost use Rattle.ladder.specs.Walking.{JoinMeasured, FrontMeasured, RearMeasured, RungMeasured};
+ghost use Rattle.ladder.specs.Scanned.{ScratchAsked};
+use crate::walk;
+
+// Scratch t0 to t31.
+const SCRATCH_BYTES: usize = 32;
+
+// The scratch bytes that a part takes, and the position after its words.
+pub struct Taken {
+    pub bytes: usize,
+    pub next: usize,
+}
+
+// What the front whose words begin at a position takes where it is joined: none if it is a contact, and else `through`.
+pub fn join_scratch(words: &[u32], at: usize, through: usize) -> usize
+    ensures { λ r. ⌜ JoinMeasured (now (words .entry)) at through r ⌝ }
+{
+    match walk::word_at(words, at) / 65536 {
+        1 | 2 => 0,
+        _ => through,
+    }
+}
+
+// The front whose words begin at a position.
+pub fn front_scratch(words: &[u32], at: usize) -> Taken
+    ensures { λ r. ⌜ FrontMeasured (now (words .entry)) at r ⌝ }
+{
+    match walk::word_at(words, at) / 65536 {
+        1 | 2 => Taken {
+            bytes: 0,
+            next: at + 1,
+        },
+        3 | 4 => {
+            let first = front_scratch(words, at + 1);
+            let second = front_scratch(words, first.next);
+            let joined = join_scratch(words, first.next, second.bytes + 1);
+            Taken {
+                bytes: larger(first.bytes, joined),
+                next: second.next,
+            }
+        }
+        _ => Taken { bytes: 0, next: at },
+    }
+}
+
+// The rear whose words begin at a position.
+pub fn rear_scratch(words: &[u32], at: usize) -> Taken
+    ensures { λ r. ⌜ RearMeasured (now (words .entry)) at r ⌝ }
+{
+    match walk::word_at(words, at) / 65536 {
+        5 | 6 | 7 | 8 => Taken {
+            bytes: 0,
+            next: at + 1,
+        },
+        9 => {
+            let front = front_scratch(words, at + 1);
+            let joined = join_scratch(words, at + 1, front.bytes + 1);
+            let rear = rear_scratch(words, front.next);
+            Taken {
+                bytes: larger(joined, rear.bytes),
+                next: rear.next,
+            }
+        }
+        10 => {
+            let first = rear_scratch(words, at + 1);
+            let second = rear_scratch(words, first.next);
+            Taken {
+                bytes: larger(first.bytes + 1, second.bytes),
+                next: second.next,
+            }
+        }
+        _ => Taken { bytes: 0, next: at },
+    }
+}
+
+// The rung whose words begin at a position.
+pub fn rung_scratch(words: &[u32], at: usize) -> usize
+    ensures { λ r. ⌜ RungMeasured (now (words .entry)) at r ⌝ }
+{
+    let front = front_scratch(words, at);
+    let rear = rear_scratch(words, front.next);
+    larger(front.bytes, rear.bytes)
+}
+
+pub fn larger(a: usize, b: usize) -> usize
+    ensures { λ r. ⌜ r ≡ max a b ⌝ }
+{
+    if a < b { b } else { a }
+}
+
+// Question 9.
+pub fn scratch_in_range(words: &[u32], offsets: &[u32]) -> bool
+    ensures { λ r. ⌜ ScratchAsked (now (words .entry)) (now (offsets .entry)) r ⌝ }
+{
+    let mut k: usize = 0;
+    while k < offsets.len() {
+        let start = offsets[k] as usize;
+        if SCRATCH_BYTES < rung_scratch(words, start) {
+            return false;
+        }
+        k += 1;
+    }
+    true
+}

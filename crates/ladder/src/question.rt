@@ -1,0 +1,173 @@
+// Questions 5 to 8. The words of a rung are those from the end of the rung before it on, as many as its length says.
+ghost use mathlib.Core.Path.{_≡_};
+ghost use Rattle.questions.specs.Tests.{all};
+ghost use Rattle.rungs.specs.Records.{search};
+ghost use Rattle.ladder.specs.Asking.{RungEnd, lengthInRange, namesVariable, namesLabel, wordBelow, wordLeads, SizesAsked, VariablesAsked, LabelsAsked, JumpsAsked};
+use crate::Found;
+
+// At most 256 rungs, 128 words a rung, 8,192 words.
+const MOST_RUNGS: usize = 256;
+
+const MOST_RUNG_WORDS: u32 = 128;
+
+const MOST_WORDS: usize = 8192;
+
+// Where the rung of length n from `from` on ends, and `last` where that lies past it.
+fn rung_end(from: usize, n: u32, last: usize) -> usize
+    ensures { λ r. ⌜ RungEnd from n last r ⌝ }
+{
+    let size = n as usize;
+    if last < size {
+        return last;
+    }
+    if last - size < from {
+        return last;
+    }
+    from + size
+}
+
+fn lengths_in_range(lengths: &[u32]) -> bool
+    ensures { λ r. ⌜ r ≡ all lengthInRange (now (lengths .entry)) ⌝ }
+{
+    let mut i: usize = 0;
+    while i < lengths.len() {
+        if MOST_RUNG_WORDS < lengths[i] {
+            return false;
+        }
+        i += 1;
+    }
+    true
+}
+
+// Question 5.
+pub fn sizes_in_range(words: &[u32], lengths: &[u32]) -> bool
+    ensures { λ r. ⌜ SizesAsked (now (words .entry)) (now (lengths .entry)) r ⌝ }
+{
+    if MOST_RUNGS < lengths.len() {
+        return false;
+    }
+    if !lengths_in_range(lengths) {
+        return false;
+    }
+    words.len() <= MOST_WORDS
+}
+
+fn names_variable(kind: u32) -> bool
+    ensures { λ r. ⌜ r ≡ namesVariable kind ⌝ }
+{
+    (kind == 1) | (kind == 2) | (kind == 5) | (kind == 6)
+}
+
+fn word_below(vars: u32, word: u32) -> bool
+    ensures { λ r. ⌜ r ≡ wordBelow vars word ⌝ }
+{
+    if names_variable(word / 65536) {
+        return word % 65536 < vars;
+    }
+    true
+}
+
+fn rung_below(vars: u32, words: &[u32]) -> bool
+    ensures { λ r. ⌜ r ≡ all (wordBelow vars) (now (words .entry)) ⌝ }
+{
+    let mut i: usize = 0;
+    while i < words.len() {
+        if !word_below(vars, words[i]) {
+            return false;
+        }
+        i += 1;
+    }
+    true
+}
+
+// Question 6: the first rung with a variable that is not below `vars`.
+pub fn unknown_variable(vars: u32, words: &[u32], lengths: &[u32]) -> Found
+    ensures { λ r. ⌜ VariablesAsked vars (now (words .entry)) (now (lengths .entry)) r ⌝ }
+{
+    let mut from: usize = 0;
+    let mut k: usize = 0;
+    while k < lengths.len() {
+        let to = rung_end(from, lengths[k], words.len());
+        if !rung_below(vars, &words[from..to]) {
+            return Found::At(k);
+        }
+        from = to;
+        k += 1;
+    }
+    Found::Nothing
+}
+
+// Question 7: the first rung whose label an earlier one has.
+pub fn repeated_label(labels: &[u16]) -> Found
+    ensures { λ r. ⌜ LabelsAsked (now (labels .entry)) r ⌝ }
+{
+    let mut found = Found::Nothing;
+    'rungs: for j in 0..labels.len() {
+        for i in 0..j {
+            if labels[i] == labels[j] {
+                found = Found::At(j);
+                break 'rungs;
+            }
+        }
+    }
+    found
+}
+
+// The place of the first of some labels that is `label`, and their number where none is.
+pub fn search_label(labels: &[u16], label: u32) -> usize
+    ensures { λ r. ⌜ r ≡ search label (now (labels .entry)) ⌝ }
+{
+    let mut i: usize = 0;
+    while i < labels.len() {
+        if labels[i] as u32 == label {
+            return i;
+        }
+        i += 1;
+    }
+    i
+}
+
+fn names_label(kind: u32) -> bool
+    ensures { λ r. ⌜ r ≡ namesLabel kind ⌝ }
+{
+    (kind == 7) | (kind == 8)
+}
+
+fn word_leads(labels: &[u16], word: u32) -> bool
+    ensures { λ r. ⌜ r ≡ wordLeads (now (labels .entry)) word ⌝ }
+{
+    if names_label(word / 65536) {
+        return search_label(labels, word % 65536) < labels.len();
+    }
+    true
+}
+
+fn rung_leads(labels: &[u16], words: &[u32]) -> bool
+    ensures { λ r. ⌜ r ≡ all (wordLeads (now (labels .entry))) (now (words .entry)) ⌝ }
+{
+    let mut i: usize = 0;
+    while i < words.len() {
+        if !word_leads(labels, words[i]) {
+            return false;
+        }
+        i += 1;
+    }
+    true
+}
+
+// Question 8: the first rung with a jump to a label that no rung has.
+pub fn missing_label(labels: &[u16], words: &[u32], lengths: &[u32]) -> Found
+    ensures { λ r. ⌜ JumpsAsked (now (labels .entry)) (now (words .entry)) (now (lengths .entry)) r ⌝ }
+{
+    let mut from: usize = 0;
+    let mut k: usize = 0;
+    while k < lengths.len() {
+        let to = rung_end(from, lengths[k], words.len());
+        if !rung_leads(labels, &words[from..to]) {
+            return Found::At(k);
+        }
+        from = to;
+        k += 1;
+    }
+    Found::Nothing
+}

@@ -1,0 +1,111 @@
+// A rung worked along the prefix order of its kept words: a tree is its root word, then its first part, then its second.
+// Words that hold no tree are passed over from the first that has no place there.
+ghost use mathlib.Core.Path.{_≡_};
+ghost use lib.ListN.{getD};
+ghost use Rattle.ladder.specs.Walking.{FrontWorked, RearRun, RungRun};
+
+// A front's value, and the position after its words.
+pub struct Worked {
+    pub value: bool,
+    pub next: usize,
+}
+
+// Past a rear, at the position after its words, or away by a jump to a label.
+pub enum Ran {
+    Onward(usize),
+    Jumped(u32),
+}
+
+// The word at a position, 0 past the end.
+pub fn word_at(words: &[u32], at: usize) -> u32
+    ensures { λ r. ⌜ r ≡ getD (now (words .entry)) at 0 ⌝ }
+{
+    if at < words.len() { words[at] } else { 0 }
+}
+
+// The front whose words begin at a position.
+pub fn front_at(words: &[u32], at: usize, table: &[u8]) -> Worked
+    ensures { λ r. ⌜ FrontWorked (now (words .entry)) at (now (table .entry)) r ⌝ }
+{
+    let word = word_at(words, at);
+    let operand = (word % 65536) as usize;
+    match word / 65536 {
+        1 => Worked {
+            value: table::value(table, operand),
+            next: at + 1,
+        },
+        2 => Worked {
+            value: !table::value(table, operand),
+            next: at + 1,
+        },
+        3 => {
+            let first = front_at(words, at + 1, table);
+            let second = front_at(words, first.next, table);
+            Worked {
+                value: first.value & second.value,
+                next: second.next,
+            }
+        }
+        4 => {
+            let first = front_at(words, at + 1, table);
+            let second = front_at(words, first.next, table);
+            Worked {
+                value: first.value | second.value,
+                next: second.next,
+            }
+        }
+        _ => Worked {
+            value: false,
+            next: at,
+        },
+    }
+}
+
+// The rear whose words begin at a position, with a power.
+pub fn rear_at(words: &[u32], at: usize, power: bool, table: &mut [u8]) -> Ran
+    ensures { λ r. ⌜ RearRun (now (words .entry)) at power (now (table .entry)) r (now (table .exit)) ⌝ }
+{
+    let word = word_at(words, at);
+    let operand = word % 65536;
+    match word / 65536 {
+        5 => {
+            table::write(table, operand as usize, power);
+            Ran::Onward(at + 1)
+        }
+        6 => {
+            table::write(table, operand as usize, !power);
+            Ran::Onward(at + 1)
+        }
+        7 => {
+            if power {
+                Ran::Jumped(operand)
+            } else {
+                Ran::Onward(at + 1)
+            }
+        }
+        8 => {
+            if power {
+                Ran::Onward(at + 1)
+            } else {
+                Ran::Jumped(operand)
+            }
+        }
+        9 => {
+            let front = front_at(words, at + 1, table);
+            rear_at(words, front.next, power & front.value, table)
+        }
+        10 => match rear_at(words, at + 1, power, table) {
+            Ran::Onward(next) => rear_at(words, next, power, table),
+            Ran::Jumped(label) => Ran::Jumped(label),
+        },
+        _ => Ran::Onward(at),
+    }
+}
+
+// The rung whose words begin at a position.
+pub fn run_rung(words: &[u32], at: usize, table: &mut [u8]) -> Ran
+    ensures { λ r. ⌜ RungRun (now (words .entry)) at (now (table .entry)) r (now (table .exit)) ⌝ }
+{
+    let front = front_at(words, at, table);
+    rear_at(words, front.next, front.value, table)
+}
