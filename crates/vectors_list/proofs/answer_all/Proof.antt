@@ -13,6 +13,9 @@ Inv-loop chunk₀ room₀ state₀ left₀ chunk room state left = (left ≤ 400
 abbrev μ-loop : tie.MeasureT-loop
 μ-loop chunk₀ room₀ state₀ left₀ chunk room state left = left
 
+begin-requires : tie.Need-begin-requires Inv-loop μ-loop
+begin-requires c κs = search needs
+
 loop-holds : tie.Need-loop-holds Inv-loop μ-loop
 loop-holds c = (omega arith, refl, refl)
 
@@ -64,6 +67,7 @@ answer-all-spec =
     (tie.spec
     Inv-loop
     μ-loop
+    begin-requires
     loop-holds
     request-requires
     same-length

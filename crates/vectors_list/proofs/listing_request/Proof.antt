@@ -8,20 +8,20 @@ use Rattle.vectors_list.proofs.listing_request.Tie as tie
 blank-listing-requires : tie.Need-blank-listing-requires
 blank-listing-requires c κs = search needs
 
-slice-aggregate-read-list : tie.Need-slice-aggregate-read-list
-slice-aggregate-read-list c = search needs
+slice-aggregate-read-lent : tie.Need-slice-aggregate-read-lent
+slice-aggregate-read-lent c = search needs
 
-slice-aggregate-read-list-2 : tie.Need-slice-aggregate-read-list-2
-slice-aggregate-read-list-2 c = search needs
+slice-aggregate-read-lent-2 : tie.Need-slice-aggregate-read-lent-2
+slice-aggregate-read-lent-2 c = search needs
 
-slice-aggregate-read-list-3 : tie.Need-slice-aggregate-read-list-3
-slice-aggregate-read-list-3 c = search needs
+slice-aggregate-read-lent-3 : tie.Need-slice-aggregate-read-lent-3
+slice-aggregate-read-lent-3 c = search needs
 
-slice-aggregate-read-list-4 : tie.Need-slice-aggregate-read-list-4
-slice-aggregate-read-list-4 c = search needs
+slice-aggregate-read-lent-4 : tie.Need-slice-aggregate-read-lent-4
+slice-aggregate-read-lent-4 c = search needs
 
-read-list-requires : tie.Need-read-list-requires
-read-list-requires c κs = search needs
+read-lent-requires : tie.Need-read-lent-requires
+read-lent-requires c κs = search needs
 
 limited-requires : tie.Need-limited-requires
 limited-requires c κs = search needs
@@ -76,11 +76,11 @@ listing-request-spec =
     tie.close
     (tie.spec
     blank-listing-requires
-    slice-aggregate-read-list
-    slice-aggregate-read-list-2
-    slice-aggregate-read-list-3
-    slice-aggregate-read-list-4
-    read-list-requires
+    slice-aggregate-read-lent
+    slice-aggregate-read-lent-2
+    slice-aggregate-read-lent-3
+    slice-aggregate-read-lent-4
+    read-lent-requires
     limited-requires
     is-line-end-requires
     refuse-requires

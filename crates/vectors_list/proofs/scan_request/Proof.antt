@@ -6,20 +6,20 @@ use borrow.Author.Needs.{needs}
 use Rattle.vectors_list.proofs.scan_request.Statement.{statement}
 use Rattle.vectors_list.proofs.scan_request.Tie as tie
 
-slice-aggregate-read-list : tie.Need-slice-aggregate-read-list
-slice-aggregate-read-list c = search needs
+slice-aggregate-read-lent : tie.Need-slice-aggregate-read-lent
+slice-aggregate-read-lent c = search needs
 
-slice-aggregate-read-list-2 : tie.Need-slice-aggregate-read-list-2
-slice-aggregate-read-list-2 c = search needs
+slice-aggregate-read-lent-2 : tie.Need-slice-aggregate-read-lent-2
+slice-aggregate-read-lent-2 c = search needs
 
-slice-aggregate-read-list-3 : tie.Need-slice-aggregate-read-list-3
-slice-aggregate-read-list-3 c = search needs
+slice-aggregate-read-lent-3 : tie.Need-slice-aggregate-read-lent-3
+slice-aggregate-read-lent-3 c = search needs
 
-slice-aggregate-read-list-4 : tie.Need-slice-aggregate-read-list-4
-slice-aggregate-read-list-4 c = search needs
+slice-aggregate-read-lent-4 : tie.Need-slice-aggregate-read-lent-4
+slice-aggregate-read-lent-4 c = search needs
 
-read-list-requires : tie.Need-read-list-requires
-read-list-requires c κs = search needs
+read-lent-requires : tie.Need-read-lent-requires
+read-lent-requires c κs = search needs
 
 slice-aggregate-read-table : tie.Need-slice-aggregate-read-table
 slice-aggregate-read-table c = search needs
@@ -64,7 +64,7 @@ answer-scan-requires : tie.Need-answer-scan-requires
 answer-scan-requires c κs = search needs
 
 same-length-2 : tie.Need-same-length-2
-same-length-2 c = omega (arith, c .before .before .before .before .before .before .before .before .before .before .before .before .before .before .more .kept, c .before .before .before .before .before .before .before .before .before .before .before .before .before .before .before .before .before .before .before .read-table .kept, c .before .before .before .before .before .before .before .before .before .before .before .before .before .before .before .before .before .before .before .before .before .before .before .before .before .before .before .before .read-list .kept)
+same-length-2 c = omega (arith, c .before .before .before .before .before .before .before .before .before .before .before .before .before .before .more .kept, c .before .before .before .before .before .before .before .before .before .before .before .before .before .before .before .before .before .before .before .read-table .kept, c .before .before .before .before .before .before .before .before .before .before .before .before .before .before .before .before .before .before .before .before .before .before .before .before .before .before .before .before .read-lent .kept)
 
 same-length-3 : tie.Need-same-length-3
 same-length-3 c = search needs
@@ -76,11 +76,11 @@ pub scan-request-spec : {M : Type 1} → statement M
 scan-request-spec =
     tie.close
     (tie.spec
-    slice-aggregate-read-list
-    slice-aggregate-read-list-2
-    slice-aggregate-read-list-3
-    slice-aggregate-read-list-4
-    read-list-requires
+    slice-aggregate-read-lent
+    slice-aggregate-read-lent-2
+    slice-aggregate-read-lent-3
+    slice-aggregate-read-lent-4
+    read-lent-requires
     slice-aggregate-read-table
     read-table-requires
     more-requires

@@ -1,11 +1,11 @@
--- `vectors_list::put_text` is safe and ends. Assumes nothing.
+-- `requests::output::put_text` is safe and ends. Assumes nothing.
 use mathlib.Core.Path.{_≡_, refl}
 use Prim.Native.Nat.{_-_, _≤_}
 use lib.ListN.{length}
 use native.Mathlib.Omega.{arith}
 use borrow.Author.Needs.{needs}
-use Rattle.vectors_list.proofs.put_text.Statement.{statement}
-use Rattle.vectors_list.proofs.put_text.Tie as tie
+use Rattle.requests.proofs.output.put_text.Statement.{statement}
+use Rattle.requests.proofs.output.put_text.Tie as tie
 
 abbrev Inv-loop : tie.InvT-loop
 Inv-loop room₀ from text placed₀ i₀ room placed i = (i ≤ length text) × (length room ≡ length room₀)

@@ -1,11 +1,11 @@
--- `vectors_list::read_records` is safe and ends. Assumes nothing.
+-- `requests::input::read_records` is safe and ends. Assumes nothing.
 use mathlib.Core.Path.{_≡_, refl}
 use Prim.Native.Nat.{_-_, _≤_}
 use lib.ListN.{length}
 use native.Mathlib.Omega.{arith}
 use borrow.Author.Needs.{needs}
-use Rattle.vectors_list.proofs.read_records.Statement.{statement}
-use Rattle.vectors_list.proofs.read_records.Tie as tie
+use Rattle.requests.proofs.input.read_records.Statement.{statement}
+use Rattle.requests.proofs.input.read_records.Tie as tie
 
 abbrev Inv-loop : tie.InvT-loop
 Inv-loop chunk₀ labels₀ offsets₀ lengths₀ n input₀ i₀ chunk labels offsets lengths input i = (i ≤ n) × (length chunk ≡ length chunk₀) × (length labels ≡ length labels₀) × (length offsets ≡ length offsets₀) × (length lengths ≡ length lengths₀)

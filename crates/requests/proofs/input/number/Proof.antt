@@ -1,11 +1,11 @@
--- `vectors_list::number` is safe and ends. Assumes nothing.
+-- `requests::input::number` is safe and ends. Assumes nothing.
 use mathlib.Core.Path.{_≡_, refl}
 use Prim.Native.Nat.{_-_, _<_, _≤_}
 use lib.ListN.{length}
 use native.Mathlib.Omega.{arith}
 use borrow.Author.Needs.{needs}
-use Rattle.vectors_list.proofs.number.Statement.{statement}
-use Rattle.vectors_list.proofs.number.Tie as tie
+use Rattle.requests.proofs.input.number.Statement.{statement}
+use Rattle.requests.proofs.input.number.Tie as tie
 
 abbrev Inv-loop : tie.InvT-loop
 Inv-loop chunk₀ at₀ end₀ value₀ digits₀ chunk at end value digits = (length chunk ≡ length chunk₀) × (value < 4294967296) × (digits ≤ 4000000000)

@@ -1,9 +1,9 @@
--- `vectors_list::reach` is safe and ends. Assumes nothing.
+-- `requests::output::reach` is safe and ends. Assumes nothing.
 use Prim.Native.Nat.{_≤_}
 use lib.ListN.{length}
 use native.Mathlib.Omega.{arith}
-use Rattle.vectors_list.proofs.reach.Statement.{statement}
-use Rattle.vectors_list.proofs.reach.Tie as tie
+use Rattle.requests.proofs.output.reach.Statement.{statement}
+use Rattle.requests.proofs.output.reach.Tie as tie
 
 abbrev Inv-loop : tie.InvT-loop
 Inv-loop bytes k₀ k = k ≤ length bytes

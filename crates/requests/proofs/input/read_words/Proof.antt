@@ -1,26 +1,26 @@
--- `vectors_list::read_bytes` is safe and ends. Assumes nothing.
+-- `requests::input::read_words` is safe and ends. Assumes nothing.
 use mathlib.Core.Path.{_≡_, refl}
 use Prim.Native.Nat.{_-_, _≤_}
 use lib.ListN.{length}
 use native.Mathlib.Omega.{arith}
 use borrow.Author.Needs.{needs}
-use Rattle.vectors_list.proofs.read_bytes.Statement.{statement}
-use Rattle.vectors_list.proofs.read_bytes.Tie as tie
+use Rattle.requests.proofs.input.read_words.Statement.{statement}
+use Rattle.requests.proofs.input.read_words.Tie as tie
 
 abbrev Inv-loop : tie.InvT-loop
-Inv-loop chunk₀ bytes₀ n input₀ i₀ chunk bytes input i = (i ≤ n) × (length chunk ≡ length chunk₀) × (length bytes ≡ length bytes₀)
+Inv-loop chunk₀ words₀ n input₀ i₀ chunk words input i = (i ≤ n) × (length chunk ≡ length chunk₀) × (length words ≡ length words₀)
 
 abbrev μ-loop : tie.MeasureT-loop
-μ-loop chunk₀ bytes₀ n input₀ i₀ chunk bytes input i = n - i
+μ-loop chunk₀ words₀ n input₀ i₀ chunk words input i = n - i
 
 loop-holds : tie.Need-loop-holds Inv-loop μ-loop
 loop-holds c = (omega arith, refl, refl)
 
-limited-requires : tie.Need-limited-requires Inv-loop μ-loop
-limited-requires c κs = search needs
+more-requires : tie.Need-more-requires Inv-loop μ-loop
+more-requires c κs = search needs
 
-set-byte-requires : tie.Need-set-byte-requires Inv-loop μ-loop
-set-byte-requires c κs = search needs
+set-word-requires : tie.Need-set-word-requires Inv-loop μ-loop
+set-word-requires c κs = search needs
 
 add-i : tie.Need-add-i Inv-loop μ-loop
 add-i c = omega arith
@@ -40,15 +40,15 @@ same-length-2 c = omega arith
 returns : tie.Need-returns Inv-loop μ-loop
 returns c = tt
 
-pub read-bytes-spec : {M : Type 1} → statement M
-read-bytes-spec =
+pub read-words-spec : {M : Type 1} → statement M
+read-words-spec =
     tie.close
     (tie.spec
     Inv-loop
     μ-loop
     loop-holds
-    limited-requires
-    set-byte-requires
+    more-requires
+    set-word-requires
     add-i
     loop-less
     loop-again

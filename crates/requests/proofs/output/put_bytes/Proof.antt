@@ -1,11 +1,11 @@
--- `vectors_list::put_bytes` is safe and ends. Assumes nothing.
+-- `requests::output::put_bytes` is safe and ends. Assumes nothing.
 use mathlib.Core.Path.{_≡_, refl}
 use Prim.Native.Nat.{_-_, _≤_}
 use lib.ListN.{length}
 use native.Mathlib.Omega.{arith}
 use borrow.Author.Needs.{needs}
-use Rattle.vectors_list.proofs.put_bytes.Statement.{statement}
-use Rattle.vectors_list.proofs.put_bytes.Tie as tie
+use Rattle.requests.proofs.output.put_bytes.Statement.{statement}
+use Rattle.requests.proofs.output.put_bytes.Tie as tie
 
 abbrev Inv-loop : tie.InvT-loop
 Inv-loop room₀ from bytes n placed₀ i₀ room placed i = (i ≤ n) × (length room ≡ length room₀)

@@ -1,0 +1,126 @@
+// Writes numbers, one space apart, into a room that goes to standard output whenever it is full.
+ghost use Prim.Native.Nat.{_≤_};
+use crate::input::wide;
+use libc::STDOUT_FILENO;
+use questions::Refusal;
+
+// The numbers that begin an answer.
+pub struct Head {
+    pub ending: u64,
+    pub first: u64,
+    pub second: u64,
+}
+
+// Puts a byte into the room, which is written out first where it is full, and gives the place after it.
+pub fn put_byte(room: &mut [u8], placed: usize, byte: u8) -> usize {
+    if placed < room.len() {
+        room[placed] = byte;
+        return placed + 1;
+    }
+    io::write_all(STDOUT_FILENO, room);
+    if 0 < room.len() {
+        room[0] = byte;
+        return 1;
+    }
+    0
+}
+
+pub fn put_text(room: &mut [u8], from: usize, text: &[u8]) -> usize {
+    let mut placed = from;
+    let mut i: usize = 0;
+    while i < text.len() {
+        placed = put_byte(room, placed, text[i]);
+        i += 1;
+    }
+    placed
+}
+
+pub fn put_number(room: &mut [u8], placed: usize, value: u64) -> usize {
+    let mut digits = [0u8; 20];
+    let n = io::decimal(value, &mut digits);
+    put_text(room, placed, &digits[..n])
+}
+
+// A space and a number.
+pub fn put_next(room: &mut [u8], placed: usize, value: u64) -> usize {
+    let after = put_byte(room, placed, b' ');
+    put_number(room, after, value)
+}
+
+// The first n bytes, each after a space.
+pub fn put_bytes(room: &mut [u8], from: usize, bytes: &[u8], n: usize) -> usize {
+    let mut placed = from;
+    let mut i: usize = 0;
+    while i < n {
+        if bytes.len() <= i {
+            return placed;
+        }
+        placed = put_next(room, placed, wide(bytes[i]) as u64);
+        i += 1;
+    }
+    placed
+}
+
+// How far a buffer's bytes reach that are not the filling alone.
+fn reach(bytes: &[u8]) -> usize
+    ensures { λ r. do ⌜ r ≤ (← ⟦bytes.len()⟧ .entry) ⌝ }
+{
+    let mut k = bytes.len();
+    while 0 < k {
+        if bytes[k - 1] != 255 {
+            return k;
+        }
+        k -= 1;
+    }
+    0
+}
+
+// A buffer that was filled before the call: how many items, these, and how many follow.
+pub fn put_buffer(room: &mut [u8], placed: usize, bytes: &[u8]) -> usize {
+    let k = reach(bytes);
+    let counted = put_next(room, placed, k as u64);
+    let shown = put_bytes(room, counted, bytes, k);
+    put_next(room, shown, (bytes.len() - k) as u64)
+}
+
+fn refusal_number(refusal: Refusal) -> u64 {
+    match refusal {
+        Refusal::Variables => 1,
+        Refusal::TextLength => 2,
+        Refusal::Text { place: _ } => 3,
+        Refusal::Kept => 4,
+        Refusal::Sizes => 5,
+        Refusal::Variable { rung: _ } => 6,
+        Refusal::Label { rung: _ } => 7,
+        Refusal::Jump { rung: _ } => 8,
+        Refusal::Scratch => 9,
+        Refusal::List => 10,
+        Refusal::Table => 11,
+        Refusal::Watchdog => 12,
+        Refusal::Buffer => 13,
+    }
+}
+
+fn refusal_place(refusal: Refusal) -> u64 {
+    match refusal {
+        Refusal::Text { place } => place as u64,
+        Refusal::Variable { rung } => rung as u64,
+        Refusal::Label { rung } => rung as u64,
+        Refusal::Jump { rung } => rung as u64,
+        _ => 0,
+    }
+}
+
+pub fn refused_head(refusal: Refusal) -> Head {
+    Head {
+        ending: 0,
+        first: refusal_number(refusal),
+        second: refusal_place(refusal),
+    }
+}
+
+pub fn put_head(room: &mut [u8], placed: usize, head: Head) -> usize {
+    let ended = put_number(room, placed, head.ending);
+    let first = put_next(room, ended, head.first);
+    put_next(room, first, head.second)
+}
