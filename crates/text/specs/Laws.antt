@@ -1,0 +1,6 @@
+-- Proofs of what Theorems states. No contract cites these modules.
+pub mod Spans
+pub mod Fits
+pub mod Complete
+pub mod Local
+pub mod Place

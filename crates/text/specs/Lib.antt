@@ -1,0 +1,9 @@
+-- The text of a ladder. Definitions: Grammar and Place, which decide; Reader, Questions. Worked texts: Examples. What is proved of the definitions: Theorems.
+-- Laws, which no contract cites: Laws.
+pub mod Grammar
+pub mod Place
+pub mod Reader
+pub mod Questions
+pub mod Examples
+pub mod Theorems
+pub mod Laws
