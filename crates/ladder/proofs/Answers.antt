@@ -7,12 +7,11 @@ use mathlib.Core.Option.{none, some}
 use mathlib.Core.List.{List, [], _∷_, map}
 use lib.Dec.{leb}
 use lib.ListN.{length}
-use Rattle.questions.specs.Questions.{Answer, ask, askEach, firstNo, varsInRange, question1, question12, mostRungWatchdog}
+use Rattle.questions.specs.Questions.{ask, askEach, firstNo, varsInRange, question1, question12, mostRungWatchdog}
 use Rattle.questions.specs.Tests.{firstFailed}
 use Rattle.questions.specs.Refusals.{refusalOf, answerOf}
 use Rattle.questions.specs.declared.Refusal.{Refusal as RefusalCase}
 use Rattle.questions.specs.declared.Refusal.the-variants.{Variables, Kept as KeptCase, Sizes, Variable, Label, Jump, Scratch, Table, Watchdog}
-use Rattle.questions.specs.declared.Verdict.{Verdict}
 use Rattle.questions.specs.declared.Verdict.the-variants.{Accepted, Refused}
 use Rattle.table.specs.State.{State}
 use Rattle.table.specs.Questions.{tableInRange, question11}
@@ -182,15 +181,6 @@ module _ (vars : ℕ) (ws ls os ns : List ℕ) where
         rw (p .past .past .past .past .past .yes1, p .past .past .past .past .yes4, p .past .past .past .yes5, p .past .past .yes6, p .past .yes7, p .yes8, n)
 
 -- ---- Ladder scan
-
--- the verdict of ladder_answer, by its cases
-pub verdict-refused : {v : Verdict} {a : Answer} (refusal : RefusalCase) → answerOf v ≡ a → v ≡ Refused refusal → a ≡ some (refusalOf refusal)
-unfolding answerOf
-verdict-refused refusal e q = sym e ∙ ap answerOf q
-
-pub verdict-accepted : {v : Verdict} {a : Answer} → answerOf v ≡ a → v ≡ Accepted → a ≡ none
-unfolding answerOf
-verdict-accepted e q = sym e ∙ ap answerOf q
 
 module _ (vars : ℕ) (k : Kept) (t : List ℕ) (w : ℕ) where
   abbrev s : State

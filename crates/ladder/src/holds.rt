@@ -1,4 +1,5 @@
-// Question 4. A rung's words are told by two counts: before each word some fronts and then some rears are owed, and each word says what is owed after it.
+// Question 4. A rung's words are told by two counts: before each word some fronts and then some rears are owed, and each word says what
+// is owed after it.
 ghost use mathlib.Core.Path.{_≡_};
 ghost use Prim.Native.Nat.{_+_, _≤_, _<_, _/_, _%_, _^_};
 ghost use lib.ListN.{length};
@@ -133,7 +134,8 @@ pub fn holds_rung(words: &[u32], from: usize, to: usize) -> bool
 
 // Question 4. No sum wraps: a record's length is compared with what is left of the words.
 pub fn holds_ladder(words: &[u32], labels: &[u16], offsets: &[u32], lengths: &[u32]) -> bool
-    ensures { λ r. ⌜ r ≡ holdsLadder (record { words = now (words .entry); records = rowOf (now (labels .entry)) (now (offsets .entry)) (now (lengths .entry)) }) ⌝ }
+    ensures { λ r. ⌜ r ≡ holdsLadder
+        (record { words = now (words .entry); records = rowOf (now (labels .entry)) (now (offsets .entry)) (now (lengths .entry)) }) ⌝ }
 {
     if labels.len() != offsets.len() {
         return false;

@@ -41,7 +41,8 @@ pub fn ladder_answer(
     offsets: &[u32],
     lengths: &[u32],
 ) -> Verdict
-    ensures { λ r. ⌜ answerOf r ≡ ladderAnswer vars (record { words = now (words .entry); records = rowOf (now (labels .entry)) (now (offsets .entry)) (now (lengths .entry)) }) ⌝ }
+    ensures { λ r. ⌜ answerOf r ≡ ladderAnswer vars
+        (record { words = now (words .entry); records = rowOf (now (labels .entry)) (now (offsets .entry)) (now (lengths .entry)) }) ⌝ }
 {
     if !questions::vars_in_range(vars) {
         return Verdict::Refused(Refusal::Variables);
@@ -77,7 +78,9 @@ pub fn ladder_scan(
     table: &mut [u8],
     watchdog: u32,
 ) -> LadderScanned
-    ensures { λ r. ⌜ LadderScanDone (ladderScan vars (record { words = now (words .entry); records = rowOf (now (labels .entry)) (now (offsets .entry)) (now (lengths .entry)) }) (now (table .entry)) watchdog) r (now (table .exit)) ⌝ }
+    ensures { λ r. ⌜ LadderScanDone (ladderScan vars
+        (record { words = now (words .entry); records = rowOf (now (labels .entry)) (now (offsets .entry)) (now (lengths .entry)) })
+        (now (table .entry)) watchdog) r (now (table .exit)) ⌝ }
 {
     match ladder_answer(vars, words, labels, offsets, lengths) {
         Verdict::Refused(refusal) => {

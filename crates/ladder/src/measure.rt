@@ -5,9 +5,6 @@ ghost use Rattle.ladder.specs.Walking.{JoinMeasured, FrontMeasured, Rear
 ghost use Rattle.ladder.specs.Scanned.{ScratchAsked};
 use crate::walk;
 
-// Scratch t0 to t31.
-const SCRATCH_BYTES: usize = 32;
-
 // The scratch bytes that a part takes, and the position after its words.
 pub struct Taken {
     pub bytes: usize,
@@ -98,7 +95,7 @@ pub fn scratch_in_range(words: &[u32], offsets: &[u32]) -> bool
     let mut k: usize = 0;
     while k < offsets.len() {
         let start = offsets[k] as usize;
-        if SCRATCH_BYTES < rung_scratch(words, start) {
+        if table::SCRATCH_BYTES < rung_scratch(words, start) {
             return false;
         }
         k += 1;

@@ -2,7 +2,8 @@
 ghost use mathlib.Core.Path.{_≡_};
 ghost use Rattle.questions.specs.Tests.{all};
 ghost use Rattle.rungs.specs.Records.{search};
-ghost use Rattle.ladder.specs.Asking.{RungEnd, lengthInRange, namesVariable, namesLabel, wordBelow, wordLeads, SizesAsked, VariablesAsked, LabelsAsked, JumpsAsked};
+ghost use Rattle.ladder.specs.Asking.{RungEnd, lengthInRange, namesVariable, namesLabel, wordBelow, wordLeads};
+ghost use Rattle.ladder.specs.Asking.{SizesAsked, VariablesAsked, LabelsAsked, JumpsAsked};
 use crate::Found;
 
 // At most 256 rungs, 128 words a rung, 8,192 words.

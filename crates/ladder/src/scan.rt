@@ -14,7 +14,8 @@ pub fn run(
     table: &mut [u8],
     watchdog: u32,
 ) -> LadderScanned
-    ensures { λ r. ⌜ Scanned (now (words .entry)) (now (labels .entry)) (now (offsets .entry)) (now (table .entry)) watchdog r (now (table .exit)) ⌝ }
+    ensures { λ r. ⌜ Scanned (now (words .entry)) (now (labels .entry)) (now (offsets .entry)) (now (table .entry)) watchdog
+        r (now (table .exit)) ⌝ }
 {
     let mut entered: u32 = 0;
     let mut rung: usize = 0;

@@ -2,7 +2,7 @@
 use Prim.Native.Nat.{ℕ, _+_, _≤_, _<_}
 use native.Mathlib.Nat.{zero-add}
 use native.Mathlib.Omega.{arith}
-use mathlib.Core.Path.{_≡_, refl, sym, ap, _∙_}
+use mathlib.Core.Path.{_≡_, refl, _∙_}
 use mathlib.Core.Bool.{true, false}
 use mathlib.Core.Option.{none, some}
 use mathlib.Core.List.{List, [], _∷_}
@@ -16,7 +16,6 @@ use Rattle.questions.specs.Tests.{all}
 use Rattle.questions.specs.Refusals.{refusalOf, answerOf}
 use Rattle.questions.specs.declared.Refusal.{Refusal as RefusalCase}
 use Rattle.questions.specs.declared.Refusal.the-variants.{Variables, List as ListCase, Table, Watchdog, Buffer as BufferCase}
-use Rattle.questions.specs.declared.Verdict.{Verdict}
 use Rattle.questions.specs.declared.Verdict.the-variants.{Accepted, Refused}
 use Rattle.table.specs.State.{State}
 use Rattle.table.specs.Questions.{tableInRange, question11}
@@ -74,15 +73,6 @@ accepted-vars vars ws rs e = few-variables vars (T→true (varsInRange vars) (as
 pub accepted-range : (vars : ℕ) (ws : List ℕ) (rs : List RungRecord) → listAnswer vars ws rs ≡ none → T (listInRange vars ws rs)
 unfolding listAnswer question10
 accepted-range vars ws rs e = ask-passed 10 (listInRange vars ws rs) (first-yes (question10 vars ws rs) [] (later-yes (question1 vars) (question10 vars ws rs ∷ []) e))
-
--- the verdict of list_answer, by its cases
-pub verdict-refused : {v : Verdict} {a : Answer} (refusal : RefusalCase) → answerOf v ≡ a → v ≡ Refused refusal → a ≡ some (refusalOf refusal)
-unfolding answerOf
-verdict-refused refusal e q = sym e ∙ ap answerOf q
-
-pub verdict-accepted : {v : Verdict} {a : Answer} → answerOf v ≡ a → v ≡ Accepted → a ≡ none
-unfolding answerOf
-verdict-accepted e q = sym e ∙ ap answerOf q
 
 -- ---- List scan
 

@@ -39,7 +39,8 @@ pub fn list_answer(
     offsets: &[u32],
     lengths: &[u32],
 ) -> Verdict
-    ensures { λ r. ⌜ answerOf r ≡ listAnswer vars (now (code .entry)) (rowOf (now (labels .entry)) (now (offsets .entry)) (now (lengths .entry))) ⌝ }
+    ensures { λ r. ⌜ answerOf r ≡ listAnswer vars (now (code .entry))
+        (rowOf (now (labels .entry)) (now (offsets .entry)) (now (lengths .entry))) ⌝ }
 {
     if !questions::vars_in_range(vars) {
         return Verdict::Refused(Refusal::Variables);
@@ -60,7 +61,9 @@ pub fn list_scan(
     table: &mut [u8],
     watchdog: u32,
 ) -> ListScanned
-    ensures { λ r. ⌜ ListScanDone (listScan vars (now (code .entry)) (rowOf (now (labels .entry)) (now (offsets .entry)) (now (lengths .entry))) (now (table .entry)) watchdog) r (now (table .exit)) ⌝ }
+    ensures { λ r. ⌜ ListScanDone (listScan vars (now (code .entry))
+        (rowOf (now (labels .entry)) (now (offsets .entry)) (now (lengths .entry)))
+        (now (table .entry)) watchdog) r (now (table .exit)) ⌝ }
 {
     match list_answer(vars, code, labels, offsets, lengths) {
         Verdict::Refused(refusal) => {
@@ -86,7 +89,9 @@ pub fn listing(
     lengths: &[u32],
     out: &mut [u8],
 ) -> Listed
-    ensures { λ r. ⌜ ListingDone (listing fixedNames vars (now (code .entry)) (rowOf (now (labels .entry)) (now (offsets .entry)) (now (lengths .entry))) (now (out .entry))) r (now (out .exit)) ⌝ }
+    ensures { λ r. ⌜ ListingDone (listing fixedNames vars (now (code .entry))
+        (rowOf (now (labels .entry)) (now (offsets .entry)) (now (lengths .entry)))
+        (now (out .entry))) r (now (out .exit)) ⌝ }
 {
     match list_answer(vars, code, labels, offsets, lengths) {
         Verdict::Refused(refusal) => {

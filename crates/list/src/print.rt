@@ -1,5 +1,5 @@
-// The printed list. Each function writes its text from `at` on and gives the position after it; past the buffer's end nothing is written, so that
-// the same functions count the bytes, over a buffer of none.
+// The printed list. Each function writes its text from `at` on and gives the position after it; past the buffer's end nothing is
+// written, so that the same functions count the bytes, over a buffer of none.
 ghost use mathlib.Core.Path.{_≡_};
 ghost use mathlib.Core.List.{[], _∷_};
 ghost use Prim.Native.Nat.{_+_, _≤_, _<_};
@@ -138,7 +138,10 @@ pub fn put_list(
     out: &mut [u8],
 ) -> usize
     requires { ⌜ (vars ≤ 1024) × T (listInRange vars (now code) (rowOf (now labels) (now offsets) (now lengths))) ⌝ }
-    ensures { λ r. ⌜ Put (now (out .entry)) 0 (listingText fixedNames vars (listOf (now (code .entry)) (rowOf (now (labels .entry)) (now (offsets .entry)) (now (lengths .entry))))) r (now (out .exit)) ⌝ }
+    ensures { λ r. ⌜ Put (now (out .entry)) 0
+        (listingText fixedNames vars (listOf (now (code .entry))
+        (rowOf (now (labels .entry)) (now (offsets .entry)) (now (lengths .entry)))))
+        r (now (out .exit)) ⌝ }
 {
     let mut end: usize = 0;
     let mut start: usize = 0;

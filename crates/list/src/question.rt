@@ -86,7 +86,8 @@ pub fn list_in_range(
     lengths: &[u32],
 ) -> bool
     requires { ⌜ vars ≤ 1024 ⌝ }
-    ensures { λ r. ⌜ r ≡ listInRange vars (now (code .entry)) (rowOf (now (labels .entry)) (now (offsets .entry)) (now (lengths .entry))) ⌝ }
+    ensures { λ r. ⌜ r ≡ listInRange vars (now (code .entry))
+        (rowOf (now (labels .entry)) (now (offsets .entry)) (now (lengths .entry))) ⌝ }
 {
     if code.len() < 1 {
         return false;

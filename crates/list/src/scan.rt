@@ -1,5 +1,5 @@
-// One scan of a list. "Stood at a record's offset" is never a search on straight runs: `next` is the first record that does not begin before the
-// index, so the instruction stands at an offset just when it is that record's; a jump finds it anew, by halving.
+// One scan of a list. "Stood at a record's offset" is never a search on straight runs: `next` is the first record that does not
+// begin before the index, so the instruction stands at an offset just when it is that record's; a jump finds it anew, by halving.
 ghost use mathlib.Core.Path.{_≡_};
 ghost use Prim.Native.Nat.{_+_, _≤_, _<_, _^_};
 ghost use lib.ListN.{length};

@@ -4,7 +4,7 @@ ghost use Rattle.table.specs.State.{valueAt, writtenAt};
 ghost use Rattle.table.specs.Questions.{tableInRange};
 
 // Scratch t0 to t31 stands after the variables.
-const SCRATCH_BYTES: usize = 32;
+pub const SCRATCH_BYTES: usize = 32;
 
 pub fn value(table: &[u8], index: usize) -> bool
     ensures { λ r. ⌜ r ≡ valueAt (now (table .entry)) index ⌝ }

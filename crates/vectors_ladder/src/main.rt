@@ -1,5 +1,5 @@
-// Answers requests for Ladder scan (kind 3), one a line, until the input ends. A malformed or oversized request ends the program with a line that
-// says so.
+// Answers requests for Ladder scan (kind 3), one a line, until the input ends. A malformed or oversized request ends the program
+// with a line that says so.
 ghost use Prim.Native.Nat.{_≤_};
 ghost use lib.ListN.{length};
 use ladder::Counts;
@@ -38,7 +38,8 @@ fn answer_scan(
     table: &mut [u8],
     watchdog: u32,
 ) -> usize
-    requires { ⌜ (lent .words ≤ length (now words)) × (lent .records ≤ length (now labels)) × (lent .records ≤ length (now offsets)) × (lent .records ≤ length (now lengths)) ⌝ }
+    requires { ⌜ (lent .words ≤ length (now words)) × (lent .records ≤ length (now labels))
+        × (lent .records ≤ length (now offsets)) × (lent .records ≤ length (now lengths)) ⌝ }
 {
     let n = lent.words;
     let m = lent.records;

@@ -1,5 +1,5 @@
-// Answers requests for List scan (kind 4) and Listing (kind 5), one a line, until the input ends. A malformed or oversized request ends the program
-// with a line that says so.
+// Answers requests for List scan (kind 4) and Listing (kind 5), one a line, until the input ends. A malformed or oversized request
+// ends the program with a line that says so.
 ghost use mathlib.Core.Path.{_≡_};
 ghost use Prim.Native.Nat.{_≤_};
 ghost use lib.ListN.{length};
@@ -51,7 +51,8 @@ fn answer_scan(
     table: &mut [u8],
     watchdog: u32,
 ) -> usize
-    requires { ⌜ (lent .words ≤ length (now code)) × (lent .records ≤ length (now labels)) × (lent .records ≤ length (now offsets)) × (lent .records ≤ length (now lengths)) ⌝ }
+    requires { ⌜ (lent .words ≤ length (now code)) × (lent .records ≤ length (now labels))
+        × (lent .records ≤ length (now offsets)) × (lent .records ≤ length (now lengths)) ⌝ }
 {
     let n = lent.words;
     let m = lent.records;
@@ -80,7 +81,8 @@ fn answer_listing(
     lengths: &[u32],
     out: &mut [u8],
 ) -> usize
-    requires { ⌜ (lent .words ≤ length (now code)) × (lent .records ≤ length (now labels)) × (lent .records ≤ length (now offsets)) × (lent .records ≤ length (now lengths)) ⌝ }
+    requires { ⌜ (lent .words ≤ length (now code)) × (lent .records ≤ length (now labels))
+        × (lent .records ≤ length (now offsets)) × (lent .records ≤ length (now lengths)) ⌝ }
 {
     let n = lent.words;
     let m = lent.records;

@@ -1,7 +1,8 @@
 -- `ladder::ladder_scan` meets its contract: questions 1, 4 to 9, 11 and 12 in order, and then the scan. Assumes nothing.
 use mathlib.Core.Path.{sym, _∙_}
 use borrow.Author.Tests.{not-true, not-false}
-use Rattle.ladder.proofs.Answers.{verdict-refused, verdict-accepted, scan-refused, scan-refused-table, scan-refused-watchdog, scan-done, scanned-done}
+use Rattle.questions.specs.Laws.Answers.{verdict-refused, verdict-accepted}
+use Rattle.ladder.proofs.Answers.{scan-refused, scan-refused-table, scan-refused-watchdog, scan-done, scanned-done}
 use borrow.Author.Needs.{needs}
 use Rattle.ladder.proofs.ladder_scan.Statement.{statement}
 use Rattle.ladder.proofs.ladder_scan.Tie as tie

@@ -1,7 +1,8 @@
 -- `list::list_scan` meets its contract: questions 1, 10, 11 and 12 in order, and then the scan. Assumes nothing.
 use mathlib.Core.Path.{sym, _∙_}
 use borrow.Author.Tests.{not-true, not-false}
-use Rattle.list.proofs.Answers.{verdict-refused, verdict-accepted, scan-refused, scan-refused-table, scan-refused-watchdog, scan-done, ran-done}
+use Rattle.questions.specs.Laws.Answers.{verdict-refused, verdict-accepted}
+use Rattle.list.proofs.Answers.{scan-refused, scan-refused-table, scan-refused-watchdog, scan-done, ran-done}
 use borrow.Author.Needs.{needs}
 use Rattle.list.proofs.list_scan.Statement.{statement}
 use Rattle.list.proofs.list_scan.Tie as tie

@@ -1,6 +1,6 @@
 -- A "yes" and the test behind it, each from the other. Assumes nothing.
 use Prim.Native.Nat.{ℕ, _≤_}
-use mathlib.Core.Path.{_≡_, refl}
+use mathlib.Core.Path.{_≡_, refl, sym, ap, _∙_}
 use mathlib.Core.Bool.{Bool, true, false}
 use mathlib.Core.Option.{none, some, map-eq-none-iff}
 use mathlib.Core.List.{List, _∷_, map}
@@ -9,6 +9,10 @@ use lib.Dec.{T, leb, leb→le, le→leb}
 use mir.Facts.{and-yes}
 use Rattle.questions.specs.Tests.{all, firstFailed}
 use Rattle.questions.specs.Questions.{Answer, ask, askEach, firstNo, varsInRange, question1, mostVariables, question12}
+use Rattle.questions.specs.Refusals.{refusalOf, answerOf}
+use Rattle.questions.specs.declared.Refusal.{Refusal as RefusalCase}
+use Rattle.questions.specs.declared.Verdict.{Verdict}
+use Rattle.questions.specs.declared.Verdict.the-variants.{Accepted, Refused}
 use Rattle.questions.specs.Laws.Tests.{none-failed, failed-none}
 
 pub ask-passed : (number : ℕ) (test : Bool) → ask number test ≡ none → T test
@@ -53,3 +57,12 @@ watchdog-in-range most watchdog e = leb→le watchdog most (ask-passed 12 _ e)
 pub in-range-watchdog : (most watchdog : ℕ) → watchdog ≤ most → question12 most watchdog ≡ none
 unfolding question12
 in-range-watchdog most watchdog h = passed-ask 12 _ (le→leb watchdog most h)
+
+-- a verdict's answer, by its cases
+pub verdict-refused : {v : Verdict} {a : Answer} (refusal : RefusalCase) → answerOf v ≡ a → v ≡ Refused refusal → a ≡ some (refusalOf refusal)
+unfolding answerOf
+verdict-refused refusal e q = sym e ∙ ap answerOf q
+
+pub verdict-accepted : {v : Verdict} {a : Answer} → answerOf v ≡ a → v ≡ Accepted → a ≡ none
+unfolding answerOf
+verdict-accepted e q = sym e ∙ ap answerOf q
