@@ -5,9 +5,10 @@ use native.Mathlib.Omega.{arith}
 use native.Mathlib.Decide.{decLe}
 use mathlib.Core.Path.{_≡_, refl, sym, ap, _∙_}
 use mathlib.Core.Bool.{Bool, not}
-use mathlib.Core.Option.{Option, none, some}
+use mathlib.Core.Option.{some}
 use mathlib.Core.List.{List}
 use lib.ListN.{getD, List·getD-eq-default}
+use Rattle.questions.specs.Laws.Tests.{none-some}
 use Rattle.rungs.specs.Words.{numberOf, operandOf}
 use Rattle.list.specs.Instruction.{Instr, NOT, JMPCN, noOp, onlyNot, ops, decodeInstr}
 use Rattle.list.specs.Machine.{does, count, step}
@@ -16,19 +17,16 @@ use Rattle.list.specs.Parts.{Did, machineOf, Stepped}
 use Rattle.list.specs.declared.scan.Machine.{Machine as MachineStruct}
 use Rattle.list.specs.declared.scan.Effect.{Effect}
 
-impossible : {A : Type 0} {a : A} → _≡_ {A = Option A} none (some a) → ⊥
-impossible e = let z : _≡_ {A = ℕ} 0 1 = cc in omega arith
-
 -- the op of a word that holds an instruction
 pub op-known : (w : ℕ) (i : Instr) → decodeInstr w ≡ some i → (1 ≤ numberOf w) × (numberOf w ≤ 14)
 unfolding decodeInstr ops
 op-known w i e = go (numberOf w) refl (decLe (numberOf w) 14)
   where
     past : 14 < numberOf w → ⊥
-    past h = impossible (ap (λ make. make (operandOf w)) (sym (List·getD-eq-default ops noOp {n = numberOf w} (omega arith))) ∙ e)
+    past h = none-some (ap (λ make. make (operandOf w)) (sym (List·getD-eq-default ops noOp {n = numberOf w} (omega arith))) ∙ e)
 
     go : (k : ℕ) → numberOf w ≡ k → Dec (numberOf w ≤ 14) → (1 ≤ numberOf w) × (numberOf w ≤ 14)
-    go zero q d = absurd (impossible (rw q at e))
+    go zero q d = absurd (none-some (rw q at e))
     go (suc k) q (yes h) = (omega arith, h)
     go (suc k) q (no h) = absurd (past (omega arith))
 
@@ -71,7 +69,7 @@ module _ (w : ℕ) (v : Bool) (following : ℕ) (t : List ℕ) where
     where
       is-not : (i : Instr) (x : ℕ) → onlyNot x ≡ some i → i ≡ NOT
       is-not i zero p = cc
-      is-not i (suc x) p = absurd (impossible p)
+      is-not i (suc x) p = absurd (none-some p)
 
 -- the machine after an instruction, with its counts
 pub stepped : (w entered : ℕ) (m : MachineStruct) (t : List ℕ) (effect : Effect) (u : List ℕ) → Did w (m .accumulator) (m .index + 1) t effect u

@@ -10,7 +10,7 @@ use lib.ListN.{length, length-append, take, drop, getD, take-append-drop}
 use lib.Seq.{take-append-seam, drop-append-seam, length-take-le}
 use mir.Facts.{and-yes, yes-and}
 use Rattle.questions.specs.Tests.{all}
-use Rattle.questions.specs.Laws.Tests.{T→true, all-head, all-tail, all-cons}
+use Rattle.questions.specs.Laws.Tests.{none-some, T→true, all-head, all-tail, all-cons}
 use Rattle.rungs.specs.Records.{RungRecord, lay}
 use Rattle.ladder.specs.Tree.{Input, contact, contactn, Front, input, frontAnd, frontOr, Output, coil, coiln, jump, jumpn, Rear, output, rearAnd, rearOr, Rung, Ladder, frontAll, rearAll, rungAll}
 use Rattle.rungs.specs.Words.{operands, word}
@@ -76,9 +76,6 @@ wordsOf (trees fs rs) = flatMap frontWords fs ++ flatMap rearWords rs
 TreesFit : Trees → Type 0
 TreesFit (trees fs rs) = T (all frontFits fs) × T (all rearFits rs)
 
-impossible : {A : Type 0} {a : A} → _≡_ {A = Option A} none (some a) → ⊥
-impossible e = let z : _≡_ {A = ℕ} 0 1 = cc in omega arith
-
 -- the trees after a word, from those before it
 record Put (w o : ℕ) (ts us : Trees) : Type 0 where
   words : wordsOf us ≡ w ∷ wordsOf ts
@@ -105,9 +102,9 @@ put-front k make h i zero (trees (f ∷ g ∷ fs) rs) us e =
         t .1,
       );
     }
-put-front k make h i zero (trees (f ∷ []) rs) us e = absurd (impossible e)
-put-front k make h i zero (trees [] rs) us e = absurd (impossible e)
-put-front k make h i (suc o) ts us e = absurd (impossible e)
+put-front k make h i zero (trees (f ∷ []) rs) us e = absurd (none-some e)
+put-front k make h i zero (trees [] rs) us e = absurd (none-some e)
+put-front k make h i (suc o) ts us e = absurd (none-some e)
 
 put-output : (k : ℕ) (make : ℕ → Output) → ((v : ℕ) → outputWord (make v) ≡ word k v) → ((v : ℕ) → v < operands → T (outputFits (make v)))
     → (o : ℕ) (ts us : Trees) → putOutput make o ts ≡ some us → Put (word k o) o ts us
@@ -115,7 +112,7 @@ unfolding putOutput wordsOf flatMap rearWords TreesFit rearAll
 put-output k make h i o (trees [] rs) us e =
     let z : trees [] (output (make o) ∷ rs) ≡ us = cc in
     record { words = rw (← z, h o) refl; fit = λ l t. rw (← z) (t .0, all-cons rearFits (output (make o)) rs (i o l) (t .1)) }
-put-output k make h i o (trees (f ∷ fs) rs) us e = absurd (impossible e)
+put-output k make h i o (trees (f ∷ fs) rs) us e = absurd (none-some e)
 
 put-rear-and : (o : ℕ) (ts us : Trees) → putRearAnd o ts ≡ some us → Put (word 9 o) o ts us
 unfolding putRearAnd wordsOf flatMap rearWords TreesFit rearAll all
@@ -128,10 +125,10 @@ put-rear-and zero (trees (f ∷ []) (r ∷ rs)) us e =
         all-cons rearFits (rearAnd f r) rs (yes-and (frontFits f) (rearFits r) (all-head frontFits f [] (t .0)) (all-head rearFits r rs (t .1))) (all-tail rearFits r rs (t .1)),
       );
     }
-put-rear-and zero (trees (f ∷ []) []) us e = absurd (impossible e)
-put-rear-and zero (trees (f ∷ g ∷ fs) rs) us e = absurd (impossible e)
-put-rear-and zero (trees [] rs) us e = absurd (impossible e)
-put-rear-and (suc o) ts us e = absurd (impossible e)
+put-rear-and zero (trees (f ∷ []) []) us e = absurd (none-some e)
+put-rear-and zero (trees (f ∷ g ∷ fs) rs) us e = absurd (none-some e)
+put-rear-and zero (trees [] rs) us e = absurd (none-some e)
+put-rear-and (suc o) ts us e = absurd (none-some e)
 
 put-rear-or : (o : ℕ) (ts us : Trees) → putRearOr o ts ≡ some us → Put (word 10 o) o ts us
 unfolding putRearOr wordsOf flatMap rearWords TreesFit rearAll
@@ -146,17 +143,17 @@ put-rear-or zero (trees [] (a ∷ b ∷ rs)) us e =
             (all-tail rearFits b rs (all-tail rearFits a (b ∷ rs) (t .1))),
       );
     }
-put-rear-or zero (trees [] (a ∷ [])) us e = absurd (impossible e)
-put-rear-or zero (trees [] []) us e = absurd (impossible e)
-put-rear-or zero (trees (f ∷ fs) rs) us e = absurd (impossible e)
-put-rear-or (suc o) ts us e = absurd (impossible e)
+put-rear-or zero (trees [] (a ∷ [])) us e = absurd (none-some e)
+put-rear-or zero (trees [] []) us e = absurd (none-some e)
+put-rear-or zero (trees (f ∷ fs) rs) us e = absurd (none-some e)
+put-rear-or (suc o) ts us e = absurd (none-some e)
 
 fits : (v : ℕ) → v < operands → T (ltb v operands)
 fits v h = lt→ltb v operands h
 
 put-word : (k o : ℕ) (ts us : Trees) → getD kinds k noKind o ts ≡ some us → Put (word k o) o ts us
 unfolding kinds inputWord outputWord frontWords inputFits outputFits frontAll
-put-word zero o ts us e = absurd (impossible e)
+put-word zero o ts us e = absurd (none-some e)
 put-word (suc zero) o ts us e = put-input 1 contact (λ v. refl) fits o ts us e
 put-word (suc (suc zero)) o ts us e = put-input 2 contactn (λ v. refl) fits o ts us e
 put-word (suc (suc (suc zero))) o ts us e = put-front 3 frontAnd (λ f g. refl) (λ f g. yes-and (frontFits f) (frontFits g)) o ts us e
@@ -167,7 +164,7 @@ put-word (suc (suc (suc (suc (suc (suc (suc zero))))))) o ts us e = put-output 7
 put-word (suc (suc (suc (suc (suc (suc (suc (suc zero)))))))) o ts us e = put-output 8 jumpn (λ v. refl) fits o ts us e
 put-word (suc (suc (suc (suc (suc (suc (suc (suc (suc zero))))))))) o ts us e = put-rear-and o ts us e
 put-word (suc (suc (suc (suc (suc (suc (suc (suc (suc (suc zero)))))))))) o ts us e = put-rear-or o ts us e
-put-word (suc (suc (suc (suc (suc (suc (suc (suc (suc (suc (suc k))))))))))) o ts us e = absurd (impossible e)
+put-word (suc (suc (suc (suc (suc (suc (suc (suc (suc (suc (suc k))))))))))) o ts us e = absurd (none-some e)
 
 record Decoded (ws : List ℕ) (us : Trees) : Type 0 where
   words : ws ≡ wordsOf us
@@ -179,7 +176,7 @@ decoded [] us e = let z : trees [] [] ≡ us = cc in record { words = rw (← z)
 decoded (w ∷ ws) us e = go (decodeWords ws) refl (λ ts. decoded ws ts)
   where
     go : (x : Option Trees) → decodeWords ws ≡ x → ((ts : Trees) → decodeWords ws ≡ some ts → Decoded ws ts) → Decoded (w ∷ ws) us
-    go none q ih = absurd (impossible (rw (q, decodeWords) at e))
+    go none q ih = absurd (none-some (rw (q, decodeWords) at e))
     go (some ts) q ih =
         let p = put-word (w / operands) (w % operands) ts us (rw (q, decodeWords) at e) in
         let k : w ≡ word (w / operands) (w % operands) = omega arith in
@@ -202,17 +199,17 @@ one-rung l (trees (f ∷ []) (r ∷ [])) g e t =
       rw (← z) (simp append-nil),
       rw (← z) (yes-and (frontFits f) (rearFits r) (all-head frontFits f [] (t .0)) (all-head rearFits r [] (t .1))),
     )
-one-rung l (trees (f ∷ []) []) g e t = absurd (impossible e)
-one-rung l (trees (f ∷ []) (r ∷ q ∷ rs)) g e t = absurd (impossible e)
-one-rung l (trees (f ∷ g ∷ fs) rs) h e t = absurd (impossible e)
-one-rung l (trees [] rs) g e t = absurd (impossible e)
+one-rung l (trees (f ∷ []) []) g e t = absurd (none-some e)
+one-rung l (trees (f ∷ []) (r ∷ q ∷ rs)) g e t = absurd (none-some e)
+one-rung l (trees (f ∷ g ∷ fs) rs) h e t = absurd (none-some e)
+one-rung l (trees [] rs) g e t = absurd (none-some e)
 
 rung-decoded : (l : ℕ) (ws : List ℕ) (g : Rung) → decodeRung l ws ≡ some g → RungDecoded l ws g
 unfolding decodeRung
 rung-decoded l ws g e = go (decodeWords ws) refl
   where
     go : (x : Option Trees) → decodeWords ws ≡ x → RungDecoded l ws g
-    go none q = absurd (impossible (rw (q, decodeRung) at e))
+    go none q = absurd (none-some (rw (q, decodeRung) at e))
     go (some ts) q =
         let d = decoded ws ts q in
         let o = one-rung l ts g (rw (q, decodeRung) at e) (d .fit) in
@@ -248,19 +245,19 @@ pub record Held (start : ℕ) (rs : List RungRecord) (ws : List ℕ) (gs : Ladde
 pub ladder-held : (start : ℕ) (rs : List RungRecord) (ws : List ℕ) (gs : Ladder) → decodeFrom start rs ws ≡ some gs → Held start rs ws gs
 unfolding decodeFrom lay flatMap all
 ladder-held start [] [] gs e = let z : _≡_ {A = Ladder} [] gs = cc in record { words = rw (← z) refl; records = rw (← z) refl; fit = rw (← z) tt }
-ladder-held start [] (w ∷ ws) gs e = absurd (impossible e)
+ladder-held start [] (w ∷ ws) gs e = absurd (none-some e)
 ladder-held start (r ∷ rs) ws gs e = go (eqb (r .offset) start && leb (r .length) (length ws)) refl (λ ts. ladder-held (start + r .length) rs (drop (r .length) ws) ts)
   where
     go : (b : Bool) → (eqb (r .offset) start && leb (r .length) (length ws)) ≡ b
         → ((ts : Ladder) → decodeFrom (start + r .length) rs (drop (r .length) ws) ≡ some ts → Held (start + r .length) rs (drop (r .length) ws) ts)
         → Held start (r ∷ rs) ws gs
-    go false b ih = absurd (impossible (rw (b, decodeFrom) at e))
+    go false b ih = absurd (none-some (rw (b, decodeFrom) at e))
     go true b ih = whole (decodeRung (r .label) (take (r .length) ws)) refl (decodeFrom (start + r .length) rs (drop (r .length) ws)) refl
       where
         whole : (x : Option Rung) → decodeRung (r .label) (take (r .length) ws) ≡ x
             → (y : Option Ladder) → decodeFrom (start + r .length) rs (drop (r .length) ws) ≡ y → Held start (r ∷ rs) ws gs
-        whole none q y p = let z : decodeFrom start (r ∷ rs) ws ≡ none = rw (b, decodeFrom) (rw q) in absurd (impossible (sym z ∙ e))
-        whole (some g) q none p = let z : decodeFrom start (r ∷ rs) ws ≡ none = rw (b, decodeFrom) (rw q (rw p)) in absurd (impossible (sym z ∙ e))
+        whole none q y p = let z : decodeFrom start (r ∷ rs) ws ≡ none = rw (b, decodeFrom) (rw q) in absurd (none-some (sym z ∙ e))
+        whole (some g) q none p = let z : decodeFrom start (r ∷ rs) ws ≡ none = rw (b, decodeFrom) (rw q (rw p)) in absurd (none-some (sym z ∙ e))
         whole (some g) q (some ts) p =
             let z : _≡_ {A = Ladder} (g ∷ ts) gs = cc (decode-one start r rs ws g ts b q p) in
             let d = rung-decoded (r .label) (take (r .length) ws) g q in

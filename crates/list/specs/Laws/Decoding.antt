@@ -7,7 +7,7 @@ use mathlib.Core.List.{List, [], _∷_, map}
 use lib.Dec.{T, ltb→lt, lt→ltb}
 use lib.ListN.{getD}
 use Rattle.questions.specs.Tests.{all}
-use Rattle.questions.specs.Laws.Tests.{all-head, all-tail, all-cons}
+use Rattle.questions.specs.Laws.Tests.{none-some, all-head, all-tail, all-cons}
 use Rattle.rungs.specs.Words.{operands, word, numberOf, operandOf, isOperand}
 use Rattle.list.specs.Instruction.{Instr, LD, LDN, ST, STN, AND, ANDN, OR, ORN, XOR, XORN, NOT, JMP, JMPC, JMPCN, operand, operandFits, instrFits, opOf, operandNumber, instrWord, noOp, op, onlyNot, ops, decodeInstr, decodeCode}
 
@@ -36,9 +36,6 @@ decode-instr (JMP j) h = decode-word 12 j h
 decode-instr (JMPC j) h = decode-word 13 j h
 decode-instr (JMPCN j) h = decode-word 14 j h
 
-impossible : {A : Type 0} {a : A} → _≡_ {A = Option A} none (some a) → ⊥
-impossible e = let z : _≡_ {A = ℕ} 0 1 = cc in omega arith
-
 -- the instruction that an op makes of an operand
 record Made (k x : ℕ) (i : Instr) : Type 0 where
   same : word k x ≡ instrWord i
@@ -51,14 +48,14 @@ made k make h f x i e = let z : make x ≡ i = cc in record { same = rw (← z) 
 made-not : (x : ℕ) (i : Instr) → onlyNot x ≡ some i → Made 11 x i
 unfolding onlyNot instrWord opOf operandNumber instrFits operand operandFits
 made-not zero i e = let z : NOT ≡ i = cc in record { same = rw (← z) refl; fits = λ l. rw (← z) tt }
-made-not (suc x) i e = absurd (impossible e)
+made-not (suc x) i e = absurd (none-some e)
 
 fit : (x : ℕ) → x < operands → T (isOperand x)
 fit x h = lt→ltb x operands h
 
 made-by : (k x : ℕ) (i : Instr) → getD ops k noOp x ≡ some i → Made k x i
 unfolding ops instrWord opOf operandNumber instrFits operand operandFits
-made-by zero x i e = absurd (impossible e)
+made-by zero x i e = absurd (none-some e)
 made-by (suc zero) x i e = made 1 LD (λ y. refl) fit x i e
 made-by (suc (suc zero)) x i e = made 2 LDN (λ y. refl) fit x i e
 made-by (suc (suc (suc zero))) x i e = made 3 ST (λ y. refl) fit x i e
@@ -73,7 +70,7 @@ made-by (suc (suc (suc (suc (suc (suc (suc (suc (suc (suc (suc zero))))))))))) x
 made-by (suc (suc (suc (suc (suc (suc (suc (suc (suc (suc (suc (suc zero)))))))))))) x i e = made 12 JMP (λ y. refl) fit x i e
 made-by (suc (suc (suc (suc (suc (suc (suc (suc (suc (suc (suc (suc (suc zero))))))))))))) x i e = made 13 JMPC (λ y. refl) fit x i e
 made-by (suc (suc (suc (suc (suc (suc (suc (suc (suc (suc (suc (suc (suc (suc zero)))))))))))))) x i e = made 14 JMPCN (λ y. refl) fit x i e
-made-by (suc (suc (suc (suc (suc (suc (suc (suc (suc (suc (suc (suc (suc (suc (suc k))))))))))))))) x i e = absurd (impossible e)
+made-by (suc (suc (suc (suc (suc (suc (suc (suc (suc (suc (suc (suc (suc (suc (suc k))))))))))))))) x i e = absurd (none-some e)
 
 pub instr-decoded : (w : ℕ) (i : Instr) → decodeInstr w ≡ some i → (w ≡ instrWord i) × T (instrFits i)
 unfolding decodeInstr
@@ -94,8 +91,8 @@ code-decoded (w ∷ ws) is e = go (decodeInstr w) refl (decodeCode ws) refl (λ 
   where
     go : (x : Option Instr) → decodeInstr w ≡ x → (y : Option (List Instr)) → decodeCode ws ≡ y
         → ((js : List Instr) → decodeCode ws ≡ some js → (ws ≡ map instrWord js) × T (all instrFits js)) → (w ∷ ws ≡ map instrWord is) × T (all instrFits is)
-    go none p y q ih = let z : decodeCode (w ∷ ws) ≡ none = rw (p, decodeCode) in absurd (impossible (sym z ∙ e))
-    go (some i) p none q ih = let z : decodeCode (w ∷ ws) ≡ none = rw (p, decodeCode) (rw q) in absurd (impossible (sym z ∙ e))
+    go none p y q ih = let z : decodeCode (w ∷ ws) ≡ none = rw (p, decodeCode) in absurd (none-some (sym z ∙ e))
+    go (some i) p none q ih = let z : decodeCode (w ∷ ws) ≡ none = rw (p, decodeCode) (rw q) in absurd (none-some (sym z ∙ e))
     go (some i) p (some js) q ih =
         let z : decodeCode (w ∷ ws) ≡ some (i ∷ js) = rw (p, decodeCode) (rw q) in
         let same : _≡_ {A = List Instr} (i ∷ js) is = cc in
