@@ -1,66 +1,167 @@
--- Document 01, "Bench ladders": the rows A to F in one table, with one theorem for both scans of all rows.
--- The list scan has the watchdog of demand 3: k × L where the ladder scan ends with k rungs, 2 × n where it stops at n. Assumes nothing.
+-- Document 01, "Bench ladders": the rows A to I in one table, with one theorem: texts through the definitions of Read, Translate, Ladder scan and List scan.
+-- The list scan has the watchdog of demand 3: k × L where the ladder scan ends with k rungs, 2 × n where it stops at n. A to D say no rung watchdog;
+-- theirs is the number of rungs that they enter, so that a watchdog asked before the end would show. Assumes nothing.
 use mathlib.Core.Path.{_≡_, refl}
-use mathlib.Core.Option.{Option, none, some, Option·map}
-use mathlib.Core.List.{List, [], _∷_, map, flatMap}
+use mathlib.Core.Option.{Option, none, some}
+use mathlib.Core.List.{List, [], _∷_, _++_, map, zipWith, flatMap}
 use Prim.Native.Nat.{ℕ, _*_}
-use Rattle.table.specs.State.{variables, valueAt, value, writtenAt, write}
-use Rattle.table.specs.Halt.{Ended, Stopped}
-use Rattle.rungs.specs.Records.{lay, search, startOf, isStart, longest}
+use lib.ListN.{length, replicate, take}
+use Rattle.questions.specs.Tests.{all, firstFailed}
+use Rattle.questions.specs.Bytes.{bytes}
+use Rattle.questions.specs.Questions.{ask, askEach, firstNo, varsInRange, question1, question2, question12, longEnough, question13}
+use Rattle.table.specs.State.{scratchBytes, valueAt, value, writtenAt, write}
+use Rattle.table.specs.Halt.{Halt, Ended, Stopped}
+use Rattle.table.specs.Questions.{tableInRange, question11}
+use Rattle.rungs.specs.Records.{RungRecord, laid, lay, search, present, startOf, isStart, longest, rowOf}
+use Rattle.rungs.specs.Buffers.{Buffers, buffers, asBuffers, needs, written, writtenOver}
+use Rattle.ladder.specs.Tree.{frontAll, rearAll, rungAll}
 use Rattle.ladder.specs.Meaning.{scanLadder, scanFrom, runRung, runRear, runOutput, workFront, workInput, jumpIf, unlessJumped, from, follow, left}
-use Rattle.ladder.specs.Bench.{Row, rowA, rowB, rowC, rowD, rowE, rowF, start, Outcome, expected, ladderOutcome}
-use Rattle.list.specs.Instruction.{LD, LDN, ST, AND, ANDN, OR, JMPC}
-use Rattle.list.specs.Machine.{InstructionList, scanList, scanMachine, begin, step, count, does, halted}
+use Rattle.ladder.specs.Kept.{Kept, inputWord, outputWord, frontWords, rearWords, rungWords, encode, putInput, putFront, putOutput, putRearAnd, putRearOr, kinds, decodeWords, oneRung, decodeRung, decodeFrom, decode}
+use Rattle.ladder.specs.Questions.{ladderOf, holdsLadder, question4, sizesInRange, question5, inputBelow, outputBelow, question6, newLabels, question7, outputLeads, question8, joinScratch, frontScratch, rearScratch, rungScratch, scratchInRange, question9, ladderAnswer}
+use Rattle.ladder.specs.LadderScan.{ladderScan, scanned, refused}
+use Rattle.ladder.specs.LadderScan.{scanEnds as ladderScanEnds}
+use Rattle.grammar.specs.Reader.{mapP, bind, followed, digitOf, digitsFrom, numberOf, chain, termBy, frontBy, factorBy, factorOf, termOf, frontOf, opensFactor, branchBy, rearBy, endBy, endOf, rearOf, lineOf, linesOf, textOf}
+use Rattle.grammar.specs.Questions.{question3}
+use Rattle.text.specs.Read.{readText, kept}
+use Rattle.text.specs.Read.{ladderOf as ladderOfText, refused as readRefused}
+use Rattle.list.specs.Instruction.{LD, LDN, ST, AND, ANDN, OR, JMPC, operand, opOf, operandNumber, onlyNot, ops, instrWord, decodeInstr, decodeCode, codeOf}
+use Rattle.list.specs.Machine.{scanList, scanMachine, begin, step, count, does, halted}
+use Rattle.list.specs.Questions.{operandInRange, wordInRange, recordsLaid, listInRange, question10}
+use Rattle.list.specs.ListScan.{listOf, listScan}
+use Rattle.list.specs.ListScan.{scanned as listScanned, refused as listRefused, scanEnds as listScanEnds}
 use Rattle.translation.specs.Translate.{F, R, join, outputCode, rungCode, listRecords, translate}
+use Rattle.translation.specs.TranslateKept.{Counts, countsOf, translateKept, translated}
+use Rattle.translation.specs.TranslateKept.{refused as translateRefused}
 
--- a row, and the list that document 01 prints for it
-record BenchRow : Type 0 where
-  row : Row
-  list : Option InstructionList
+-- how a scan halted, its rungs entered and the variables that it left
+record Scan : Type 0 where
+  halt : Halt
+  rungs : ℕ
+  variables : List ℕ
 
--- both scans of a row, and its list where document 01 prints one
-record Outcomes : Type 0 where
-  ladderScan : Outcome
-  listScan : Outcome
-  list : Option InstructionList
+-- a refusal's number and place; or both scans of the text's ladder, and its list where document 01 prints one
+data Outcome : Type 0 where
+  refusedAt : ℕ → ℕ → Outcome
+  scans : Scan → Scan → Option (List ℕ) → Outcome
+
+-- V and the variables before, a text, the rung watchdog, and what document 01 says of them
+record Row : Type 0 where
+  before : List ℕ
+  text : List ℕ
+  watchdog : ℕ
+  outcome : Outcome
+
+-- both scans alike
+abbrev alike : Halt → ℕ → List ℕ → Outcome
+alike halt rungs variables =
+    let x : Scan = record { halt = halt; rungs = rungs; variables = variables } in
+    scans x x none
 
 -- document 01, "Listing"
-listA : InstructionList
-listA = record {
-  code = LD 0 ∷ ST 5 ∷ LD 1 ∷ ANDN 2 ∷ OR 5 ∷ ST 5 ∷ ST 1 ∷ LD 5 ∷ AND 3 ∷ JMPC 10 ∷ LDN 3 ∷ ST 4 ∷ [];
-  records = record { label = 10; offset = 0; length = 10 } ∷ record { label = 20; offset = 10; length = 2 } ∷ [];
-}
+listA : List ℕ
+listA = map instrWord (LD 0 ∷ ST 5 ∷ LD 1 ∷ ANDN 2 ∷ OR 5 ∷ ST 5 ∷ ST 1 ∷ LD 5 ∷ AND 3 ∷ JMPC 10 ∷ LDN 3 ∷ ST 4 ∷ [])
 
-table : List BenchRow
+outcomeA : Outcome
+outcomeA =
+    let x : Scan = record { halt = Ended; rungs = 2; variables = 1 ∷ 1 ∷ 0 ∷ 0 ∷ 1 ∷ [] } in
+    scans x x (some listA)
+
+table : List Row
 table =
-    record { row = rowA; list = some listA }
-    ∷ record { row = rowB; list = none }
-    ∷ record { row = rowC; list = none }
-    ∷ record { row = rowD; list = none }
-    ∷ record { row = rowE; list = none }
-    ∷ record { row = rowF; list = none }
+    -- A
+    record { before = 1 ∷ 0 ∷ 0 ∷ 0 ∷ 0 ∷ []; text = bytes "10:c0|c1&n2>o1|c3&j20\n20:n3>o4\n"; watchdog = 2; outcome = outcomeA }
+    -- B
+    ∷ record { before = 1 ∷ 0 ∷ 0 ∷ []; text = bytes "0:c0>j5|o1\n5:c0>o2\n"; watchdog = 2; outcome = alike Ended 2 (1 ∷ 0 ∷ 1 ∷ []) }
+    -- C
+    ∷ record { before = 1 ∷ 0 ∷ 0 ∷ []; text = bytes "0:c0>o1|c1&o2\n"; watchdog = 1; outcome = alike Ended 1 (1 ∷ 1 ∷ 1 ∷ []) }
+    -- D
+    ∷ record { before = 0 ∷ 1 ∷ 0 ∷ []; text = bytes "0:c0>c1&o2\n"; watchdog = 1; outcome = alike Ended 1 (0 ∷ 1 ∷ 0 ∷ []) }
+    -- E and F
+    ∷ record { before = 0 ∷ []; text = bytes "0:n0>j0\n"; watchdog = 3; outcome = alike Stopped 3 (0 ∷ []) }
+    ∷ record { before = 0 ∷ []; text = bytes "0:n0>j0\n"; watchdog = 0; outcome = alike Stopped 0 (0 ∷ []) }
+    -- G
+    ∷ record { before = 0 ∷ []; text = bytes "65536:"; watchdog = 0; outcome = refusedAt 3 4 }
+    -- H
+    ∷ record { before = 0 ∷ []; text = bytes "00:"; watchdog = 0; outcome = refusedAt 3 1 }
+    -- I
+    ∷ record { before = 0 ∷ []; text = bytes "7:c0>o0"; watchdog = 0; outcome = refusedAt 3 7 }
     ∷ []
 
-translated : Row → InstructionList
-translated r = translate (start r .vars) (r .ladder)
+-- "variables not called true start false, scratch is 0"
+start : Row → List ℕ
+start r = r .before ++ replicate scratchBytes 0
 
-watchdog : Row → ℕ
-watchdog r = elim (r .halt) [ Ended ↦ r .rungs * longest (translated r .records) | Stopped ↦ 2 * r .rungs ]
+-- room for a bench ladder and its list
+room : Buffers
+room = buffers (replicate 20 0) (replicate 3 0) (replicate 3 0) (replicate 3 0)
 
-listOutcome : Row → Outcome
-listOutcome r =
-    let x = scanList (translated r) (watchdog r) (start r) in
-    record { halt = x .halt; rungs = x .counts .rungs; variables = variables (x .state) }
+record InBuffers : Type 0 where
+  words : List ℕ
+  records : List RungRecord
 
-outcomes : BenchRow → Outcomes
-outcomes b = record { ladderScan = ladderOutcome (b .row); listScan = listOutcome (b .row); list = Option·map (λ l. translated (b .row)) (b .list) }
+-- the words and records that a call wrote
+wrote : Buffers → ℕ → ℕ → InBuffers
+wrote b words rungs = record { words = take words (b .words); records = rowOf (take rungs (b .labels)) (take rungs (b .offsets)) (take rungs (b .lengths)) }
 
-asPrinted : BenchRow → Outcomes
-asPrinted b = record { ladderScan = expected (b .row); listScan = expected (b .row); list = b .list }
+-- the instruction watchdog of demand 3
+watchdog : Halt → ℕ → ℕ → ℕ
+watchdog Ended rungs most = rungs * most
+watchdog Stopped rungs most = 2 * rungs
 
--- Both scans of every row end as document 01 says, and row A has the 12 instructions that it prints.
-bench : map outcomes table ≡ map asPrinted table
-unfolding table listA outcomes asPrinted translated start expected ladderOutcome listOutcome watchdog variables valueAt value writtenAt write search
-    scanLadder scanFrom runRung runRear runOutput workFront workInput jumpIf unlessJumped from follow left
-    scanList scanMachine begin step count does halted isStart longest lay startOf F R join outputCode rungCode listRecords translate flatMap
+variablesOf : Row → List ℕ → List ℕ
+variablesOf r bytes = take (length (r .before)) bytes
+
+-- List scan, after Ladder scan gave x and Translate wrote a list with its counts
+byListScan : Row → Scan → Counts → InBuffers → Outcome
+byListScan r x counts list =
+    let c = listScan (length (r .before)) (list .words) (list .records) (start r) (watchdog (x .halt) (x .rungs) (counts .longest)) in
+    elim (c .answer) [
+      | listRefused refusal ↦ refusedAt (refusal .number) (refusal .place)
+      | listScanned halt n ↦ scans x (record { halt = halt; rungs = n .rungs; variables = variablesOf r (c .table) }) (some (list .words))
+    ]
+
+-- Translate, after Ladder scan gave x
+byTranslate : Row → Scan → Kept → Outcome
+byTranslate r x k =
+    let c = translateKept (length (r .before)) k room in
+    elim (c .answer) [
+      | translateRefused refusal ↦ refusedAt (refusal .number) (refusal .place)
+      | translated counts ↦ byListScan r x counts (wrote (c .buffers) (counts .instructions) (counts .rungs))
+    ]
+
+-- Ladder scan, after Read wrote a kept ladder
+byLadderScan : Row → Kept → Outcome
+byLadderScan r k =
+    let c = ladderScan (length (r .before)) k (start r) (r .watchdog) in
+    elim (c .answer) [
+      | refused refusal ↦ refusedAt (refusal .number) (refusal .place)
+      | scanned halt rungs ↦ byTranslate r (record { halt = halt; rungs = rungs; variables = variablesOf r (c .table) }) k
+    ]
+
+run : Row → Outcome
+run r =
+    let c = readText (length (r .before)) (r .text) room in
+    elim (c .answer) [
+      | readRefused refusal ↦ refusedAt (refusal .number) (refusal .place)
+      | kept words rungs ↦ let b = wrote (c .buffers) words rungs in byLadderScan r (record { words = b .words; records = b .records })
+    ]
+
+-- the list only where document 01 prints one
+asFar : Outcome → Outcome → Outcome
+asFar (refusedAt n p) said = refusedAt n p
+asFar (scans x y list) (refusedAt n p) = scans x y list
+asFar (scans x y list) (scans x′ y′ none) = scans x y none
+asFar (scans x y list) (scans x′ y′ (some l)) = scans x y list
+
+-- Every row comes out as document 01 says.
+bench : map (λ r. asFar (run r) (r .outcome)) table ≡ map (λ (r : Row). r .outcome) table
+unfolding table listA outcomeA run asFar start room wrote watchdog variablesOf byListScan byTranslate byLadderScan bytes
+    all firstFailed ask askEach firstNo varsInRange question1 question2 question3 question4 question5 question6 question7 question8 question9 question10 question11 question12 question13 longEnough
+    valueAt value writtenAt write tableInRange laid lay search present startOf isStart longest rowOf asBuffers needs written writtenOver zipWith flatMap
+    frontAll rearAll rungAll scanLadder scanFrom runRung runRear runOutput workFront workInput jumpIf unlessJumped from follow left
+    inputWord outputWord frontWords rearWords rungWords encode putInput putFront putOutput putRearAnd putRearOr kinds decodeWords oneRung decodeRung decodeFrom decode
+    ladderOf holdsLadder sizesInRange inputBelow outputBelow newLabels outputLeads joinScratch frontScratch rearScratch rungScratch scratchInRange ladderAnswer ladderScan ladderScanEnds
+    mapP bind followed digitOf digitsFrom numberOf chain termBy frontBy factorBy factorOf termOf frontOf opensFactor branchBy rearBy endBy endOf rearOf lineOf linesOf textOf
+    readText ladderOfText operand opOf operandNumber onlyNot ops instrWord decodeInstr decodeCode codeOf scanList scanMachine begin step count does halted
+    operandInRange wordInRange recordsLaid listInRange listOf listScan listScanEnds F R join outputCode rungCode listRecords translate countsOf translateKept
 bench = refl

@@ -299,6 +299,18 @@ pub fn read_table(chunk: &mut [u8], input: Input, table: &mut [u8]) -> Counted
     }
 }
 
+// Up to 70,000 bytes, their count first.
+pub fn read_text(chunk: &mut [u8], input: Input, text: &mut [u8]) -> Counted
+    ensures { λ r. ⌜ r .count ≤ 70000 ⌝ }
+{
+    let counted = limited(chunk, input, 70000);
+    let count = counted.value as usize;
+    Counted {
+        input: read_bytes(chunk, counted, text, count),
+        count,
+    }
+}
+
 // Variables, words and records.
 pub fn read_lent(
     chunk: &mut [u8],

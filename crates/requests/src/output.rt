@@ -83,6 +83,97 @@ pub fn put_buffer(room: &mut [u8], placed: usize, bytes: &[u8]) -> usize {
     put_next(room, shown, (bytes.len() - k) as u64)
 }
 
+fn wide_label(label: u16) -> u32 {
+    label as u32
+}
+
+// The item at a place, and what fills a buffer past its end.
+fn word_at(words: &[u32], i: usize) -> u32 {
+    if i < words.len() {
+        words[i]
+    } else {
+        4294967295
+    }
+}
+
+fn label_at(labels: &[u16], i: usize) -> u32 {
+    if i < labels.len() {
+        wide_label(labels[i])
+    } else {
+        65535
+    }
+}
+
+// How far a buffer's words reach that are not the filling alone.
+fn words_reach(words: &[u32]) -> usize
+    ensures { λ r. do ⌜ r ≤ (← ⟦words.len()⟧ .entry) ⌝ }
+{
+    let mut k = words.len();
+    while 0 < k {
+        if word_at(words, k - 1) != 4294967295 {
+            return k;
+        }
+        k -= 1;
+    }
+    0
+}
+
+// A buffer of words that was filled before the call: how many items, these, and how many follow.
+pub fn put_words(room: &mut [u8], from: usize, words: &[u32]) -> usize {
+    let k = words_reach(words);
+    let mut placed = put_next(room, from, k as u64);
+    let mut i: usize = 0;
+    while i < k {
+        placed = put_next(room, placed, word_at(words, i) as u64);
+        i += 1;
+    }
+    put_next(room, placed, (words.len() - k) as u64)
+}
+
+fn is_record(labels: &[u16], offsets: &[u32], lengths: &[u32], i: usize) -> bool {
+    if label_at(labels, i) != 65535 {
+        return true;
+    }
+    if word_at(offsets, i) != 4294967295 {
+        return true;
+    }
+    word_at(lengths, i) != 4294967295
+}
+
+// How far a buffer's records reach that are not the filling alone.
+fn records_reach(labels: &[u16], offsets: &[u32], lengths: &[u32]) -> usize
+    ensures { λ r. do ⌜ r ≤ (← ⟦labels.len()⟧ .entry) ⌝ }
+{
+    let mut k = labels.len();
+    while 0 < k {
+        if is_record(labels, offsets, lengths, k - 1) {
+            return k;
+        }
+        k -= 1;
+    }
+    0
+}
+
+// The same of a buffer of records.
+pub fn put_records(
+    room: &mut [u8],
+    from: usize,
+    labels: &[u16],
+    offsets: &[u32],
+    lengths: &[u32],
+) -> usize {
+    let k = records_reach(labels, offsets, lengths);
+    let mut placed = put_next(room, from, k as u64);
+    let mut i: usize = 0;
+    while i < k {
+        placed = put_next(room, placed, label_at(labels, i) as u64);
+        placed = put_next(room, placed, word_at(offsets, i) as u64);
+        placed = put_next(room, placed, word_at(lengths, i) as u64);
+        i += 1;
+    }
+    put_next(room, placed, (labels.len() - k) as u64)
+}
+
 fn refusal_number(refusal: Refusal) -> u64 {
     match refusal {
         Refusal::Variables => 1,

@@ -1,9 +1,5 @@
--- The text of a ladder. Definitions: Grammar and Place, which decide; Reader, Questions. Worked texts: Examples. What is proved of the definitions: Theorems.
--- Laws, which no contract cites: Laws.
-pub mod Grammar
-pub mod Place
-pub mod Reader
-pub mod Questions
-pub mod Examples
+-- Read. Definition: Read. What is proved of the definition: Theorems. What functions inside promise each other: Parts. Laws, which no contract cites: Laws.
+pub mod Read
+pub mod Parts
 pub mod Theorems
 pub mod Laws

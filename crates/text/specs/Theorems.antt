@@ -1,67 +1,46 @@
--- What is proved of the reader, a theorem to a sentence; the proofs are in Laws. Assumes nothing.
+-- What is proved of Read's definition, a theorem to a sentence; the proofs are in Laws. Assumes nothing.
 use Prim.Native.Nat.{ℕ}
-use native.Mathlib.Omega.{arith}
-use mathlib.Core.Path.{_≡_, refl, sym, ap, _∙_}
-use mathlib.Core.Logic.{_↔_}
-use mathlib.Core.Option.{none, some}
+use mathlib.Core.Path.{_≡_}
+use mathlib.Core.Option.{none}
 use mathlib.Core.List.{List}
-use lib.ListN.{length}
-use Rattle.questions.specs.Questions.{Answer}
-use Rattle.ladder.specs.Tree.{Ladder}
-use Rattle.text.specs.Grammar.{IsText}
-use Rattle.text.specs.Place.{IsPlace}
-use Rattle.text.specs.Reader.{Parse, read, stuck, textOf}
-use Rattle.text.specs.Questions.{question3}
-use Rattle.text.specs.Laws.Complete as laws
-use Rattle.text.specs.Laws.Local.{text-ends}
-use Rattle.text.specs.Laws.Place as places
+use lib.ListN.{take}
+use Rattle.questions.specs.Questions.{Refusal}
+use Rattle.rungs.specs.Records.{rowOf}
+use Rattle.rungs.specs.Buffers.{Buffers}
+use Rattle.ladder.specs.Kept.{Kept, encode}
+use Rattle.ladder.specs.Questions.{question4, question9, ladderAnswer}
+use Rattle.grammar.specs.Grammar.{IsText}
+use Rattle.grammar.specs.Theorems.{scratch-always, kept-always}
+use Rattle.text.specs.Read.{ladderOf, kept, refused, readText}
+use Rattle.text.specs.Laws.Reads.{refused-same, first-encoded, in-grammar, encoded-accepted}
 
--- A text is read, whole and with a ladder, exactly when it is a text of the grammar, with that ladder.
-pub read-exactly : (s : List ℕ) (gs : Ladder) → (textOf s ≡ read (length s) gs) ↔ IsText s gs
-read-exactly s gs = (λ e. places.sound s (length s) gs e, λ x. laws.complete x)
+-- the words and records that Read wrote, by its counts
+unfoldable pub writtenKept : Buffers → ℕ → ℕ → Kept
+writtenKept b words rungs = record { words = take words (b .words); records = rowOf (take rungs (b .labels)) (take rungs (b .offsets)) (take rungs (b .lengths)) }
 
--- What is read is read whole.
-pub read-whole : (s : List ℕ) (n : ℕ) (gs : Ladder) → textOf s ≡ read n gs → n ≡ length s
-read-whole s n gs e = text-ends s n gs e
+-- where Read took the text, with these counts
+module _ (vars : ℕ) (text : List ℕ) (lent : Buffers) (words rungs : ℕ) (taken : readText vars text lent .answer ≡ kept words rungs) where
+  -- Only texts of the grammar are taken, with their ladder.
+  pub written-in-grammar : IsText text (ladderOf text)
+  written-in-grammar = in-grammar vars text lent words rungs taken
 
--- A text has one ladder at most.
-pub one-ladder : {s : List ℕ} {gs hs : Ladder} → IsText s gs → IsText s hs → gs ≡ hs
-one-ladder x y = laws.one-ladder x y
+  -- What Read writes are the words and records of that ladder.
+  pub written-exactly : writtenKept (readText vars text lent .buffers) words rungs ≡ encode (ladderOf text)
+  unfolding writtenKept
+  written-exactly = first-encoded vars text lent words rungs taken
 
--- Where the reader is stuck is the place, and a text has one place at most.
-pub stuck-at-place : (s : List ℕ) (p : ℕ) → textOf s ≡ stuck p → IsPlace s p
-stuck-at-place s p e = places.place s p e
+  -- What Read writes gets a "yes" to question 4.
+  pub written-kept : question4 (writtenKept (readText vars text lent .buffers) words rungs) ≡ none
+  written-kept = rw written-exactly (kept-always written-in-grammar)
 
-pub one-place : {s : List ℕ} {p q : ℕ} → IsPlace s p → IsPlace s q → p ≡ q
-one-place x y = places.one-place x y
+  -- "Translation within t0 to t31? (.. text always is)"
+  pub scratch-accepted : question9 (ladderOf text) ≡ none
+  scratch-accepted = scratch-always written-in-grammar
 
-placed : Answer → ℕ
-placed none = 0
-placed (some refusal) = refusal .place
+  -- What Read writes gets a "yes" to every question that Translate and Ladder scan both put first: 1 and 4 to 9.
+  pub written-accepted : ladderAnswer vars (writtenKept (readText vars text lent .buffers) words rungs) ≡ none
+  written-accepted = rw written-exactly (encoded-accepted vars text lent words rungs taken)
 
--- Question 3 gets a "yes" exactly when the text is in the grammar, with some ladder.
-pub yes-exactly : (s : List ℕ) → (question3 s ≡ none) ↔ ((gs : Ladder) × IsText s gs)
-unfolding question3
-yes-exactly s = (λ e. go (textOf s) refl e, λ x. rw (laws.complete (x .1), question3))
-  where
-    go : (r : Parse Ladder) → textOf s ≡ r → question3 s ≡ none → (gs : Ladder) × IsText s gs
-    go (read n gs) q e = (gs, places.sound s n gs q)
-    go (stuck p) q e = let f : question3 s ≡ some (record { number = 3; place = p }) = rw (q, question3) in let z : _≡_ {A = ℕ} 0 1 = cc in absurd (omega arith)
-
--- It gets a "no", with number 3 and a place, exactly when the text is not in the grammar and that is its place.
-pub no-exactly : (s : List ℕ) (p : ℕ) → (question3 s ≡ some (record { number = 3; place = p })) ↔ (((gs : Ladder) → IsText s gs → ⊥) × IsPlace s p)
-unfolding question3 placed
-no-exactly s p = (λ e. go (textOf s) refl e, λ x. back (textOf s) refl x)
-  where
-    stuck-no : (o : ℕ) → textOf s ≡ stuck o → question3 s ≡ some (record { number = 3; place = o })
-    stuck-no o q = rw (q, question3)
-
-    go : (r : Parse Ladder) → textOf s ≡ r → question3 s ≡ some (record { number = 3; place = p }) → ((gs : Ladder) → IsText s gs → ⊥) × IsPlace s p
-    go (read n gs) q e = let f : question3 s ≡ none = rw (q, question3) in let z : _≡_ {A = ℕ} 0 1 = cc in absurd (omega arith)
-    go (stuck o) q e =
-        let same : o ≡ p = ap placed (sym (stuck-no o q) ∙ e) in
-        (λ gs x. places.none s o gs q x, rw (← same) (places.place s o q))
-
-    back : (r : Parse Ladder) → textOf s ≡ r → ((gs : Ladder) → IsText s gs → ⊥) × IsPlace s p → question3 s ≡ some (record { number = 3; place = p })
-    back (read n gs) q x = absurd (x .0 gs (places.sound s n gs q))
-    back (stuck o) q x = stuck-no o q ∙ ap (λ i. some (record { number = 3; place = i })) (places.one-place (places.place s o q) (x .1))
+-- A refusal changes nothing.
+pub refused-unchanged : (vars : ℕ) (text : List ℕ) (lent : Buffers) (r : Refusal) → readText vars text lent .answer ≡ refused r → readText vars text lent .buffers ≡ lent
+refused-unchanged vars text lent r a = refused-same vars text lent r a

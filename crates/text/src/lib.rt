@@ -1,0 +1,158 @@
+// Read: from a text to a kept ladder. Document 01, "Text".
+ghost use mathlib.Core.Path.{_≡_};
+ghost use lib.Dec.{leb};
+ghost use mathlib.Core.Bool.{_&&_};
+ghost use lib.ListN.{length};
+ghost use Rattle.rungs.specs.Buffers.{buffers};
+ghost use Rattle.text.specs.Read.{readText, ReadDone};
+ghost use Rattle.text.specs.Parts.{handOver, fits};
+use lines::LinesParsed;
+use lines::Sizes;
+use questions::Refusal;
+use questions::Verdict;
+
+mod front;
+mod lines;
+mod part;
+mod rear;
+mod words;
+
+// Text of 1 to 65,535 bytes.
+const MOST_TEXT_BYTES: usize = 65535;
+
+// At most 256 rungs, 128 words a rung, 8,192 words.
+const MOST_RUNGS: usize = 256;
+
+const MOST_WORDS: usize = 8192;
+
+// The words and rungs of a ladder.
+pub struct Counts {
+    pub words: usize,
+    pub rungs: usize,
+}
+
+// The answer of Read.
+pub enum TextRead {
+    Kept(Counts),
+    Refused(Refusal),
+}
+
+// Question 2.
+fn length_in_range(bytes: usize) -> bool
+    ensures { λ r. ⌜ r ≡ (leb 1 bytes && leb bytes 65535) ⌝ }
+{
+    if bytes < 1 {
+        return false;
+    }
+    bytes <= MOST_TEXT_BYTES
+}
+
+// Question 5, where the ladder may have no room in buffers of the sizes it asks for.
+fn sizes_in_range(sizes: Sizes) -> bool
+    ensures { λ r. ⌜ r ≡ fits sizes ⌝ }
+{
+    if MOST_RUNGS < sizes.rungs {
+        return false;
+    }
+    if lines::MOST_RUNG_WORDS < sizes.longest {
+        return false;
+    }
+    sizes.words <= MOST_WORDS
+}
+
+// The rest of the questions, of a ladder that was read, and its words and records into the lent buffers.
+fn hand_over(
+    vars: u32,
+    new_words: &[u32],
+    new_labels: &[u16],
+    new_offsets: &[u32],
+    new_lengths: &[u32],
+    words: &mut [u32],
+    labels: &mut [u16],
+    offsets: &mut [u32],
+    lengths: &mut [u32],
+) -> TextRead
+    ensures { λ r. ⌜ ReadDone (handOver vars
+        (buffers (now («new_words» .entry)) (now («new_labels» .entry)) (now («new_offsets» .entry)) (now («new_lengths» .entry)))
+        (buffers (now (words .entry)) (now (labels .entry)) (now (offsets .entry)) (now (lengths .entry)))) r
+        (buffers (now (words .exit)) (now (labels .exit)) (now (offsets .exit)) (now (lengths .exit))) ⌝ }
+{
+    match ladder::ladder_answer(vars, new_words, new_labels, new_offsets, new_lengths) {
+        Verdict::Refused(refusal) => {
+            return TextRead::Refused(refusal);
+        }
+        Verdict::Accepted => {}
+    }
+    if words.len() < new_words.len() {
+        return TextRead::Refused(Refusal::Buffer);
+    }
+    if labels.len() < new_labels.len() {
+        return TextRead::Refused(Refusal::Buffer);
+    }
+    if offsets.len() < new_offsets.len() {
+        return TextRead::Refused(Refusal::Buffer);
+    }
+    if lengths.len() < new_lengths.len() {
+        return TextRead::Refused(Refusal::Buffer);
+    }
+    words::copy_words(new_words, new_words.len(), words, 0);
+    words::copy_labels(new_labels, labels);
+    words::copy_words(new_offsets, new_offsets.len(), offsets, 0);
+    words::copy_words(new_lengths, new_lengths.len(), lengths, 0);
+    TextRead::Kept(Counts {
+        words: new_words.len(),
+        rungs: new_labels.len(),
+    })
+}
+
+// Read.
+pub fn read(
+    vars: u32,
+    text: &[u8],
+    words: &mut [u32],
+    labels: &mut [u16],
+    offsets: &mut [u32],
+    lengths: &mut [u32],
+) -> TextRead
+    ensures { λ r. ⌜ ReadDone (readText vars (now (text .entry))
+        (buffers (now (words .entry)) (now (labels .entry)) (now (offsets .entry)) (now (lengths .entry)))) r
+        (buffers (now (words .exit)) (now (labels .exit)) (now (offsets .exit)) (now (lengths .exit))) ⌝ }
+{
+    if !questions::vars_in_range(vars) {
+        return TextRead::Refused(Refusal::Variables);
+    }
+    if !length_in_range(text.len()) {
+        return TextRead::Refused(Refusal::TextLength);
+    }
+    let mut new_words = [0u32; MOST_WORDS];
+    let mut new_labels = [0u16; MOST_RUNGS];
+    let mut new_offsets = [0u32; MOST_RUNGS];
+    let mut new_lengths = [0u32; MOST_RUNGS];
+    match lines::lines(
+        text,
+        &mut new_words,
+        &mut new_labels,
+        &mut new_offsets,
+        &mut new_lengths,
+    ) {
+        LinesParsed::Stuck { place } => TextRead::Refused(Refusal::Text { place }),
+        LinesParsed::Read(sizes) => {
+            if !sizes_in_range(sizes) {
+                return TextRead::Refused(Refusal::Sizes);
+            }
+            let n = sizes.words;
+            let m = sizes.rungs;
+            hand_over(
+                vars,
+                &new_words[..n],
+                &new_labels[..m],
+                &new_offsets[..m],
+                &new_lengths[..m],
+                words,
+                labels,
+                offsets,
+                lengths,
+            )
+        }
+    }
+}

@@ -1,5 +1,5 @@
 -- Laws of the search by label, and of three number slices as one row. Assumes nothing.
-use mathlib.Core.Path.{_≡_, refl, ap, _∙_}
+use mathlib.Core.Path.{_≡_, refl, sym, ap, _∙_}
 use mathlib.Core.Bool.{and-false}
 use mathlib.Core.List.{List, [], _∷_, map, zipWith}
 use Prim.Native.Nat.{ℕ, zero, suc, _≤_, _<_}
@@ -77,6 +77,13 @@ row-labels = row-induction (λ ls os ns. labels (rowOf ls os ns) ≡ ls) (rw row
 pub row-lengths : (ls os ns : List ℕ) → Even ls os ns → map (λ r. r .length) (rowOf ls os ns) ≡ ns
 row-lengths = row-induction (λ ls os ns. map (λ r. r .length) (rowOf ls os ns) ≡ ns) (rw row-nil)
     (λ l o n ls os ns e t ih. rw (row-cons l o n ls os ns e) (ap (λ x. n ∷ x) ih))
+
+-- a row's slices make the row
+pub row-back : (rs : List RungRecord) → rowOf (labels rs) (offsets rs) (map (λ r. r .length) rs) ≡ rs
+row-back [] = row-nil
+row-back (r ∷ rs) = row-cons (r .label) (r .offset) (r .length) (labels rs) (offsets rs) (map (λ r. r .length) rs)
+    (record { first = ap suc (length-map rs (λ r. r .label) ∙ sym (length-map rs (λ r. r .offset))); second = ap suc (length-map rs (λ r. r .offset) ∙ sym (length-map rs (λ r. r .length))) })
+    ∙ ap (λ x. r ∷ x) (row-back rs)
 
 -- slices that make a row are even
 pub row-even : (ls os ns : List ℕ) → 1 ≤ length (rowOf ls os ns) → Even ls os ns

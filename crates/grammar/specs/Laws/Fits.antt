@@ -8,9 +8,9 @@ use borrow.Author.Tests.{eqb-true, eqb-false, leb-false, ltb-false}
 use lib.Dec.{eqb, leb, ltb}
 use lib.ListN.{length, getD}
 use Rattle.ladder.specs.Tree.{contact, contactn, Front, input, frontAnd, frontOr, Output, coil, coiln, jump, jumpn, Rear, output, rearAnd, rearOr, Rung, Ladder}
-use Rattle.text.specs.Grammar.{IsDigits, first, next, IsNumber, nought, digits, IsFront, oneTerm, moreTerm, IsTerm, oneFactor, moreFactor, IsFactor, cNumber, nNumber, inRound, IsRear, oneBranch, moreBranch, IsBranch, atEnd, factorAnd, IsEnd, oNumber, qNumber, jNumber, kNumber, inSquare, IsLine, line, IsText, oneLine, moreLines}
-use Rattle.text.specs.Reader.{pick, Parse, read, stuck, mapP, bind, followed, digitOf, digitsFrom, numberOf, chain, termBy, frontBy, factorBy, factorOf, frontOf, opensFactor, branchBy, rearBy, endBy, endOf, rearOf, rung, lineOf, linesOf, textOf}
-use Rattle.text.specs.Laws.Spans.{Span, span-none, span-byte, span-join, span-snoc, digit-is}
+use Rattle.grammar.specs.Grammar.{IsDigits, first, next, IsNumber, nought, digits, IsFront, oneTerm, moreTerm, IsTerm, oneFactor, moreFactor, IsFactor, cNumber, nNumber, inRound, IsRear, oneBranch, moreBranch, IsBranch, atEnd, factorAnd, IsEnd, oNumber, qNumber, jNumber, kNumber, inSquare, IsLine, line, IsText, oneLine, moreLines}
+use Rattle.grammar.specs.Reader.{pick, Parse, read, stuck, mapP, bind, followed, digitOf, digitsFrom, numberOf, chain, termBy, frontBy, factorBy, factorOf, frontOf, opensFactor, branchBy, rearBy, endBy, endOf, rearOf, rung, lineOf, linesOf, textOf}
+use Rattle.grammar.specs.Laws.Spans.{Span, span-none, span-byte, span-join, span-snoc, digit-is}
 
 -- A reader's answer at a place, against what a nonterminal has: what is read belongs to it, and what stands before the place where the reader is stuck begins something that belongs to it.
 pub data Fits {A : Type 0} (N : List ℕ → A → Type 0) (s : List ℕ) (at : ℕ) : Parse A → Type 0 where

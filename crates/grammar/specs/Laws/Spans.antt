@@ -10,7 +10,7 @@ use borrow.Author.Tests.{ltb-true, ltb-false}
 use lib.Dec.{ltb}
 use lib.ListN.{length, getD, drop, length-append, List·getD-eq-default}
 use lib.Seq.{drop-cons, drop-drop, drop-at, getD-drop}
-use Rattle.text.specs.Reader.{pick, digitOf}
+use Rattle.grammar.specs.Reader.{pick, digitOf}
 
 -- the bytes w stand in s from at on, up to n
 pub record Span (s : List ℕ) (at n : ℕ) (w : List ℕ) : Type 0 where

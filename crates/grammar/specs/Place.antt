@@ -4,7 +4,7 @@ use mathlib.Core.List.{List, _++_}
 use Prim.Native.Nat.{ℕ, _≤_}
 use lib.ListN.{length, take}
 use Rattle.ladder.specs.Tree.{Ladder}
-use Rattle.text.specs.Grammar.{IsText}
+use Rattle.grammar.specs.Grammar.{IsText}
 
 -- the beginning of s of length p is shared by some text of the grammar, of whichever length
 pub record Shared (s : List ℕ) (p : ℕ) : Type 0 where

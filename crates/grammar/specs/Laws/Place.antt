@@ -7,13 +7,13 @@ use native.Mathlib.Decide.{decLt}
 use lib.ListN.{length, take, drop, length-append, List·getD-append}
 use lib.Seq.{take-at, length-take-le, getD-take, drop-length}
 use Rattle.ladder.specs.Tree.{Ladder}
-use Rattle.text.specs.Grammar.{IsText}
-use Rattle.text.specs.Place.{Shared, IsPlace}
-use Rattle.text.specs.Reader.{read, stuck, textOf}
-use Rattle.text.specs.Laws.Spans.{Span}
-use Rattle.text.specs.Laws.Fits.{Fits, fits, begins, text-fits}
-use Rattle.text.specs.Laws.Complete.{complete}
-use Rattle.text.specs.Laws.Local.{Alike, text-stuck, text-ends}
+use Rattle.grammar.specs.Grammar.{IsText}
+use Rattle.grammar.specs.Place.{Shared, IsPlace}
+use Rattle.grammar.specs.Reader.{read, stuck, textOf}
+use Rattle.grammar.specs.Laws.Spans.{Span}
+use Rattle.grammar.specs.Laws.Fits.{Fits, fits, begins, text-fits}
+use Rattle.grammar.specs.Laws.Complete.{complete}
+use Rattle.grammar.specs.Laws.Local.{Alike, text-stuck, text-ends}
 
 pub one-place : {s : List ℕ} {p q : ℕ} → IsPlace s p → IsPlace s q → p ≡ q
 one-place {s} {p} {q} x y = let a = x .longest q (y .shared) in let b = y .longest p (x .shared) in omega arith

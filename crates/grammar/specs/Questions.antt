@@ -3,7 +3,7 @@ use Prim.Native.Nat.{ℕ}
 use mathlib.Core.Option.{none, some}
 use mathlib.Core.List.{List}
 use Rattle.questions.specs.Questions.{Answer}
-use Rattle.text.specs.Reader.{read, stuck, textOf}
+use Rattle.grammar.specs.Reader.{read, stuck, textOf}
 
 -- 3. "Text in the grammar?": the reader reads it whole. "No: 3", and the place is where the reader is stuck.
 unfoldable pub question3 : List ℕ → Answer

@@ -1,0 +1,110 @@
+// Fronts: front, term and factor call each other, with at most `depth` brackets open below. Document 01, "Text".
+ghost use Prim.Native.Nat.{_<_, _≤_};
+ghost use Rattle.grammar.specs.Reader.{frontOf, termOf, factorOf};
+ghost use Rattle.ladder.specs.Kept.{frontWords};
+ghost use Rattle.text.specs.Parts.{PartRead};
+use crate::part;
+use crate::part::Parsed;
+use crate::words;
+
+// The words of kinds 3 and 4.
+const FRONT_AND: u32 = 196608;
+
+const FRONT_OR: u32 = 262144;
+
+pub fn factor(text: &[u8], at: usize, depth: usize, rung: &mut [u32], put: usize) -> Parsed
+    requires { ⌜ (depth ≤ 15) × (put ≤ at) ⌝ }
+    ensures { λ r. ⌜ PartRead frontWords (factorOf depth (now (text .entry)) at) (now (text .entry)) at r put
+        (now (rung .entry)) (now (rung .exit)) ⌝ }
+{
+    let b = grammar::byte_at(text, at);
+    if b == b'c' {
+        return part::leaf(text, at, 1, rung, put);
+    }
+    if b == b'n' {
+        return part::leaf(text, at, 2, rung, put);
+    }
+    if b != b'(' {
+        return Parsed::Stuck { place: at };
+    }
+    if depth == 0 {
+        return Parsed::Stuck { place: at };
+    }
+    match front(text, at + 1, depth - 1, rung, put) {
+        Parsed::Read { next, count } => {
+            if grammar::byte_at(text, next) == b')' {
+                Parsed::Read {
+                    next: next + 1,
+                    count,
+                }
+            } else {
+                Parsed::Stuck { place: next }
+            }
+        }
+        Parsed::Stuck { place } => Parsed::Stuck { place },
+    }
+}
+
+// Factors joined by "&", grouped to the left.
+pub fn term(text: &[u8], at: usize, depth: usize, rung: &mut [u32], put: usize) -> Parsed
+    requires { ⌜ (depth ≤ 15) × (put ≤ at) ⌝ }
+    ensures { λ r. ⌜ PartRead frontWords (termOf depth (now (text .entry)) at) (now (text .entry)) at r put
+        (now (rung .entry)) (now (rung .exit)) ⌝ }
+{
+    let mut next = at;
+    let mut count = 0;
+    match factor(text, at, depth, rung, put) {
+        Parsed::Read { next: n, count: w } => {
+            next = n;
+            count = w;
+        }
+        Parsed::Stuck { place } => {
+            return Parsed::Stuck { place };
+        }
+    }
+    while grammar::byte_at(text, next) == b'&' {
+        match factor(text, next + 1, depth, rung, put + count) {
+            Parsed::Read { next: n, count: w } => {
+                words::insert(rung, put, count + w, FRONT_AND);
+                next = n;
+                count = count + w + 1;
+            }
+            Parsed::Stuck { place } => {
+                return Parsed::Stuck { place };
+            }
+        }
+    }
+    Parsed::Read { next, count }
+}
+
+// Terms joined by "|", grouped to the left.
+pub fn front(text: &[u8], at: usize, depth: usize, rung: &mut [u32], put: usize) -> Parsed
+    requires { ⌜ (depth ≤ 15) × (put ≤ at) ⌝ }
+    ensures { λ r. ⌜ PartRead frontWords (frontOf depth (now (text .entry)) at) (now (text .entry)) at r put
+        (now (rung .entry)) (now (rung .exit)) ⌝ }
+{
+    let mut next = at;
+    let mut count = 0;
+    match term(text, at, depth, rung, put) {
+        Parsed::Read { next: n, count: w } => {
+            next = n;
+            count = w;
+        }
+        Parsed::Stuck { place } => {
+            return Parsed::Stuck { place };
+        }
+    }
+    while grammar::byte_at(text, next) == b'|' {
+        match term(text, next + 1, depth, rung, put + count) {
+            Parsed::Read { next: n, count: w } => {
+                words::insert(rung, put, count + w, FRONT_OR);
+                next = n;
+                count = count + w + 1;
+            }
+            Parsed::Stuck { place } => {
+                return Parsed::Stuck { place };
+            }
+        }
+    }
+    Parsed::Read { next, count }
+}

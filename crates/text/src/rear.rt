@@ -1,0 +1,127 @@
+// Rears: rear, branch and rear_end call each other, with at most `depth` brackets open below. Document 01, "Text".
+ghost use mathlib.Core.Path.{_≡_};
+ghost use Prim.Native.Nat.{_<_, _≤_};
+ghost use Rattle.grammar.specs.Reader.{rearOf, branchOf, endOf, opensFactor};
+ghost use Rattle.ladder.specs.Kept.{rearWords};
+ghost use Rattle.text.specs.Parts.{PartRead};
+use crate::front;
+use crate::part;
+use crate::part::Parsed;
+use crate::words;
+
+// The words of kinds 9 and 10.
+const REAR_AND: u32 = 589824;
+
+const REAR_OR: u32 = 655360;
+
+// Whether a factor begins with a byte.
+fn opens(b: u8) -> bool
+    ensures { λ r. ⌜ r ≡ opensFactor b ⌝ }
+{
+    match b {
+        b'c' => true,
+        b'n' => true,
+        b'(' => true,
+        _ => false,
+    }
+}
+
+// The end of a branch: an output, or a rear in brackets.
+pub fn rear_end(text: &[u8], at: usize, depth: usize, rung: &mut [u32], put: usize) -> Parsed
+    requires { ⌜ (depth ≤ 15) × (put < at) ⌝ }
+    ensures { λ r. ⌜ PartRead rearWords (endOf depth (now (text .entry)) at) (now (text .entry)) at r put
+        (now (rung .entry)) (now (rung .exit)) ⌝ }
+{
+    let b = grammar::byte_at(text, at);
+    if b == b'o' {
+        return part::leaf(text, at, 5, rung, put);
+    }
+    if b == b'q' {
+        return part::leaf(text, at, 6, rung, put);
+    }
+    if b == b'j' {
+        return part::leaf(text, at, 7, rung, put);
+    }
+    if b == b'k' {
+        return part::leaf(text, at, 8, rung, put);
+    }
+    if b != b'[' {
+        return Parsed::Stuck { place: at };
+    }
+    if depth == 0 {
+        return Parsed::Stuck { place: at };
+    }
+    match rear(text, at + 1, depth - 1, rung, put) {
+        Parsed::Read { next, count } => {
+            if grammar::byte_at(text, next) == b']' {
+                Parsed::Read {
+                    next: next + 1,
+                    count,
+                }
+            } else {
+                Parsed::Stuck { place: next }
+            }
+        }
+        Parsed::Stuck { place } => Parsed::Stuck { place },
+    }
+}
+
+// Factors, each followed by "&", then an end; grouped to the right.
+pub fn branch(text: &[u8], at: usize, depth: usize, rung: &mut [u32], put: usize) -> Parsed
+    requires { ⌜ (depth ≤ 15) × (put < at) ⌝ }
+    ensures { λ r. ⌜ PartRead rearWords (branchOf depth (now (text .entry)) at) (now (text .entry)) at r put
+        (now (rung .entry)) (now (rung .exit)) ⌝ }
+{
+    let mut next = at;
+    let mut count: usize = 0;
+    while opens(grammar::byte_at(text, next)) {
+        words::put_word(rung, put + count, REAR_AND);
+        match front::factor(text, next, depth, rung, put + count + 1) {
+            Parsed::Read { next: n, count: w } => {
+                if grammar::byte_at(text, n) != b'&' {
+                    return Parsed::Stuck { place: n };
+                }
+                next = n + 1;
+                count = count + w + 1;
+            }
+            Parsed::Stuck { place } => {
+                return Parsed::Stuck { place };
+            }
+        }
+    }
+    match rear_end(text, next, depth, rung, put + count) {
+        Parsed::Read { next: n, count: w } => Parsed::Read {
+            next: n,
+            count: count + w,
+        },
+        Parsed::Stuck { place } => Parsed::Stuck { place },
+    }
+}
+
+// Branches joined by "|", grouped to the right.
+pub fn rear(text: &[u8], at: usize, depth: usize, rung: &mut [u32], put: usize) -> Parsed
+    requires { ⌜ (depth ≤ 15) × (put < at) ⌝ }
+    ensures { λ r. ⌜ PartRead rearWords (rearOf depth (now (text .entry)) at) (now (text .entry)) at r put
+        (now (rung .entry)) (now (rung .exit)) ⌝ }
+{
+    let mut next = at;
+    let mut count: usize = 0;
+    loop {
+        match branch(text, next, depth, rung, put + count) {
+            Parsed::Read { next: n, count: w } => {
+                if grammar::byte_at(text, n) != b'|' {
+                    return Parsed::Read {
+                        next: n,
+                        count: count + w,
+                    };
+                }
+                words::insert(rung, put + count, w, REAR_OR);
+                next = n + 1;
+                count = count + w + 1;
+            }
+            Parsed::Stuck { place } => {
+                return Parsed::Stuck { place };
+            }
+        }
+    }
+}

@@ -1,0 +1,44 @@
+-- The call Translate: its answer and the lent buffers afterwards, for all inputs. Document 01, "Translation", "Questions before work". Assumes nothing.
+use Prim.Native.Nat.{ℕ}
+use mathlib.Core.Option.{none, some}
+use mathlib.Core.List.{[], _∷_, map}
+use lib.ListN.{length}
+use Rattle.questions.specs.Questions.{Refusal, firstNo, question13}
+use Rattle.rungs.specs.Records.{longest}
+use Rattle.rungs.specs.Buffers.{Buffers, asBuffers, needs, writtenOver}
+use Rattle.ladder.specs.Kept.{Kept}
+use Rattle.ladder.specs.Questions.{ladderOf, ladderAnswer}
+use Rattle.list.specs.Instruction.{instrWord}
+use Rattle.list.specs.Machine.{InstructionList}
+use Rattle.translation.specs.Translate.{translate}
+
+-- a list in instruction words and records, as buffers of just their size
+abbrev pub listBuffers : InstructionList → Buffers
+listBuffers list = asBuffers (map instrWord (list .code)) (list .records)
+
+-- "the instruction and rung counts and L, the longest rung's length in instructions"
+pub record Counts : Type 0 where
+  pub instructions : ℕ
+  pub rungs : ℕ
+  pub longest : ℕ
+
+unfoldable pub countsOf : InstructionList → Counts
+countsOf list = record { instructions = length (list .code); rungs = length (list .records); longest = longest (list .records) }
+
+pub data TranslateAnswer : Type 0 where
+  translated : Counts → TranslateAnswer
+  refused : Refusal → TranslateAnswer
+
+pub record TranslateCall : Type 0 where
+  pub answer : TranslateAnswer
+  pub buffers : Buffers
+
+-- questions 1, 4 to 9 and 13 in order; a refusal leaves the buffers, and else "writes list and records from the start of two buffers; the rest stays"
+unfoldable pub translateKept : ℕ → Kept → Buffers → TranslateCall
+translateKept vars k lent =
+    let list = translate vars (ladderOf k) in
+    let new = listBuffers list in
+    elim (firstNo (ladderAnswer vars k ∷ question13 (needs new lent) ∷ [])) [
+      | some refusal ↦ record { answer = refused refusal; buffers = lent }
+      | none ↦ record { answer = translated (countsOf list); buffers = writtenOver new lent }
+    ]
