@@ -1,6 +1,5 @@
 -- Laws of the questions in order: the first "no" of Ladder scan. Assumes nothing.
 use Prim.Native.Nat.{ℕ, _≤_}
-use native.Mathlib.Omega.{arith}
 use mathlib.Core.Path.{_≡_, sym, ap, _∙_}
 use mathlib.Core.Bool.{Bool, true, false}
 use mathlib.Core.Option.{none, some}
@@ -15,17 +14,18 @@ use Rattle.questions.specs.declared.Refusal.the-variants.{Variables, Kept as Ke
 use Rattle.questions.specs.declared.Verdict.the-variants.{Accepted, Refused}
 use Rattle.table.specs.State.{State}
 use Rattle.table.specs.Questions.{tableInRange, question11}
-use Rattle.rungs.specs.Records.{RungRecord, rowOf}
-use Rattle.rungs.specs.Records.{labels as recordLabels, offsets}
-use Rattle.rungs.specs.Laws.Rows.{Even, row-even, row-labels, row-offsets, row-lengths}
-use Rattle.rungs.specs.Laws.Layout.{lay-length, lay-labels, lay-lengths}
+use Rattle.rungs.specs.Records.{rowOf}
+use Rattle.rungs.specs.Laws.Rows.{row-lengths}
+use Rattle.rungs.specs.Laws.Layout.{lay-lengths}
 use Rattle.ladder.specs.Tree.{Ladder, labels}
 use Rattle.ladder.specs.Meaning.{scanLadder}
 use Rattle.ladder.specs.Kept.{Kept, rungWords, encode, decode}
 use Rattle.ladder.specs.Questions.{ladderOf, holdsLadder, question4, sizesInRange, question5, rungBelow, question6, newLabels, question7, rungLeads, question8, scratchInRange, question9, ladderAnswer}
 use Rattle.ladder.specs.Laws.Accepting.{encode-decode, holds, accepted}
 use Rattle.ladder.specs.Asking.{LadderIn, placeOf, SizesAsked, VariablesAsked, LabelsAsked, JumpsAsked}
-use Rattle.ladder.specs.Scanned.{LadderHeld, ScratchAsked, Scanned}
+use Rattle.ladder.specs.Held.{LadderHeld}
+use Rattle.ladder.specs.Scanned.{ScratchAsked, Scanned}
+use Rattle.ladder.specs.Laws.Held.{rows, even, held}
 use Rattle.ladder.specs.LadderScan.{scanEnds, ladderScan, LadderScanDone}
 use Rattle.ladder.specs.LadderScan.{answerOf as scanAnswerOf}
 use Rattle.ladder.specs.declared.Found.{Found}
@@ -39,30 +39,11 @@ abbrev keptOf : List ℕ → List ℕ → List ℕ → List ℕ → Kept
 keptOf ws ls os ns = record { words = ws; records = rowOf ls os ns }
 
 module _ (ws ls os ns : List ℕ) (gs : Ladder) (e : decode (keptOf ws ls os ns) ≡ some gs) (h : 1 ≤ length gs) where
-  abbrev laidOut : List RungRecord
-  laidOut = encode gs .records
-
-  rows : rowOf ls os ns ≡ encode gs .records
-  rows = ap (λ k. k .records) (encode-decode (keptOf ws ls os ns) gs e .0)
-
-  even : Even ls os ns
-  unfolding encode
-  even = let n = ap length rows ∙ lay-length (λ g. g .label) (λ g. length (rungWords g)) 0 gs in row-even ls os ns (omega arith)
-
-  held : LadderHeld ws ls os gs
-  unfolding encode
-  held = record {
-    words = ap (λ k. k .words) (encode-decode (keptOf ws ls os ns) gs e .0);
-    same-labels = sym (row-labels ls os ns even) ∙ ap (λ rs. recordLabels rs) rows ∙ lay-labels (λ g. g .label) (λ g. length (rungWords g)) 0 gs;
-    same-offsets = sym (row-offsets ls os ns even) ∙ ap (λ rs. offsets rs) rows;
-    fits = encode-decode (keptOf ws ls os ns) gs e .1;
-  }
-
   ladder-in : LadderIn ws ns gs
   unfolding encode
   ladder-in = record {
     words = ap (λ k. k .words) (encode-decode (keptOf ws ls os ns) gs e .0);
-    lengths = sym (row-lengths ls os ns even) ∙ ap (λ rs. map (λ r. r .length) rs) rows ∙ lay-lengths (λ g. g .label) (λ g. length (rungWords g)) 0 gs;
+    lengths = sym (row-lengths ls os ns (even ws ls os ns gs e h)) ∙ ap (λ rs. map (λ r. r .length) rs) (rows ws ls os ns gs e h) ∙ lay-lengths (λ g. g .label) (λ g. length (rungWords g)) 0 gs;
     fits = encode-decode (keptOf ws ls os ns) gs e .1;
   }
 

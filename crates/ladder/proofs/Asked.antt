@@ -1,4 +1,4 @@
--- Laws of questions 5 to 8: the first test that fails, the words of a rung tested one by one, the walk over a ladder's rungs, the search for a label.
+-- Laws of questions 5 to 8: the first test that fails, the words of a rung tested one by one, the walk over a ladder's rungs, labels.
 -- Assumes nothing.
 use Prim.Native.Nat.{ℕ, zero, suc, _+_, _-_, _/_, _%_, _≤_, _<_}
 use native.Mathlib.Numerals.{add-one}
@@ -8,7 +8,7 @@ use mathlib.Core.Bool.{Bool, true, false, not, _&&_, and-assoc, and-true, and-fa
 use mathlib.Core.Option.{none, some}
 use mathlib.Core.List.{List, [], _∷_, _++_, map, flatMap, append-assoc, append-nil}
 use lib.Dec.{T, eqb, leb, ltb, ltb→lt}
-use lib.ListN.{length, getD, take, drop, length-append, length-drop, length-map, drop-of-length-le}
+use lib.ListN.{length, getD, take, drop, length-append, length-drop, length-map}
 use lib.Seq.{drop-cons, drop-drop, take-append-seam, drop-append-seam, length-take-le, getD-take}
 use mir.Facts.{and-yes}
 use borrow.Author.Count.{below-more}
@@ -271,33 +271,6 @@ module _ {test : ℕ → Bool} {inputs : Input → Bool} {outputs : Output → B
       none-failed (map (rungAll inputs outputs) gs) k (w .passed gs l) (rw (length-map gs (rungAll inputs outputs)) (omega arith))
 
 -- ---- labels
-
-module _ (l : ℕ) where
-  search-here : (ls : List ℕ) (i : ℕ) → i < length ls → getD ls i 0 ≡ l → search l (drop i ls) ≡ 0
-  unfolding search
-  search-here ls i h e = rw (drop-cons ls i 0 h, search, eq-eqb _ _ e)
-
-  search-later : (ls : List ℕ) (i : ℕ) → i < length ls → (getD ls i 0 ≡ l → ⊥) → search l (drop i ls) ≡ suc (search l (drop (suc i) ls))
-  unfolding search
-  search-later ls i h e = rw (drop-cons ls i 0 h, search, ne-eqb _ _ e)
-
--- the loop's invariant: the search from i on is the whole search
-pub record Searched (l : ℕ) (ls : List ℕ) (i : ℕ) : Type 0 where
-  pub same : i + search l (drop i ls) ≡ search l ls
-
-pub search-start : (l : ℕ) (ls : List ℕ) → Searched l ls 0
-search-start l ls = record { same = omega arith }
-
-module _ {l : ℕ} {ls : List ℕ} {i : ℕ} (s : Searched l ls i) where
-  pub search-found : i < length ls → getD ls i 0 ≡ l → i ≡ search l ls
-  search-found h e = let p = search-here l ls i h e in omega (arith, s .same)
-
-  pub search-more : i < length ls → (getD ls i 0 ≡ l → ⊥) → Searched l ls (i + 1)
-  search-more h e = let p = search-later l ls i h e in record { same = rw add-one (omega (arith, s .same)) }
-
-  pub search-end : length ls ≤ i → i ≡ search l ls
-  unfolding search
-  search-end h = let p = ap (search l) (drop-of-length-le ls h) in omega (arith, s .same)
 
 -- a label is present where it stands, and nowhere else
 search-below : (l : ℕ) (ls : List ℕ) (i : ℕ) → i < length ls → getD ls i 0 ≡ l → search l ls < length ls

@@ -1,7 +1,6 @@
 -- Laws that the proofs of this crate's functions cite.
 pub mod Holding
 pub mod Asked
-pub mod Trees
 pub mod Walks
 pub mod Measures
 pub mod Scanning

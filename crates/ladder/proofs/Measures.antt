@@ -8,9 +8,10 @@ use Rattle.rungs.specs.Words.{numberOf}
 use Rattle.ladder.specs.Tree.{Input, contact, contactn, Front, input, frontAnd, Rear}
 use Rattle.ladder.specs.Kept.{frontWords, rearWords}
 use Rattle.ladder.specs.Questions.{joinScratch, frontScratch, rearScratch, rungScratch}
-use Rattle.ladder.specs.Walking.{FrontAt, JoinMeasured, TakenDone, FrontMeasured, RearMeasured, RungMeasured}
+use Rattle.ladder.specs.Held.{FrontAt}
+use Rattle.ladder.specs.Walking.{JoinMeasured, TakenDone, FrontMeasured, RearMeasured, RungMeasured}
 use Rattle.ladder.specs.declared.measure.Taken.{Taken}
-use Rattle.ladder.proofs.Trees.{input-only, parts-only, no-front, output-only, rear-and-only, rear-or-only, no-rear, rung-only}
+use Rattle.ladder.specs.Laws.Trees.{input-only, parts-only, no-front, output-only, rear-and-only, rear-or-only, no-rear, rung-only}
 
 abbrev FrontTaken : ℕ → Taken → Front → Type 0
 FrontTaken at r f = TakenDone at (length (frontWords f)) (frontScratch f) r

@@ -15,8 +15,9 @@ use Rattle.ladder.specs.Tree.{Rung, Ladder}
 use Rattle.ladder.specs.Kept.{rungWords, encode}
 use Rattle.ladder.specs.Questions.{rungScratch, scratchInRange}
 use Rattle.ladder.specs.Walking.{RungMeasured}
-use Rattle.ladder.specs.Scanned.{LadderHeld, ScratchAsked}
-use Rattle.ladder.proofs.Scanning.{apart, rung-at}
+use Rattle.ladder.specs.Held.{LadderHeld}
+use Rattle.ladder.specs.Scanned.{ScratchAsked}
+use Rattle.ladder.specs.Laws.Held.{apart, rung-at}
 
 abbrev few : Rung → Bool
 few g = leb (rungScratch g) scratchBytes

@@ -1,54 +1,24 @@
 -- Laws of the scan's loop: a scan from the rung that comes next is the scan from the start. Assumes nothing.
 use Prim.Native.Nat.{ℕ, zero, suc, _+_, _-_, _≤_, _<_}
-use native.Mathlib.Nat.{sub-zero, zero-add}
+use native.Mathlib.Nat.{sub-zero}
 use native.Mathlib.Numerals.{add-one}
 use native.Mathlib.Omega.{arith}
 use mathlib.Core.Path.{_≡_, refl, sym, ap, _∙_}
-use mathlib.Core.List.{List, [], _∷_, flatMap}
-use lib.ListN.{length, getD, take, drop, length-map, take-append-drop, drop-of-length-le}
-use Rattle.questions.specs.Laws.Tests.{all-head, all-second}
+use mathlib.Core.List.{List, [], _∷_}
+use lib.ListN.{length, getD, drop, drop-of-length-le}
 use Rattle.table.specs.State.{State}
 use Rattle.table.specs.Halt.{Ended, Stopped}
 use Rattle.rungs.specs.Records.{search}
-use Rattle.rungs.specs.Laws.Layout.{sizes, offset-at, drop-pieces}
-use Rattle.ladder.specs.Tree.{Rung, Ladder, rungAll}
+use Rattle.ladder.specs.Tree.{Rung, Ladder}
 use Rattle.ladder.specs.Meaning.{Run, left, runRung, from, follow, LadderScan, scanFrom, scanLadder}
-use Rattle.ladder.specs.Kept.{rungWords, encode, inputFits, outputFits}
 use Rattle.ladder.specs.LadderScan.{scanEnds, answerOf}
-use Rattle.ladder.specs.Walking.{RungAt, RungRun, runOf}
-use Rattle.ladder.specs.Scanned.{LadderHeld, Scanned}
+use Rattle.ladder.specs.Walking.{RungRun, runOf}
+use Rattle.ladder.specs.Held.{LadderHeld}
+use Rattle.ladder.specs.Scanned.{Scanned}
+use Rattle.ladder.specs.Laws.Held.{apart, many, rung-at}
 use Rattle.ladder.specs.declared.LadderScanned.the-variants.{Ended as EndedCase, Stopped as StoppedCase}
 use Rattle.ladder.specs.declared.walk.Ran.{Ran}
 use Rattle.ladder.specs.declared.walk.Ran.the-variants.{Onward, Jumped}
-
--- ---- the rung at a place
-
--- gs stands apart at place k
-pub record Apart (gs : Ladder) (k : ℕ) : Type 0 where
-  pub rung : Rung
-  pub here : drop k gs ≡ rung ∷ drop (suc k) gs
-
-pub apart : (gs : Ladder) (k : ℕ) → k < length gs → Apart gs k
-apart [] k h = absurd (omega arith)
-apart (g ∷ gs) zero h = record { rung = g; here = refl }
-apart (g ∷ gs) (suc k) h = let a = apart gs k (omega arith) in record { rung = a .rung; here = a .here }
-
-module _ (ws ls os : List ℕ) (gs : Ladder) (held : LadderHeld ws ls os gs) where
-  pub many : length ls ≡ length gs
-  many = ap length (held .same-labels) ∙ length-map gs (λ g. g .label)
-
-  -- the words of the rung at place k stand from its offset on
-  pub rung-at : (k : ℕ) → k < length gs → (a : Apart gs k) → RungAt ws (getD os k 0) (a .rung)
-  unfolding encode flatMap
-  rung-at k h a = record {
-    fits = all-head (rungAll inputFits outputFits) (a .rung) (drop (suc k) gs)
-        (rw (a .here) at (all-second (rungAll inputFits outputFits) (take k gs) (drop k gs) (rw (take-append-drop k gs) (held .fits))));
-    rest = flatMap rungWords (drop (suc k) gs);
-    words =
-        let o = ap (λ l. getD l k 0) (held .same-offsets) ∙ offset-at (λ g. g .label) (λ g. length (rungWords g)) 0 k gs h ∙ zero-add _ in
-        ap (λ n. drop n ws) o ∙ ap (λ l. drop (sizes (λ g. length (rungWords g)) (take k gs)) l) (held .words)
-        ∙ drop-pieces rungWords gs (take k gs) (drop k gs) (sym (take-append-drop k gs)) ∙ rw (a .here);
-  }
 
 -- ---- one step of the scan
 

@@ -14,7 +14,7 @@ use Rattle.ladder.specs.Walking.{FrontDone, FrontWorked, runOf, RunDone,
 use Rattle.ladder.specs.declared.walk.Worked.{Worked}
 use Rattle.ladder.specs.declared.walk.Ran.{Ran}
 use Rattle.ladder.specs.declared.walk.Ran.the-variants.{Onward, Jumped}
-use Rattle.ladder.proofs.Trees.{contact-only, contactn-only, and-only, or-only, no-front, coil-only, coiln-only, jump-only, jumpn-only, rear-and-only, rear-or-only, no-rear, rung-only}
+use Rattle.ladder.specs.Laws.Trees.{contact-only, contactn-only, and-only, or-only, no-front, coil-only, coiln-only, jump-only, jumpn-only, rear-and-only, rear-or-only, no-rear, rung-only}
 
 module _ (ws : List ℕ) (at w : ℕ) (t : List ℕ) (e : w ≡ getD ws at 0) where
   pub worked-contact : numberOf w ≡ 1 → (b : Bool) → b ≡ valueAt t (operandOf w) → FrontWorked ws at t (record { value = b; next = at + 1 })

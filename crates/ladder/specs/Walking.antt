@@ -2,34 +2,18 @@
 use Prim.Native.Nat.{ℕ, _+_, _≤_}
 use mathlib.Core.Path.{_≡_}
 use mathlib.Core.Bool.{Bool}
-use mathlib.Core.List.{List, _++_}
-use lib.Dec.{T}
-use lib.ListN.{length, drop}
+use mathlib.Core.List.{List}
+use lib.ListN.{length}
 use Rattle.table.specs.State.{State}
-use Rattle.ladder.specs.Tree.{Front, Rear, Rung, frontAll, rearAll, rungAll}
+use Rattle.ladder.specs.Tree.{Front, Rear, Rung}
 use Rattle.ladder.specs.Meaning.{workFront, Run, onward, jumped, runRear, runRung}
-use Rattle.ladder.specs.Kept.{frontWords, rearWords, rungWords, inputFits, outputFits}
+use Rattle.ladder.specs.Kept.{frontWords, rearWords, rungWords}
+use Rattle.ladder.specs.Held.{FrontAt, RearAt, RungAt}
 use Rattle.ladder.specs.Questions.{joinScratch, frontScratch, rearScratch, rungScratch}
 use Rattle.ladder.specs.declared.walk.Worked.{Worked}
 use Rattle.ladder.specs.declared.walk.Ran.{Ran}
 use Rattle.ladder.specs.declared.walk.Ran.the-variants.{Onward, Jumped}
 use Rattle.ladder.specs.declared.measure.Taken.{Taken}
-
--- a tree's words stand in ws from `at` on, and its operands have 16 bits
-pub record FrontAt (ws : List ℕ) (at : ℕ) (f : Front) : Type 0 where
-  pub fits : T (frontAll inputFits f)
-  pub rest : List ℕ
-  pub words : drop at ws ≡ frontWords f ++ rest
-
-pub record RearAt (ws : List ℕ) (at : ℕ) (r : Rear) : Type 0 where
-  pub fits : T (rearAll inputFits outputFits r)
-  pub rest : List ℕ
-  pub words : drop at ws ≡ rearWords r ++ rest
-
-pub record RungAt (ws : List ℕ) (at : ℕ) (g : Rung) : Type 0 where
-  pub fits : T (rungAll inputFits outputFits g)
-  pub rest : List ℕ
-  pub words : drop at ws ≡ rungWords g ++ rest
 
 -- a front worked: its value, over any number of variables, and the state stays
 pub record FrontDone (at : ℕ) (t : List ℕ) (r : Worked) (f : Front) : Type 0 where

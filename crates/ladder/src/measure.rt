@@ -3,7 +3,6 @@ ghost use mathlib.Core.Path.{_≡_};
 ghost use Prim.Native.Nat.{max};
 ghost use Rattle.ladder.specs.Walking.{JoinMeasured, FrontMeasured, RearMeasured, RungMeasured};
 ghost use Rattle.ladder.specs.Scanned.{ScratchAsked};
-use crate::walk;
 
 // The scratch bytes that a part takes, and the position after its words.
 pub struct Taken {
@@ -15,7 +14,7 @@ pub struct Taken {
 pub fn join_scratch(words: &[u32], at: usize, through: usize) -> usize
     ensures { λ r. ⌜ JoinMeasured (now (words .entry)) at through r ⌝ }
 {
-    match walk::word_at(words, at) / 65536 {
+    match rungs::word_at(words, at) / 65536 {
         1 | 2 => 0,
         _ => through,
     }
@@ -25,7 +24,7 @@ pub fn join_scratch(words: &[u32], at: usize, through: usize) -> usize
 pub fn front_scratch(words: &[u32], at: usize) -> Taken
     ensures { λ r. ⌜ FrontMeasured (now (words .entry)) at r ⌝ }
 {
-    match walk::word_at(words, at) / 65536 {
+    match rungs::word_at(words, at) / 65536 {
         1 | 2 => Taken {
             bytes: 0,
             next: at + 1,
@@ -47,7 +46,7 @@ pub fn front_scratch(words: &[u32], at: usize) -> Taken
 pub fn rear_scratch(words: &[u32], at: usize) -> Taken
     ensures { λ r. ⌜ RearMeasured (now (words .entry)) at r ⌝ }
 {
-    match walk::word_at(words, at) / 65536 {
+    match rungs::word_at(words, at) / 65536 {
         5 | 6 | 7 | 8 => Taken {
             bytes: 0,
             next: at + 1,

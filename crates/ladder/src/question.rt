@@ -1,7 +1,6 @@
 // Questions 5 to 8. The words of a rung are those from the end of the rung before it on, as many as its length says.
 ghost use mathlib.Core.Path.{_≡_};
 ghost use Rattle.questions.specs.Tests.{all};
-ghost use Rattle.rungs.specs.Records.{search};
 ghost use Rattle.ladder.specs.Asking.{RungEnd, lengthInRange, namesVariable, namesLabel, wordBelow, wordLeads};
 ghost use Rattle.ladder.specs.Asking.{SizesAsked, VariablesAsked, LabelsAsked, JumpsAsked};
 use crate::Found;
@@ -114,20 +113,6 @@ pub fn repeated_label(labels: &[u16]) -> Found
     found
 }
 
-// The place of the first of some labels that is `label`, and their number where none is.
-pub fn search_label(labels: &[u16], label: u32) -> usize
-    ensures { λ r. ⌜ r ≡ search label (now (labels .entry)) ⌝ }
-{
-    let mut i: usize = 0;
-    while i < labels.len() {
-        if labels[i] as u32 == label {
-            return i;
-        }
-        i += 1;
-    }
-    i
-}
-
 fn names_label(kind: u32) -> bool
     ensures { λ r. ⌜ r ≡ namesLabel kind ⌝ }
 {
@@ -138,7 +123,7 @@ fn word_leads(labels: &[u16], word: u32) -> bool
     ensures { λ r. ⌜ r ≡ wordLeads (now (labels .entry)) word ⌝ }
 {
     if names_label(word / 65536) {
-        return search_label(labels, word % 65536) < labels.len();
+        return rungs::search_label(labels, word % 65536) < labels.len();
     }
     true
 }

@@ -2,7 +2,6 @@
 ghost use Rattle.ladder.specs.Scanned.{Scanned};
 use crate::Counts;
 use crate::LadderScanned;
-use crate::question;
 use crate::walk;
 use crate::walk::Ran;
 
@@ -27,13 +26,13 @@ pub fn run(
             return LadderScanned::Stopped(Counts { rungs: entered });
         }
         entered += 1;
-        let start = walk::word_at(offsets, rung) as usize;
+        let start = rungs::word_at(offsets, rung) as usize;
         match walk::run_rung(words, start, table) {
             Ran::Onward(_) => {
                 rung += 1;
             }
             Ran::Jumped(label) => {
-                rung = question::search_label(labels, label);
+                rung = rungs::search_label(labels, label);
             }
         }
     }

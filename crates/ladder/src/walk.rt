@@ -1,7 +1,5 @@
 // A rung worked along the prefix order of its kept words: a tree is its root word, then its first part, then its second.
 // Words that hold no tree are passed over from the first that has no place there.
-ghost use mathlib.Core.Path.{_≡_};
-ghost use lib.ListN.{getD};
 ghost use Rattle.ladder.specs.Walking.{FrontWorked, RearRun, RungRun};
 
 // A front's value, and the position after its words.
@@ -16,18 +14,11 @@ pub enum Ran {
     Jumped(u32),
 }
 
-// The word at a position, 0 past the end.
-pub fn word_at(words: &[u32], at: usize) -> u32
-    ensures { λ r. ⌜ r ≡ getD (now (words .entry)) at 0 ⌝ }
-{
-    if at < words.len() { words[at] } else { 0 }
-}
-
 // The front whose words begin at a position.
 pub fn front_at(words: &[u32], at: usize, table: &[u8]) -> Worked
     ensures { λ r. ⌜ FrontWorked (now (words .entry)) at (now (table .entry)) r ⌝ }
 {
-    let word = word_at(words, at);
+    let word = rungs::word_at(words, at);
     let operand = (word % 65536) as usize;
     match word / 65536 {
         1 => Worked {
@@ -65,7 +56,7 @@ pub fn front_at(words: &[u32], at: usize, table: &[u8]) -> Worked
 pub fn rear_at(words: &[u32], at: usize, power: bool, table: &mut [u8]) -> Ran
     ensures { λ r. ⌜ RearRun (now (words .entry)) at power (now (table .entry)) r (now (table .exit)) ⌝ }
 {
-    let word = word_at(words, at);
+    let word = rungs::word_at(words, at);
     let operand = word % 65536;
     match word / 65536 {
         5 => {

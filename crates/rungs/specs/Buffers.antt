@@ -3,6 +3,7 @@
 use Prim.Native.Nat.{ℕ}
 use mathlib.Core.List.{List, [], _∷_, _++_, map}
 use lib.ListN.{length, drop}
+use lib.Seq.{sets}
 use Rattle.questions.specs.Questions.{Buffer}
 use Rattle.rungs.specs.Records.{RungRecord}
 use Rattle.rungs.specs.Records.{labels as labelsOf, offsets as offsetsOf}
@@ -40,4 +41,14 @@ writtenOver new lent =
       labels = written (new .labels) (lent .labels);
       offsets = written (new .offsets) (lent .offsets);
       lengths = written (new .lengths) (lent .lengths);
+    }
+
+-- the same as far as there is room: what functions inside promise where no question 13 has been put
+unfoldable pub putAll : Buffers → Buffers → Buffers
+putAll b new =
+    record {
+      words = sets (b .words) 0 (new .words);
+      labels = sets (b .labels) 0 (new .labels);
+      offsets = sets (b .offsets) 0 (new .offsets);
+      lengths = sets (b .lengths) 0 (new .lengths);
     }

@@ -25,11 +25,11 @@ use Rattle.ladder.specs.Laws.Accepting.{ladder-is}
 use Rattle.grammar.specs.Reader.{Parse, read, stuck, textOf}
 use Rattle.grammar.specs.Questions.{question3}
 use Rattle.grammar.specs.Theorems.{read-exactly, read-whole, scratch-always, decoded-always, kept-always}
-use Rattle.rungs.specs.Buffers.{Buffers, asBuffers, needs, written, writtenOver}
+use Rattle.rungs.specs.Buffers.{Buffers, asBuffers, needs, written, writtenOver, putAll}
 use Rattle.rungs.specs.Laws.Filling.{taken-out, row-of-buffers, labels-count, offsets-count, lengths-count}
 use Rattle.text.specs.Read.{ladderOf, keptBuffers, ReadCall, kept, refused, readText, ReadDone}
 use Rattle.text.specs.Read.{answerOf}
-use Rattle.text.specs.Parts.{sizesOf, fits, putAll, linesParsed, LinesAreKept, handOver}
+use Rattle.text.specs.Parts.{sizesOf, fits, linesParsed, LinesAreKept, handOver}
 use Rattle.text.specs.declared.TextRead.{TextRead}
 use Rattle.text.specs.declared.TextRead.the-variants.{Kept as KeptCase, Refused as RefusedCase}
 use Rattle.text.specs.declared.lines.Sizes.{Sizes}

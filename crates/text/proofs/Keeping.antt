@@ -14,9 +14,9 @@ use Rattle.rungs.specs.Laws.Layout.{sizes, pieces-length, lay-length}
 use Rattle.ladder.specs.Tree.{Rung, Ladder}
 use Rattle.ladder.specs.Kept.{rungWords, encode}
 use Rattle.grammar.specs.Reader.{pick, Parse, read, stuck, mapP, bind, lineOf, linesOf, textOf}
-use Rattle.rungs.specs.Buffers.{Buffers, asBuffers}
+use Rattle.rungs.specs.Buffers.{Buffers, asBuffers, putAll}
 use Rattle.text.specs.Read.{keptBuffers}
-use Rattle.text.specs.Parts.{lineParsed, LineRead, withRung, putRung, lineKept, LineIsKept, sizesOf, putAll, LinesAreKept}
+use Rattle.text.specs.Parts.{lineParsed, LineRead, withRung, putRung, lineKept, LineIsKept, sizesOf, LinesAreKept}
 use Rattle.text.specs.declared.lines.Sizes.{Sizes}
 use Rattle.text.specs.declared.lines.LineParsed.{LineParsed}
 use Rattle.text.specs.declared.lines.LineParsed.the-variants.{Read as LineReadCase, Stuck as LineStuckCase}

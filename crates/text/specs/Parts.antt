@@ -11,7 +11,7 @@ use Rattle.questions.specs.Bytes.{byte}
 use Rattle.questions.specs.Questions.{firstNo, question13}
 use Rattle.rungs.specs.Words.{word}
 use Rattle.rungs.specs.Records.{rowOf, longest}
-use Rattle.rungs.specs.Buffers.{Buffers, needs, writtenOver}
+use Rattle.rungs.specs.Buffers.{Buffers, needs, writtenOver, putAll}
 use Rattle.ladder.specs.Tree.{Rung, Ladder}
 use Rattle.ladder.specs.Kept.{rungWords, encode}
 use Rattle.ladder.specs.Questions.{mostRungs, mostRungWords, mostWords, ladderAnswer}
@@ -105,16 +105,6 @@ sizesOf gs = record { words = length (encode gs .words); rungs = length gs; long
 -- question 5 over what a ladder takes
 unfoldable pub fits : Sizes → Bool
 fits z = leb (z .rungs) mostRungs && (leb (z .longest) mostRungWords && leb (z .words) mostWords)
-
--- as far as there is room
-unfoldable pub putAll : Buffers → Buffers → Buffers
-putAll b new =
-    record {
-      words = sets (b .words) 0 (new .words);
-      labels = sets (b .labels) 0 (new .labels);
-      offsets = sets (b .offsets) 0 (new .offsets);
-      lengths = sets (b .lengths) 0 (new .lengths);
-    }
 
 abbrev pub linesParsed : Parse Ladder → LinesParsed
 linesParsed (read n gs) = LinesReadCase (sizesOf gs)

@@ -138,9 +138,9 @@ fn keep(
     let at = sizes.rungs;
     let from = sizes.words;
     words::copy_words(rung, count, words, from);
-    words::put_label(labels, at, label);
-    words::put_word(offsets, at, from as u32);
-    words::put_word(lengths, at, count as u32);
+    rungs::put_label(labels, at, label);
+    rungs::put_word(offsets, at, from as u32);
+    rungs::put_word(lengths, at, count as u32);
 }
 
 // Reads one line and keeps its rung.

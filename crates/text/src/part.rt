@@ -1,10 +1,9 @@
 // A part of the text that is read, with the words that it makes. Document 01, "Text". Each reader reads from `at` on, and puts the
 // words into a rung's buffer from `put` on. A rung that is too long for the buffer is read and counted all the same.
-ghost use mathlib.Core.List.{_∷_, []};
+
 ghost use Prim.Native.Nat.{_<_, _≤_};
 ghost use lib.ListN.{length};
 ghost use Rattle.text.specs.Parts.{oneWord, leafOf, PartRead};
-use crate::words;
 use grammar::Numeral;
 
 // The position after the part and how many words it makes, or the place where reading is stuck.
@@ -21,7 +20,7 @@ pub fn leaf(text: &[u8], at: usize, kind: u32, rung: &mut [u32], put: usize) -> 
 {
     match grammar::number(text, at + 1) {
         Numeral::Value { value, next } => {
-            words::put_word(rung, put, kind * 65536 + value);
+            rungs::put_word(rung, put, kind * 65536 + value);
             Parsed::Read { next, count: 1 }
         }
         Numeral::Missing => Parsed::Stuck { place: at + 1 },

@@ -75,7 +75,7 @@ pub fn branch(text: &[u8], at: usize, depth: usize, rung: &mut [u32], put: usize
     let mut next = at;
     let mut count: usize = 0;
     while opens(grammar::byte_at(text, next)) {
-        words::put_word(rung, put + count, REAR_AND);
+        rungs::put_word(rung, put + count, REAR_AND);
         match front::factor(text, next, depth, rung, put + count + 1) {
             Parsed::Read { next: n, count: w } => {
                 if grammar::byte_at(text, n) != b'&' {

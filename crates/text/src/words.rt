@@ -1,27 +1,9 @@
 // Words that are put into a buffer; past its end nothing is written.
 ghost use mathlib.Core.Path.{_≡_};
 ghost use Prim.Native.Nat.{_+_, _<_, _^_};
-ghost use lib.ListN.{set, take};
+ghost use lib.ListN.{take};
 ghost use lib.Seq.{sets};
 ghost use Rattle.text.specs.Parts.{Inserted};
-
-// One word.
-pub fn put_word(words: &mut [u32], at: usize, word: u32)
-    ensures { λ _. ⌜ now (words .exit) ≡ set (now (words .entry)) at word ⌝ }
-{
-    if at < words.len() {
-        words[at] = word;
-    }
-}
-
-// One label.
-pub fn put_label(labels: &mut [u16], at: usize, label: u16)
-    ensures { λ _. ⌜ now (labels .exit) ≡ set (now (labels .entry)) at label ⌝ }
-{
-    if at < labels.len() {
-        labels[at] = label;
-    }
-}
 
 // The first `count` words of a part.
 pub fn copy_words(part: &[u32], count: usize, words: &mut [u32], at: usize)
@@ -33,7 +15,7 @@ pub fn copy_words(part: &[u32], count: usize, words: &mut [u32], at: usize)
         if part.len() <= i {
             return;
         }
-        put_word(words, at + i, part[i]);
+        rungs::put_word(words, at + i, part[i]);
         i += 1;
     }
 }
@@ -44,7 +26,7 @@ pub fn copy_labels(part: &[u16], labels: &mut [u16])
 {
     let mut i: usize = 0;
     while i < part.len() {
-        put_label(labels, i, part[i]);
+        rungs::put_label(labels, i, part[i]);
         i += 1;
     }
 }

@@ -6,3 +6,5 @@ pub mod Scans
 pub mod Lists
 pub mod Legal
 pub mod Exact
+pub mod Calls
+pub mod Boths

@@ -1,9 +1,9 @@
--- What is promised of ladders and their lists, over trees; the proofs are in Laws. Assumes nothing.
+-- What is promised of ladders and their lists, over trees and over the calls; the proofs are in Laws. Assumes nothing.
 use Prim.Native.Nat.{ℕ, _*_, _≤_}
 use mathlib.Core.Path.{_≡_}
 use mathlib.Core.Logic.{_↔_}
 use mathlib.Core.Option.{none, some}
-use mathlib.Core.List.{map}
+use mathlib.Core.List.{List, map}
 use lib.Dec.{T}
 use lib.ListN.{length}
 use Rattle.questions.specs.Tests.{all}
@@ -13,15 +13,22 @@ use Rattle.table.specs.State.{State}
 use Rattle.table.specs.Questions.{question11}
 use Rattle.table.specs.Laws.Alike.{alike-self}
 use Rattle.rungs.specs.Records.{longest}
+use Rattle.rungs.specs.Buffers.{Buffers}
 use Rattle.ladder.specs.Tree.{Ladder}
-use Rattle.ladder.specs.Questions.{question6, scratchInRange, question9, rungBelow, Accepted}
+use Rattle.ladder.specs.Kept.{Kept}
+use Rattle.ladder.specs.Questions.{question6, scratchInRange, question9, rungBelow, ladderOf, ladderAnswer, Accepted}
 use Rattle.list.specs.Instruction.{instrWord, decodeCode}
 use Rattle.list.specs.Questions.{instrInRange, question10}
 use Rattle.translation.specs.Translate.{translate}
 use Rattle.translation.specs.Agreement.{Agreement}
+use Rattle.translation.specs.Calls.{Given, ScansAgree, CallsAgree}
 use Rattle.translation.specs.Laws.Lists.{start, start-near, translated-agrees}
 use Rattle.translation.specs.Laws.Legal.{list-in-range, list-decodes, watchdog-in-range, codes-ok}
 use Rattle.translation.specs.Laws.Exact.{codes-within}
+use Rattle.translation.specs.BothScans.{Lent}
+use Rattle.translation.specs.BothAgree.{BothGiven, BothAgree}
+use Rattle.translation.specs.Laws.Boths.{both-alike}
+use Rattle.translation.specs.Laws.Calls.{scans-alike, calls-alike}
 
 -- Demand 3: for every accepted ladder of V variables, every legal table, every rung watchdog n and every instruction watchdog.
 pub agreement : (gs : Ladder) (s : State) (n : ℕ) → Accepted (s .vars) gs → question11 s ≡ none → Agreement 2 gs (translate (s .vars) gs) s n
@@ -48,3 +55,18 @@ scratch-exactly vars gs variables = (
   (λ e. codes-ok vars _ (start vars gs) (start-near vars gs) gs (each-passed 6 (rungBelow vars) gs variables) (ask-passed 9 _ e)),
   (λ h. passed-ask 9 _ (codes-within vars _ (start vars gs) gs h)),
 )
+
+-- Demand 3 over the calls Ladder scan and List scan: for every kept ladder of V variables that is accepted, its list in words and records,
+-- every legal table and every rung watchdog n.
+pub scans-agree : (vars : ℕ) (k : Kept) (table : List ℕ) (n : ℕ)
+    → ladderAnswer vars k ≡ none → question11 (record { vars = vars; bytes = table }) ≡ none → question12 mostRungWatchdog n ≡ none
+    → ScansAgree vars k (map instrWord (translate vars (ladderOf k) .code)) (translate vars (ladderOf k) .records) (longest (translate vars (ladderOf k) .records)) table n
+scans-agree vars k table n accepted legal watchdog = scans-alike vars k table n accepted legal watchdog
+
+-- The same with the list that Translate writes into lent buffers with room enough, taken out of them again.
+pub calls-agree : (vars : ℕ) (k : Kept) (lent : Buffers) (table : List ℕ) (n : ℕ) → Given vars k lent table n → CallsAgree vars k lent table n
+calls-agree vars k lent table n given = calls-alike vars k lent table n given
+
+-- Demand 3 over the code: what both_scans answers for all watchdogs n and w.
+pub both-agree : (vars : ℕ) (k : Kept) (table : List ℕ) (lent : Lent) (n : ℕ) → BothGiven vars k table lent n → (w : ℕ) → BothAgree vars k table lent n w
+both-agree vars k table lent n given w = both-alike vars k table lent n given w

@@ -1,9 +1,11 @@
 -- The call Translate: its answer and the lent buffers afterwards, for all inputs. Document 01, "Translation", "Questions before work". Assumes nothing.
 use Prim.Native.Nat.{ℕ}
+use mathlib.Core.Path.{_≡_}
 use mathlib.Core.Option.{none, some}
 use mathlib.Core.List.{[], _∷_, map}
 use lib.ListN.{length}
 use Rattle.questions.specs.Questions.{Refusal, firstNo, question13}
+use Rattle.questions.specs.Refusals.{refusalOf}
 use Rattle.rungs.specs.Records.{longest}
 use Rattle.rungs.specs.Buffers.{Buffers, asBuffers, needs, writtenOver}
 use Rattle.ladder.specs.Kept.{Kept}
@@ -11,6 +13,8 @@ use Rattle.ladder.specs.Questions.{ladderOf, ladderAnswer}
 use Rattle.list.specs.Instruction.{instrWord}
 use Rattle.list.specs.Machine.{InstructionList}
 use Rattle.translation.specs.Translate.{translate}
+use Rattle.translation.specs.declared.Translated.{Translated}
+use Rattle.translation.specs.declared.Translated.the-variants.{Written as WrittenCase, Refused as RefusedCase}
 
 -- a list in instruction words and records, as buffers of just their size
 abbrev pub listBuffers : InstructionList → Buffers
@@ -42,3 +46,13 @@ translateKept vars k lent =
       | some refusal ↦ record { answer = refused refusal; buffers = lent }
       | none ↦ record { answer = translated (countsOf list); buffers = writtenOver new lent }
     ]
+
+-- document 01's values for each case of the enum Translated
+unfoldable pub answerOf : Translated → TranslateAnswer
+answerOf (WrittenCase c) = translated (record { instructions = c .instructions; rungs = c .rungs; longest = c .longest })
+answerOf (RefusedCase refusal) = refused (refusalOf refusal)
+
+-- the promise of translate: answer and buffers are those of the definition
+pub record TranslateDone (call : TranslateCall) (r : Translated) (lent : Buffers) : Type 0 where
+  pub answer : answerOf r ≡ call .answer
+  pub same-buffers : lent ≡ call .buffers

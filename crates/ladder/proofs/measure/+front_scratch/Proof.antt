@@ -3,7 +3,7 @@
 use Prim.Native.Nat.{ℕ, _-_, _<_}
 use native.Mathlib.Omega.{arith}
 use lib.ListN.{length}
-use Rattle.ladder.proofs.Trees.{inside}
+use Rattle.ladder.specs.Laws.Trees.{inside}
 use Rattle.ladder.proofs.Measures.{measured-input, measured-parts, measured-none}
 use borrow.Fn.Kinds.{In}
 use borrow.Fn.PlainCycle.{Measures, is, falls, and}
@@ -12,7 +12,7 @@ use Rattle.ladder.proofs.measure.front_scratch.Kinds as front-scratch-k
 use Rattle.ladder.proofs.measure.+front_scratch.Lts-front_scratch as front-scratch-lts
 use Rattle.ladder.proofs.measure.join_scratch.Reads as join-scratch-reads
 use Rattle.ladder.proofs.measure.larger.Reads as larger-reads
-use Rattle.ladder.proofs.walk.word_at.Reads as word-at-reads
+use Rattle.rungs.proofs.word_at.Reads as word-at-reads
 use Rattle.ladder.proofs.measure.+front_scratch.{statement}
 use Rattle.ladder.proofs.measure.+front_scratch.Tie.{close}
 

@@ -3,14 +3,14 @@
 use Prim.Native.Nat.{ℕ, _-_, _<_}
 use native.Mathlib.Omega.{arith}
 use lib.ListN.{length}
-use Rattle.ladder.proofs.Trees.{inside}
+use Rattle.ladder.specs.Laws.Trees.{inside}
 use Rattle.ladder.proofs.Walks.{worked-contact, worked-contactn, worked-and, worked-or, worked-none}
 use borrow.Fn.Kinds.{In}
 use borrow.Fn.PlainCycle.{Measures, is, falls, and}
 use Rattle.ladder.proofs.walk.front_at.Reads as front-at
 use Rattle.ladder.proofs.walk.front_at.Kinds as front-at-kinds
 use Rattle.ladder.proofs.walk.+front_at.Lts-front_at as front-at-lts
-use Rattle.ladder.proofs.walk.word_at.Reads as word-at-reads
+use Rattle.rungs.proofs.word_at.Reads as word-at-reads
 use Rattle.table.proofs.value.Reads as value-reads
 use Rattle.ladder.proofs.walk.+front_at.{statement}
 use Rattle.ladder.proofs.walk.+front_at.Tie.{close}

@@ -4,7 +4,7 @@ use Prim.Native.Nat.{ℕ, _-_, _<_}
 use native.Mathlib.Omega.{arith}
 use lib.ListN.{length}
 use borrow.Author.Needs.{needs}
-use Rattle.ladder.proofs.Trees.{inside}
+use Rattle.ladder.specs.Laws.Trees.{inside}
 use Rattle.ladder.proofs.Walks.{ran-coil, ran-coiln, jump-taken, jump-left, jumpn-taken, jumpn-left, ran-and, ran-or, ran-or-jumped, ran-none}
 use borrow.Fn.Kinds.{In}
 use borrow.Fn.PlainCycle.{Measures, is, falls, and}
@@ -12,7 +12,7 @@ use Rattle.ladder.proofs.walk.rear_at.Reads as rear-at
 use Rattle.ladder.proofs.walk.rear_at.Kinds as rear-at-kinds
 use Rattle.ladder.proofs.walk.+rear_at.Lts-rear_at as rear-at-lts
 use Rattle.ladder.proofs.walk.front_at.Reads as front-at-reads
-use Rattle.ladder.proofs.walk.word_at.Reads as word-at-reads
+use Rattle.rungs.proofs.word_at.Reads as word-at-reads
 use Rattle.table.proofs.write.Reads as write-reads
 use Rattle.ladder.proofs.walk.+rear_at.{statement}
 use Rattle.ladder.proofs.walk.+rear_at.Tie.{close}

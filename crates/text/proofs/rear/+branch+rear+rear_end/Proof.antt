@@ -26,7 +26,7 @@ use Rattle.text.proofs.front.factor.Reads as factor-reads
 use Rattle.text.proofs.part.leaf.Reads as leaf-reads
 use Rattle.text.proofs.rear.opens.Reads as opens-reads
 use Rattle.text.proofs.words.insert.Reads as insert-reads
-use Rattle.text.proofs.words.put_word.Reads as put-word-reads
+use Rattle.rungs.proofs.put_word.Reads as put-word-reads
 use Rattle.text.proofs.rear.+branch+rear+rear_end.{statement}
 use Rattle.text.proofs.rear.+branch+rear+rear_end.Tie.{close}
 

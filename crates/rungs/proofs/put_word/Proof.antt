@@ -1,9 +1,9 @@
--- `text::words::put_word` meets its contract: a store past the end does nothing. Assumes nothing.
+-- `rungs::put_word` meets its contract: a store past the end does nothing. Assumes nothing.
 use mathlib.Core.Path.{sym}
 use lib.Seq.{set-out}
 use borrow.Author.Needs.{needs}
-use Rattle.text.proofs.words.put_word.Statement.{statement}
-use Rattle.text.proofs.words.put_word.Tie as tie
+use Rattle.rungs.proofs.put_word.Statement.{statement}
+use Rattle.rungs.proofs.put_word.Tie as tie
 
 mul-words : tie.Need-mul-words
 mul-words c = search needs

@@ -1,9 +1,9 @@
--- `ladder::walk::word_at` meets its contract: past the end there is no word. Assumes nothing.
+-- `rungs::word_at` meets its contract: past the end there is no word. Assumes nothing.
 use mathlib.Core.Path.{sym}
 use lib.ListN.{List·getD-eq-default}
 use borrow.Author.Needs.{needs}
-use Rattle.ladder.proofs.walk.word_at.Statement.{statement}
-use Rattle.ladder.proofs.walk.word_at.Tie as tie
+use Rattle.rungs.proofs.word_at.Statement.{statement}
+use Rattle.rungs.proofs.word_at.Tie as tie
 
 mul-result : tie.Need-mul-result
 mul-result c = search needs

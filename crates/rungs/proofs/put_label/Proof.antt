@@ -1,9 +1,9 @@
--- `text::words::put_label` meets its contract: a store past the end does nothing. Assumes nothing.
+-- `rungs::put_label` meets its contract: a store past the end does nothing. Assumes nothing.
 use mathlib.Core.Path.{sym}
 use lib.Seq.{set-out}
 use borrow.Author.Needs.{needs}
-use Rattle.text.proofs.words.put_label.Statement.{statement}
-use Rattle.text.proofs.words.put_label.Tie as tie
+use Rattle.rungs.proofs.put_label.Statement.{statement}
+use Rattle.rungs.proofs.put_label.Tie as tie
 
 mul-labels : tie.Need-mul-labels
 mul-labels c = search needs

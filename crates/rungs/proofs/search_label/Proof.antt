@@ -1,10 +1,10 @@
--- `ladder::question::search_label` meets its contract. The loop's invariant: the search from `i` on is the whole search. Assumes nothing.
+-- `rungs::search_label` meets its contract. The loop's invariant: the search from `i` on is the whole search. Assumes nothing.
 use Prim.Native.Nat.{_-_}
 use native.Mathlib.Omega.{arith}
 use lib.ListN.{length}
-use Rattle.ladder.proofs.Asked.{Searched, search-start, search-found, search-more, search-end}
-use Rattle.ladder.proofs.question.search_label.Statement.{statement}
-use Rattle.ladder.proofs.question.search_label.Tie as tie
+use Rattle.rungs.proofs.Searches.{Searched, search-start, search-found, search-more, search-end}
+use Rattle.rungs.proofs.search_label.Statement.{statement}
+use Rattle.rungs.proofs.search_label.Tie as tie
 
 abbrev Inv-loop : tie.InvT-loop
 Inv-loop labels label i₀ i = Searched label labels i
