@@ -26,7 +26,8 @@ use Rattle.questions.specs.Laws.Answers.{ask-passed, first-yes, later-yes}
 use Rattle.list.specs.Listing.{fixedNames, listingText, listing, ListingDone}
 use Rattle.list.specs.Listing.{answerOf as listedAnswerOf}
 use Rattle.list.specs.declared.Listed.the-variants.{Written, Refused as RefusedListing}
-use Rattle.list.specs.Parts.{Ran, Put}
+use Rattle.printing.specs.Put.{Put}
+use Rattle.list.specs.Parts.{Ran}
 use Rattle.list.proofs.Accepting.{list-accepted}
 use Rattle.list.proofs.Seeks.{laid-ascend}
 use Rattle.list.specs.Machine.{scanList}

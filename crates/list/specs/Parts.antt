@@ -6,7 +6,6 @@ use mathlib.Core.Option.{none, some}
 use mathlib.Core.List.{List, [], _∷_, flatMap}
 use lib.Dec.{eqb, ltb}
 use lib.ListN.{length, getD}
-use lib.Seq.{sets}
 use Rattle.table.specs.State.{bit}
 use Rattle.rungs.specs.Records.{RungRecord, offsets, isStart}
 use Rattle.list.specs.Instruction.{Instr, NOT, tableIndex, noOperand, instructionIndex, decodeInstr, decodeCode}
@@ -59,11 +58,6 @@ pub record Sought (os : List ℕ) (index r : ℕ) : Type 0 where
 pub record Ran (ws os t : List ℕ) (watchdog : ℕ) (r : ListScanned) (u : List ℕ) : Type 0 where
   pub same : (l : InstructionList) → decodeCode ws ≡ some (l .code) → offsets (l .records) ≡ os → ascending 0 os → (vars : ℕ)
       → ListScanDone (scanEnds (scanList l watchdog (record { vars = vars; bytes = t }))) r u
-
--- a text written from `at` on, and the position after it
-pub record Put (out : List ℕ) (at : ℕ) (text : List ℕ) (r : ℕ) (u : List ℕ) : Type 0 where
-  pub end : r ≡ at + length text
-  pub wrote : u ≡ sets out at text
 
 -- the instruction of a word
 unfoldable pub instrOf : ℕ → Instr

@@ -10,7 +10,8 @@ ghost use Rattle.rungs.specs.Records.{rowOf};
 ghost use Rattle.list.specs.Questions.{listInRange};
 ghost use Rattle.list.specs.ListScan.{listOf};
 ghost use Rattle.list.specs.Listing.{fixedNames, nameOf, labelLine, ended, listingText};
-ghost use Rattle.list.specs.Parts.{Put, Decodes, operandBy, wordLine, wordLines, RungReady};
+ghost use Rattle.printing.specs.Put.{Put};
+ghost use Rattle.list.specs.Parts.{Decodes, operandBy, wordLine, wordLines, RungReady};
 
 // Six bytes a name, filled with zeros, by op from 1.
 const NAMES: [[u8; 6]; 14] = [
@@ -30,28 +31,6 @@ const NAMES: [[u8; 6]; 14] = [
     [74, 77, 80, 67, 78, 0],
 ];
 
-pub fn put_byte(out: &mut [u8], at: usize, b: u8) -> usize
-    requires { ⌜ at < 1000000 ⌝ }
-    ensures { λ r. ⌜ Put (now (out .entry)) at (b ∷ []) r (now (out .exit)) ⌝ }
-{
-    if at < out.len() {
-        out[at] = b;
-    }
-    at + 1
-}
-
-// A number in decimal, without leading zeros.
-pub fn put_number(out: &mut [u8], at: usize, n: u32) -> usize
-    requires { ⌜ (at < 900000) × (n < 65536) ⌝ }
-    ensures { λ r. ⌜ Put (now (out .entry)) at (decimal n) r (now (out .exit)) ⌝ }
-{
-    let mut end = at;
-    if 10 <= n {
-        end = put_number(out, at, n / 10);
-    }
-    put_byte(out, end, (n % 10) as u8 + 48)
-}
-
 // The name of an op, up to its filling.
 pub fn put_name(out: &mut [u8], at: usize, op: usize) -> usize
     requires { ⌜ (at < 800000) × (1 ≤ op) × (op ≤ 14) ⌝ }
@@ -64,7 +43,7 @@ pub fn put_name(out: &mut [u8], at: usize, op: usize) -> usize
         if b == 0 {
             return at + k;
         }
-        put_byte(out, at + k, b);
+        printing::put_byte(out, at + k, b);
         k += 1;
     }
     at + k
@@ -78,17 +57,17 @@ pub fn put_operand(out: &mut [u8], at: usize, vars: u32, op: u32, operand: u32) 
     if op == 11 {
         return at;
     }
-    let space = put_byte(out, at, 32);
+    let space = printing::put_byte(out, at, 32);
     if 11 < op {
-        let sign = put_byte(out, space, 64);
-        return put_number(out, sign, operand);
+        let sign = printing::put_byte(out, space, 64);
+        return printing::put_number(out, sign, operand as usize);
     }
     if operand < vars {
-        let sign = put_byte(out, space, 118);
-        return put_number(out, sign, operand);
+        let sign = printing::put_byte(out, space, 118);
+        return printing::put_number(out, sign, operand as usize);
     }
-    let sign = put_byte(out, space, 116);
-    put_number(out, sign, operand - vars)
+    let sign = printing::put_byte(out, space, 116);
+    printing::put_number(out, sign, (operand - vars) as usize)
 }
 
 // The line of an instruction.
@@ -100,7 +79,7 @@ pub fn put_instruction(out: &mut [u8], at: usize, vars: u32, word: u32) -> usize
     let operand = word % 65536;
     let name = put_name(out, at, op as usize);
     let end = put_operand(out, name, vars, op, operand);
-    put_byte(out, end, 10)
+    printing::put_byte(out, end, 10)
 }
 
 // The line of a label.
@@ -108,10 +87,10 @@ pub fn put_label(out: &mut [u8], at: usize, label: u16) -> usize
     requires { ⌜ at < 600000 ⌝ }
     ensures { λ r. ⌜ Put (now (out .entry)) at (ended (labelLine label)) r (now (out .exit)) ⌝ }
 {
-    let sign = put_byte(out, at, 76);
-    let number = put_number(out, sign, label as u32);
-    let colon = put_byte(out, number, 58);
-    put_byte(out, colon, 10)
+    let sign = printing::put_byte(out, at, 76);
+    let number = printing::put_number(out, sign, label as usize);
+    let colon = printing::put_byte(out, number, 58);
+    printing::put_byte(out, colon, 10)
 }
 
 // The lines of the instructions from one index up to another.

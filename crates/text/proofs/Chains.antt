@@ -12,7 +12,8 @@ use Rattle.grammar.specs.Reader.{Parse, read, stuck, mapP, chain}
 use Rattle.grammar.specs.Laws.Spans.{inside}
 use Rattle.text.specs.Parts.{Inserted, PartRead}
 use Rattle.text.specs.declared.part.Parsed.the-variants.{Read, Stuck}
-use Rattle.text.proofs.Sets.{sets-append, sets-over, before}
+use Rattle.questions.specs.Laws.Stores.{sets-append}
+use Rattle.text.proofs.Sets.{sets-over, before}
 use Rattle.text.proofs.Parts.{read-of, stuck-of, part-stuck, part-read}
 
 -- the words of two fronts that are joined: the root word, then those of both

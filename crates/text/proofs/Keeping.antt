@@ -24,7 +24,8 @@ use Rattle.text.specs.declared.lines.LineKept.{LineKept}
 use Rattle.text.specs.declared.lines.LineKept.the-variants.{Read as LineKeptCase, Stuck as LineNotKept}
 use Rattle.text.specs.declared.lines.LinesParsed.the-variants.{Read as LinesReadCase, Stuck as LinesStuckCase}
 use Rattle.text.proofs.Parts.{same-tree, not-both}
-use Rattle.text.proofs.Sets.{sets-append, taken}
+use Rattle.questions.specs.Laws.Stores.{sets-append}
+use Rattle.text.proofs.Sets.{taken}
 
 -- ---- one rung more
 

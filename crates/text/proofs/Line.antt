@@ -18,7 +18,7 @@ use Rattle.text.specs.declared.part.Parsed.{Parsed}
 use Rattle.text.specs.declared.part.Parsed.the-variants.{Read, Stuck}
 use Rattle.text.specs.declared.lines.LineParsed.the-variants.{Read as LineReadCase, Stuck as LineStuckCase}
 use Rattle.text.proofs.Parts.{same-tree, not-both, followed-read, followed-short, followed-stuck, read-of, stuck-of, found, part-stuck, part-read}
-use Rattle.text.proofs.Sets.{sets-append}
+use Rattle.questions.specs.Laws.Stores.{sets-append}
 
 module _ {A B : Type 0} (p : Parse A) (rest : ℕ → A → Parse B) where
   bind-stuck : (x : ℕ) → p ≡ stuck x → bind p rest ≡ stuck x

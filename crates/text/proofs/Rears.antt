@@ -14,7 +14,8 @@ use Rattle.grammar.specs.Reader.{pick, Parse, read, stuck, mapP, bind, followed
 use Rattle.grammar.specs.Laws.Spans.{inside}
 use Rattle.text.specs.Parts.{PartRead, Inserted}
 use Rattle.text.specs.declared.part.Parsed.the-variants.{Read, Stuck}
-use Rattle.text.proofs.Sets.{sets-append, before}
+use Rattle.questions.specs.Laws.Stores.{sets-append}
+use Rattle.text.proofs.Sets.{before}
 use Rattle.text.proofs.Parts.{read-of, stuck-of, part-stuck, part-read}
 
 map-none : (p : Parse Rear) → mapP (λ r. r) p ≡ p

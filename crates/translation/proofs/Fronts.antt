@@ -15,7 +15,7 @@ use Rattle.list.specs.Instruction.{Instr, LD, LDN, ST, AND, ANDN, OR, ORN, oper
 use Rattle.translation.specs.Translate.{F, join}
 use Rattle.translation.specs.Parts.{CodePut, Within, OnePut, FrontPut, Joins, JoinPut, startIn}
 use Rattle.translation.specs.declared.code.Stands.{Stands}
-use Rattle.translation.proofs.Sets.{sets-append}
+use Rattle.questions.specs.Laws.Stores.{sets-append}
 
 -- ---- runs of instructions
 

@@ -19,7 +19,7 @@ use Rattle.translation.specs.Parts.{CodePut, RungPut, LadderReady, LaidO
 use Rattle.translation.specs.Laws.Parts.{same-length}
 use Rattle.translation.specs.Laws.Legal.{sized}
 use Rattle.translation.specs.declared.code.Stands.{Stands}
-use Rattle.translation.proofs.Sets.{sets-append}
+use Rattle.questions.specs.Laws.Stores.{sets-append}
 
 -- ---- one rung more
 

@@ -1,5 +1,4 @@
 -- Laws that the proofs of this crate's functions cite.
-pub mod Sets
 pub mod Fronts
 pub mod Rears
 pub mod Laying

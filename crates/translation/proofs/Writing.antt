@@ -18,7 +18,7 @@ use Rattle.translation.specs.Translate.{rungCode, listRecords, translate
 use Rattle.translation.specs.TranslateKept.{listBuffers}
 use Rattle.translation.specs.Parts.{RungPut, LadderReady, ListPut, startIn}
 use Rattle.translation.specs.declared.code.Stands.{Stands}
-use Rattle.translation.proofs.Sets.{sets-append}
+use Rattle.questions.specs.Laws.Stores.{sets-append}
 use Rattle.translation.proofs.Laying.{sizeOf, firsts, Next, upto-one, stored-label, stored-offset, stored-length, as-many, in-ladder, nextOf, few-rungs}
 use Rattle.translation.proofs.Laying.{Before, before-first, few-put, one-put, one-size, before-more, all-taken, all-firsts, code-length}
 

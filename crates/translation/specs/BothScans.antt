@@ -27,6 +27,9 @@ pub record Lent : Type 0 where
   pub listTable : List ℕ
   pub buffers : Buffers
 
+abbrev pub lends : List ℕ → List ℕ → Buffers → Lent
+lends ladderTable listTable buffers = record { ladderTable = ladderTable; listTable = listTable; buffers = buffers }
+
 -- the answers of both scans, or Translate's refusal
 pub data BothAnswer : Type 0 where
   both : LadderAnswer → ListAnswer → BothAnswer

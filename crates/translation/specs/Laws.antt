@@ -8,3 +8,4 @@ pub mod Legal
 pub mod Exact
 pub mod Calls
 pub mod Boths
+pub mod Many

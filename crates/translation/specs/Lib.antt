@@ -1,4 +1,4 @@
--- Ladders to lists. Definitions: Translate, TranslateKept (the call), BothScans. Worked translations: Examples. What is promised: Agreement (demand 3 over trees), Calls (over the calls), BothAgree (over the code), Theorems. What functions inside promise each other: Parts. Laws, which no contract cites: Laws.
+-- Ladders to lists. Definitions: Translate, TranslateKept (the call), BothScans. Worked translations: Examples. What is promised: Agreement (demand 3 over trees), Calls (over the calls), BothAgree (over the code), ManyScans (over any number of scans), Theorems. What functions inside promise each other: Parts. Laws, which no contract cites: Laws.
 pub mod Translate
 pub mod TranslateKept
 pub mod Examples
@@ -6,6 +6,7 @@ pub mod Agreement
 pub mod Calls
 pub mod BothScans
 pub mod BothAgree
+pub mod ManyScans
 pub mod Parts
 pub mod Theorems
 pub mod Laws

@@ -29,6 +29,8 @@ use Rattle.translation.specs.BothScans.{Lent}
 use Rattle.translation.specs.BothAgree.{BothGiven, BothAgree}
 use Rattle.translation.specs.Laws.Boths.{both-alike}
 use Rattle.translation.specs.Laws.Calls.{scans-alike, calls-alike}
+use Rattle.translation.specs.ManyScans.{Scan, ManyGiven, ManyAgree}
+use Rattle.translation.specs.Laws.Many.{many-alike}
 
 -- Demand 3: for every accepted ladder of V variables, every legal table, every rung watchdog n and every instruction watchdog.
 pub agreement : (gs : Ladder) (s : State) (n : ℕ) → Accepted (s .vars) gs → question11 s ≡ none → Agreement 2 gs (translate (s .vars) gs) s n
@@ -70,3 +72,7 @@ calls-agree vars k lent table n given = calls-alike vars k lent table n given
 -- Demand 3 over the code: what both_scans answers for all watchdogs n and w.
 pub both-agree : (vars : ℕ) (k : Kept) (table : List ℕ) (lent : Lent) (n : ℕ) → BothGiven vars k table lent n → (w : ℕ) → BothAgree vars k table lent n w
 both-agree vars k table lent n given w = both-alike vars k table lent n given w
+
+-- Beyond demand 3: over any number of scans, an input phase before each, a ladder and its list agree after every one. Of Translate it takes scans-agree alone.
+pub many-scans : (vars : ℕ) (k : Kept) (scans : List Scan) (t u : List ℕ) → ManyGiven vars k scans t u → ManyAgree vars k scans t u
+many-scans vars k scans t u given = many-alike vars k (λ table n. scans-agree vars k table n (given .accepted)) scans t u given

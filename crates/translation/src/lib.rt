@@ -2,7 +2,7 @@
 ghost use Rattle.rungs.specs.Records.{rowOf};
 ghost use Rattle.rungs.specs.Buffers.{buffers};
 ghost use Rattle.translation.specs.TranslateKept.{translateKept, TranslateDone};
-ghost use Rattle.translation.specs.BothScans.{copied, bothScans, BothScansDone};
+ghost use Rattle.translation.specs.BothScans.{copied, lends, bothScans, BothScansDone};
 ghost use mathlib.Core.Path.{_≡_};
 use ladder::LadderScanned;
 use list::ListScanned;
@@ -124,17 +124,11 @@ pub fn both_scans(
     ensures { λ r. ⌜ BothScansDone (bothScans vars
         (record { words = now (words .entry); records = rowOf (now (labels .entry)) (now (offsets .entry)) (now (lengths .entry)) })
         (now (table .entry))
-        (record {
-          ladderTable = now («ladder_table» .entry);
-          listTable = now («list_table» .entry);
-          buffers = buffers (now (code .entry)) (now («code_labels» .entry)) (now («code_offsets» .entry)) (now («code_lengths» .entry));
-        })
+        (lends (now («ladder_table» .entry)) (now («list_table» .entry))
+        (buffers (now (code .entry)) (now («code_labels» .entry)) (now («code_offsets» .entry)) (now («code_lengths» .entry))))
         «rung_watchdog» «instruction_watchdog») r
-        (record {
-          ladderTable = now («ladder_table» .exit);
-          listTable = now («list_table» .exit);
-          buffers = buffers (now (code .exit)) (now («code_labels» .exit)) (now («code_offsets» .exit)) (now («code_lengths» .exit));
-        }) ⌝ }
+        (lends (now («ladder_table» .exit)) (now («list_table» .exit))
+        (buffers (now (code .exit)) (now («code_labels» .exit)) (now («code_offsets» .exit)) (now («code_lengths» .exit)))) ⌝ }
 {
     match translate(
         vars,

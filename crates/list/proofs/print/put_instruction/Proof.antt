@@ -2,7 +2,8 @@
 -- Assumes nothing.
 use Prim.Native.Nat.{_/_, _%_}
 use native.Mathlib.Omega.{arith}
-use Rattle.list.proofs.Printed.{put-then, put-as, name-long, operand-long, word-op, word-line}
+use Rattle.printing.specs.Laws.Puts.{put-then, put-as}
+use Rattle.list.proofs.Printed.{name-long, operand-long, word-op, word-line}
 use borrow.Author.Needs.{needs}
 use Rattle.list.proofs.print.put_instruction.Statement.{statement}
 use Rattle.list.proofs.print.put_instruction.Tie as tie

@@ -1,7 +1,7 @@
 -- `list::print::put_label` meets its contract: the letter, the number, the colon and the line's end are written one after the other. Assumes nothing.
 use native.Mathlib.Omega.{arith}
 use Rattle.list.specs.Listing.{labelLine, ended}
-use Rattle.list.proofs.Printed.{put-then, decimal-long}
+use Rattle.printing.specs.Laws.Puts.{put-then, decimal-long}
 use borrow.Author.Needs.{needs}
 use Rattle.list.proofs.print.put_label.Statement.{statement}
 use Rattle.list.proofs.print.put_label.Tie as tie

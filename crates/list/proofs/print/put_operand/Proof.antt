@@ -1,7 +1,8 @@
 -- `list::print::put_operand` meets its contract: the space, the letter and the number are written one after the other. Assumes nothing.
 use Prim.Native.Nat.{_<_}
 use native.Mathlib.Omega.{arith}
-use Rattle.list.proofs.Printed.{put-none, put-then, put-as, operand-none, operand-index, operand-variable, operand-scratch}
+use Rattle.printing.specs.Laws.Puts.{put-none, put-then, put-as}
+use Rattle.list.proofs.Printed.{operand-none, operand-index, operand-variable, operand-scratch}
 use borrow.Author.Needs.{needs}
 use Rattle.list.proofs.print.put_operand.Statement.{statement}
 use Rattle.list.proofs.print.put_operand.Tie as tie
@@ -42,6 +43,9 @@ returns-3 c =
 put-byte-requires-4 : tie.Need-put-byte-requires-4
 put-byte-requires-4 c κs = search needs
 
+cast-put-number : tie.Need-cast-put-number
+cast-put-number c = search needs
+
 put-number-requires-3 : tie.Need-put-number-requires-3
 put-number-requires-3 c κs = search needs
 
@@ -68,6 +72,7 @@ put-operand-spec =
     same-length-2
     returns-3
     put-byte-requires-4
+    cast-put-number
     put-number-requires-3
     same-length-3
     returns-4)

@@ -1,11 +1,11 @@
--- `list::print::put_byte` meets its contract: one byte is set, and none past the end. Assumes nothing.
+-- `printing::put_byte` meets its contract: one byte is set, and none past the end. Assumes nothing.
 use mathlib.Core.Path.{refl}
 use mathlib.Core.Logic.{⊎-elim}
 use native.Mathlib.Omega.{arith}
 use borrow.Author.Needs.{needs}
-use Rattle.list.proofs.Printed.{put-out, put-long}
-use Rattle.list.proofs.print.put_byte.Statement.{statement}
-use Rattle.list.proofs.print.put_byte.Tie as tie
+use Rattle.printing.specs.Laws.Puts.{put-out, put-long}
+use Rattle.printing.proofs.put_byte.Statement.{statement}
+use Rattle.printing.proofs.put_byte.Tie as tie
 
 slice-write-out : tie.Need-slice-write-out
 slice-write-out c = search needs

@@ -1,17 +1,17 @@
--- `list::print::put_number` meets its contract: its digits but the last, by the same function over the tenth, and then the last.
+-- `printing::put_number` meets its contract: its digits but the last, by the same function over the tenth, and then the last.
 -- The measure is the number. Assumes nothing.
 use Prim.Native.Nat.{ℕ, _/_, _<_}
 use mathlib.Core.Logic.{⊎-elim}
 use native.Mathlib.Omega.{arith}
-use Rattle.list.proofs.Printed.{put-long, decimal-long, number-one, number-more}
+use Rattle.printing.specs.Laws.Puts.{put-long, decimal-most, number-one, number-more}
 use borrow.Fn.Kinds.{In}
 use borrow.Fn.PlainCycle.{Measures, is, falls, and}
-use Rattle.list.proofs.print.put_number.Reads as put-number
-use Rattle.list.proofs.print.put_number.Kinds as put-number-kinds
-use Rattle.list.proofs.print.+put_number.Lts-put_number as put-number-lts
-use Rattle.list.proofs.print.put_byte.Reads as put-byte-reads
-use Rattle.list.proofs.print.+put_number.{statement}
-use Rattle.list.proofs.print.+put_number.Tie.{close}
+use Rattle.printing.proofs.put_number.Reads as put-number
+use Rattle.printing.proofs.put_number.Kinds as put-number-kinds
+use Rattle.printing.proofs.+put_number.Lts-put_number as put-number-lts
+use Rattle.printing.proofs.put_byte.Reads as put-byte-reads
+use Rattle.printing.proofs.+put_number.{statement}
+use Rattle.printing.proofs.+put_number.Tie.{close}
 
 abbrev μ-put-number : Measures 1 put-number-kinds.ps ℕ
 μ-put-number κs a = a .1 .1 .0
@@ -30,7 +30,7 @@ put-number-put-number-requires : (t : ℕ) → put-number-lts.Need-put-number-re
   put-byte-reads.Asked,
   put-byte-reads.Learnt,
 ) (put-number-at t) put-number.Post
-put-number-put-number-requires t c κs = (omega arith, (omega arith, omega arith))
+put-number-put-number-requires t c κs = (omega arith, omega arith)
 
 put-number-cast-put-byte : (t : ℕ) → put-number-lts.Need-cast-put-byte (
   put-number-below t,
@@ -56,7 +56,7 @@ put-number-put-byte-requires : (t : ℕ) → put-number-lts.Need-put-byte-requir
 ) (put-number-at t) put-number.Post
 put-number-put-byte-requires t c κs =
     ⊎-elim
-    (λ w. omega (arith, w .6, w .2 .ensures .end, decimal-long (c .before .before .before .args .n / 10) (omega arith)))
+    (λ w. omega (arith, w .6, w .2 .ensures .end, decimal-most (c .before .before .before .args .n / 10) (omega (arith, c .before .before .before .fits .n))))
     (λ w. omega arith)
     (c .before .if1 .came)
 

@@ -1,0 +1,47 @@
+-- `bench_ladders::main` is safe and ends. Assumes nothing.
+use mathlib.Core.Path.{sym}
+use lib.Seq.{length-take-le}
+use borrow.Author.Needs.{needs}
+use Rattle.bench_ladders.proofs.main.Statement.{statement}
+use Rattle.bench_ladders.proofs.main.Tie as tie
+
+slice-aggregate-put-scanned : tie.Need-slice-aggregate-put-scanned
+slice-aggregate-put-scanned c = search needs
+
+put-scanned-requires : tie.Need-put-scanned-requires
+put-scanned-requires c κs = search needs
+
+slice-aggregate-put-read : tie.Need-slice-aggregate-put-read
+slice-aggregate-put-read c = search needs
+
+put-read-requires : tie.Need-put-read-requires
+put-read-requires c κs = search needs
+
+array-share-prefix-room : tie.Need-array-share-prefix-room
+array-share-prefix-room c = search needs
+
+slice-aggregate-write-all : tie.Need-slice-aggregate-write-all
+slice-aggregate-write-all c = sym (length-take-le _ _ (search needs))
+
+write-all-requires : tie.Need-write-all-requires
+write-all-requires c κs = search needs
+
+returns : tie.Need-returns
+returns c = search needs
+
+returns-2 : tie.Need-returns-2
+returns-2 c = search needs
+
+pub main-spec : {M : Type 1} → statement M
+main-spec =
+    tie.close
+    (tie.spec
+    slice-aggregate-put-scanned
+    put-scanned-requires
+    slice-aggregate-put-read
+    put-read-requires
+    array-share-prefix-room
+    slice-aggregate-write-all
+    write-all-requires
+    returns
+    returns-2)

@@ -1,0 +1,3 @@
+-- Printed bytes. What each function puts: Put. Laws, which no contract cites: Laws.
+pub mod Put
+pub mod Laws

@@ -1,0 +1,70 @@
+-- What the program ladder-list prints, from the whole input. Document 01, "Listing". Assumes nothing.
+use Prim.Native.Nat.{ℕ}
+use mathlib.Core.Bool.{true, false}
+use mathlib.Core.List.{List, [], _∷_, _++_}
+use lib.Dec.{eqb}
+use lib.ListN.{length, take, replicate}
+use Rattle.questions.specs.Bytes.{byte, bytes, decimal}
+use Rattle.questions.specs.Questions.{Refusal}
+use Rattle.rungs.specs.Records.{RungRecord}
+use Rattle.rungs.specs.Buffers.{Buffers, buffers}
+use Rattle.ladder.specs.Kept.{Kept}
+use Rattle.grammar.specs.Reader.{read, stuck, numberOf}
+use Rattle.text.specs.Read.{readText, kept}
+use Rattle.text.specs.Read.{refused as readRefused}
+use Rattle.text.specs.Theorems.{writtenKept}
+use Rattle.list.specs.Listing.{fixedNames, listing, written}
+use Rattle.list.specs.Listing.{refused as listingRefused}
+use Rattle.translation.specs.TranslateKept.{Counts, translateKept, translated}
+use Rattle.translation.specs.TranslateKept.{refused as translateRefused}
+use Rattle.translation.specs.Calls.{writtenWords, writtenRecords}
+
+-- "The first line is what stands before the first LF, or all of the input where none is; the text is what follows."
+unfoldable pub firstLine : List ℕ → List ℕ
+firstLine [] = []
+firstLine (b ∷ bs) = elim (eqb b (byte "\n")) [ true ↦ [] | false ↦ b ∷ firstLine bs ]
+
+unfoldable pub textAfter : List ℕ → List ℕ
+textAfter [] = []
+textAfter (b ∷ bs) = elim (eqb b (byte "\n")) [ true ↦ bs | false ↦ textAfter bs ]
+
+-- "A first line that is no number, as in the text, counts as V 0."
+unfoldable pub variablesOf : List ℕ → ℕ
+variablesOf line = elim (numberOf line 0) [ read n v ↦ elim (eqb n (length line)) [ true ↦ v | false ↦ 0 ] | stuck p ↦ 0 ]
+
+-- "refused N place P"; "Every printed line ends with LF."
+unfoldable pub refusalLine : Refusal → List ℕ
+refusalLine r = bytes "refused " ++ (decimal (r .number) ++ (bytes " place " ++ (decimal (r .place) ++ bytes "\n")))
+
+-- the count line, as case A shows it
+unfoldable pub countLine : Counts → List ℕ
+countLine c =
+    bytes "rungs " ++ (decimal (c .rungs) ++ (bytes " instructions " ++ (decimal (c .instructions) ++ (bytes " longest " ++ (decimal (c .longest) ++ bytes "\n")))))
+
+-- "Its other buffers have the largest size allowed."
+abbrev pub blank : ℕ → ℕ → Buffers
+blank words rungs = buffers (replicate words 0) (replicate rungs 0) (replicate rungs 0) (replicate rungs 0)
+
+-- "lends Listing 65,536 bytes; a longer listing is refused 13"
+unfoldable pub printedList : ℕ → List ℕ → List RungRecord → Counts → List ℕ
+printedList vars words records counts =
+    let l = listing fixedNames vars words records (replicate 65536 0) in
+    elim (l .answer) [ listingRefused refusal ↦ refusalLine refusal | written n ↦ take n (l .buffer) ++ countLine counts ]
+
+unfoldable pub printedKept : ℕ → Kept → List ℕ
+printedKept vars k =
+    let t = translateKept vars k (blank 16384 256) in
+    elim (t .answer) [
+      | translateRefused refusal ↦ refusalLine refusal
+      | translated counts ↦ printedList vars (writtenWords (t .buffers) counts) (writtenRecords (t .buffers) counts) counts
+    ]
+
+-- V and a text: "prints the listing and a count line, or "refused N place P""
+unfoldable pub printed : ℕ → List ℕ → List ℕ
+printed vars text =
+    let r = readText vars text (blank 8192 256) in
+    elim (r .answer) [ readRefused refusal ↦ refusalLine refusal | kept words rungs ↦ printedKept vars (writtenKept (r .buffers) words rungs) ]
+
+-- "The program keeps up to 65,536 bytes of text, enough to see that it is too long"
+unfoldable pub output : List ℕ → List ℕ
+output input = printed (variablesOf (firstLine input)) (take 65536 (textAfter input))

@@ -1,0 +1,316 @@
+// What the program ladder-list prints. Document 01, "Listing".
+ghost use mathlib.Core.Path.{_≡_};
+ghost use mathlib.Core.List.{[], _∷_};
+ghost use Prim.Native.Nat.{_+_, _-_, _≤_, _<_, min};
+ghost use lib.ListN.{length};
+ghost use Rattle.questions.specs.Refusals.{refusalOf};
+ghost use Rattle.rungs.specs.Records.{rowOf};
+ghost use Rattle.printing.specs.Put.{Put};
+ghost use Rattle.printout.specs.Printout.{refusalLine, countLine, printedList, printedKept, printed, output};
+ghost use Rattle.printout.specs.Parts.{stepOf, valueOf, countsIn, LineTaken};
+ghost use Rattle.grammar.specs.Reader.{digitOf};
+ghost use Rattle.printout.specs.declared.FirstLine.the-variants.{Empty, Number};
+use list::Listed;
+use questions::Refusal;
+use text::TextRead;
+use translation::Counts;
+use translation::Translated;
+
+// Up to 65,536 bytes of text are kept.
+pub const MOST_KEPT: usize = 65536;
+
+const MOST_WORDS: usize = 8192;
+
+const MOST_RUNGS: usize = 256;
+
+const MOST_INSTRUCTIONS: usize = 16384;
+
+const MOST_LISTING: usize = 65536;
+
+// What the bytes of the first line so far are: none, "0", another number, or no number.
+pub enum FirstLine {
+    Empty,
+    Zero,
+    Number(u32),
+    Bad,
+}
+
+// Before the first byte.
+pub fn begin() -> FirstLine
+    ensures { λ r. ⌜ r ≡ Empty ⌝ }
+{
+    FirstLine::Empty
+}
+
+// The digit of a byte, 10 where it is none.
+fn digit_of(byte: u8) -> u32
+    ensures { λ r. ⌜ (r ≡ digitOf byte) × (r ≤ 10) ⌝ }
+{
+    if byte < 48 {
+        return 10;
+    }
+    if 57 < byte {
+        return 10;
+    }
+    (byte - 48) as u32
+}
+
+// The first byte of the line.
+fn first_byte(byte: u8) -> FirstLine
+    ensures { λ r. ⌜ r ≡ stepOf Empty byte ⌝ }
+{
+    let digit = digit_of(byte);
+    if 10 <= digit {
+        return FirstLine::Bad;
+    }
+    if digit == 0 {
+        return FirstLine::Zero;
+    }
+    FirstLine::Number(digit)
+}
+
+// A byte after a number.
+fn more_bytes(value: u32, byte: u8) -> FirstLine
+    ensures { λ r. ⌜ r ≡ stepOf (Number value) byte ⌝ }
+{
+    if 65535 < value {
+        return FirstLine::Bad;
+    }
+    let digit = digit_of(byte);
+    if 10 <= digit {
+        return FirstLine::Bad;
+    }
+    let more = value * 10 + digit;
+    if 65535 < more {
+        return FirstLine::Bad;
+    }
+    FirstLine::Number(more)
+}
+
+// The line with one byte more.
+pub fn step(line: FirstLine, byte: u8) -> FirstLine
+    ensures { λ r. ⌜ r ≡ stepOf line byte ⌝ }
+{
+    match line {
+        FirstLine::Empty => first_byte(byte),
+        FirstLine::Zero => FirstLine::Bad,
+        FirstLine::Number(value) => more_bytes(value, byte),
+        FirstLine::Bad => FirstLine::Bad,
+    }
+}
+
+// V: the number that the line is, or 0.
+pub fn variables(line: FirstLine) -> u32
+    ensures { λ r. ⌜ r ≡ valueOf line ⌝ }
+{
+    match line {
+        FirstLine::Number(value) => value,
+        _ => 0,
+    }
+}
+
+fn refusal_number(refusal: Refusal) -> usize
+    ensures { λ r. ⌜ r ≡ refusalOf refusal .number ⌝ }
+{
+    match refusal {
+        Refusal::Variables => 1,
+        Refusal::TextLength => 2,
+        Refusal::Text { place: _ } => 3,
+        Refusal::Kept => 4,
+        Refusal::Sizes => 5,
+        Refusal::Variable { rung: _ } => 6,
+        Refusal::Label { rung: _ } => 7,
+        Refusal::Jump { rung: _ } => 8,
+        Refusal::Scratch => 9,
+        Refusal::List => 10,
+        Refusal::Table => 11,
+        Refusal::Watchdog => 12,
+        Refusal::Buffer => 13,
+    }
+}
+
+fn refusal_place(refusal: Refusal) -> usize
+    ensures { λ r. ⌜ r ≡ refusalOf refusal .place ⌝ }
+{
+    match refusal {
+        Refusal::Text { place } => place,
+        Refusal::Variable { rung } => rung,
+        Refusal::Label { rung } => rung,
+        Refusal::Jump { rung } => rung,
+        _ => 0,
+    }
+}
+
+// The line "refused N place P".
+pub fn put_refusal(out: &mut [u8], refusal: Refusal) -> usize
+    ensures { λ r. ⌜ Put (now (out .entry)) 0 (refusalLine (refusalOf refusal)) r (now (out .exit)) ⌝ }
+{
+    let word = printing::put_text(out, 0, b"refused ");
+    let number = printing::put_number(out, word, refusal_number(refusal));
+    let at = printing::put_text(out, number, b" place ");
+    let place = printing::put_number(out, at, refusal_place(refusal));
+    printing::put_text(out, place, b"\n")
+}
+
+// The line "rungs R instructions I longest L".
+fn put_counts(out: &mut [u8], at: usize, counts: Counts) -> usize
+    requires { ⌜ at ≤ 70000 ⌝ }
+    ensures { λ r. ⌜ Put (now (out .entry)) at (countLine (countsIn counts)) r (now (out .exit)) ⌝ }
+{
+    let first = printing::put_text(out, at, b"rungs ");
+    let rungs = printing::put_number(out, first, counts.rungs);
+    let second = printing::put_text(out, rungs, b" instructions ");
+    let instructions = printing::put_number(out, second, counts.instructions);
+    let third = printing::put_text(out, instructions, b" longest ");
+    let longest = printing::put_number(out, third, counts.longest);
+    printing::put_text(out, longest, b"\n")
+}
+
+// A list's listing and count line.
+fn print_list(
+    vars: u32,
+    code: &[u32],
+    labels: &[u16],
+    offsets: &[u32],
+    lengths: &[u32],
+    counts: Counts,
+    out: &mut [u8],
+) -> usize
+    ensures { λ r. ⌜ Put (now (out .entry)) 0 (printedList vars (now (code .entry))
+        (rowOf (now (labels .entry)) (now (offsets .entry)) (now (lengths .entry))) (countsIn counts)) r (now (out .exit)) ⌝ }
+{
+    let mut listing = [0u8; MOST_LISTING];
+    match list::listing(vars, code, labels, offsets, lengths, &mut listing) {
+        Listed::Refused(refusal) => put_refusal(out, refusal),
+        Listed::Written(n) => {
+            let end = printing::put_text(out, 0, &listing[..n]);
+            put_counts(out, end, counts)
+        }
+    }
+}
+
+// A kept ladder's.
+fn print_kept(
+    vars: u32,
+    words: &[u32],
+    labels: &[u16],
+    offsets: &[u32],
+    lengths: &[u32],
+    out: &mut [u8],
+) -> usize
+    ensures { λ r. ⌜ Put (now (out .entry)) 0 (printedKept vars
+        (record { words = now (words .entry); records = rowOf (now (labels .entry)) (now (offsets .entry)) (now (lengths .entry)) }))
+        r (now (out .exit)) ⌝ }
+{
+    let mut code = [0u32; MOST_INSTRUCTIONS];
+    let mut code_labels = [0u16; MOST_RUNGS];
+    let mut code_offsets = [0u32; MOST_RUNGS];
+    let mut code_lengths = [0u32; MOST_RUNGS];
+    match translation::translate(
+        vars,
+        words,
+        labels,
+        offsets,
+        lengths,
+        &mut code,
+        &mut code_labels,
+        &mut code_offsets,
+        &mut code_lengths,
+    ) {
+        Translated::Refused(refusal) => put_refusal(out, refusal),
+        Translated::Written(counts) => {
+            let n = counts.instructions;
+            let m = counts.rungs;
+            print_list(
+                vars,
+                &code[..n],
+                &code_labels[..m],
+                &code_offsets[..m],
+                &code_lengths[..m],
+                counts,
+                out,
+            )
+        }
+    }
+}
+
+// V and a text's.
+pub fn print(vars: u32, text: &[u8], out: &mut [u8]) -> usize
+    ensures { λ r. ⌜ Put (now (out .entry)) 0 (printed vars (now (text .entry))) r (now (out .exit)) ⌝ }
+{
+    let mut words = [0u32; MOST_WORDS];
+    let mut labels = [0u16; MOST_RUNGS];
+    let mut offsets = [0u32; MOST_RUNGS];
+    let mut lengths = [0u32; MOST_RUNGS];
+    match text::read(
+        vars,
+        text,
+        &mut words,
+        &mut labels,
+        &mut offsets,
+        &mut lengths,
+    ) {
+        TextRead::Refused(refusal) => put_refusal(out, refusal),
+        TextRead::Kept(counts) => {
+            let n = counts.words;
+            let m = counts.rungs;
+            print_kept(
+                vars,
+                &words[..n],
+                &labels[..m],
+                &offsets[..m],
+                &lengths[..m],
+                out,
+            )
+        }
+    }
+}
+
+// V, and where the text begins.
+pub struct Begun {
+    pub vars: u32,
+    pub at: usize,
+}
+
+// Takes the first line byte by byte.
+fn take_line(input: &[u8]) -> Begun
+    ensures { λ r. ⌜ LineTaken (now (input .entry)) r ⌝ }
+{
+    let mut line = begin();
+    let mut i: usize = 0;
+    while i < input.len() {
+        if input[i] == b'\n' {
+            return Begun {
+                vars: variables(line),
+                at: i + 1,
+            };
+        }
+        line = step(line, input[i]);
+        i += 1;
+    }
+    Begun {
+        vars: variables(line),
+        at: i,
+    }
+}
+
+// Where the kept text that begins at a position ends.
+fn kept_end(length: usize, at: usize) -> usize
+    requires { ⌜ at ≤ length ⌝ }
+    ensures { λ r. ⌜ r ≡ at + min (length - at) 65536 ⌝ }
+{
+    if MOST_KEPT < length - at {
+        return at + MOST_KEPT;
+    }
+    length
+}
+
+// The whole output of the whole input.
+pub fn run(input: &[u8], out: &mut [u8]) -> usize
+    ensures { λ r. ⌜ Put (now (out .entry)) 0 (output (now (input .entry))) r (now (out .exit)) ⌝ }
+{
+    let begun = take_line(input);
+    let from = begun.at;
+    let to = kept_end(input.len(), from);
+    print(begun.vars, &input[from..to], out)
+}

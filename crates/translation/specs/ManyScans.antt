@@ -1,0 +1,88 @@
+-- Any number of scans, with an input phase before each. Document 01 speaks of one scan and leaves the input phase out ("Without: .. input and output phases of
+-- the scan"): this is beyond demand 3. The ladder works on one table, its list on another; before each scan the same variables of both tables are overwritten
+-- with the same values. The hypotheses are ManyGiven, the conclusions ManyAgree; Theorems states that the first give the second. Assumes nothing.
+use Prim.Native.Nat.{ℕ, _*_, _≤_}
+use mathlib.Core.Path.{_≡_}
+use mathlib.Core.Bool.{Bool}
+use mathlib.Core.Option.{none}
+use mathlib.Core.List.{List, [], _∷_, map}
+use lib.ListN.{take}
+use Rattle.questions.specs.Questions.{question12, mostInstructionWatchdog}
+use Rattle.table.specs.State.{writtenAt}
+use Rattle.table.specs.Halt.{Ended}
+use Rattle.table.specs.Questions.{question11}
+use Rattle.rungs.specs.Records.{longest}
+use Rattle.ladder.specs.Kept.{Kept}
+use Rattle.ladder.specs.Questions.{ladderOf, ladderAnswer}
+use Rattle.ladder.specs.LadderScan.{ladderScan}
+use Rattle.ladder.specs.LadderScan.{ScanCall as LadderScanCall, scanned as ladderScanned}
+use Rattle.list.specs.Instruction.{instrWord}
+use Rattle.list.specs.Machine.{InstructionList}
+use Rattle.list.specs.ListScan.{listScan}
+use Rattle.list.specs.ListScan.{ScanCall as ListScanCall}
+use Rattle.translation.specs.Translate.{translate}
+use Rattle.translation.specs.Calls.{EndedCalls}
+
+-- a variable, and the value, 0 or 1, that the input phase gives it; that it is below V need not be asked
+pub record InputValue : Type 0 where
+  pub variable : ℕ
+  pub value : Bool
+
+-- the table after the input phase: the values written, first to last
+unfoldable pub inputPhase : List InputValue → List ℕ → List ℕ
+inputPhase [] table = table
+inputPhase (x ∷ later) table = inputPhase later (writtenAt table (x .variable) (x .value))
+
+-- one scan: the input phase before it, the rung watchdog n of the ladder scan, the instruction watchdog w of the list scan
+pub record Scan : Type 0 where
+  pub inputs : List InputValue
+  pub rungWatchdog : ℕ
+  pub instructionWatchdog : ℕ
+
+module _ (vars : ℕ) (k : Kept) where
+  -- the ladder's list, and L
+  abbrev pub listFor : InstructionList
+  listFor = translate vars (ladderOf k)
+
+  abbrev pub longestFor : ℕ
+  longestFor = longest (listFor .records)
+
+  -- the input phase and the ladder scan, on the ladder's table
+  unfoldable pub ladderWith : Scan → List ℕ → LadderScanCall
+  ladderWith scan table = ladderScan vars k (inputPhase (scan .inputs) table) (scan .rungWatchdog)
+
+  -- the input phase and the list scan, on the list's table
+  unfoldable pub listWith : Scan → List ℕ → ListScanCall
+  listWith scan table = listScan vars (map instrWord (listFor .code)) (listFor .records) (inputPhase (scan .inputs) table) (scan .instructionWatchdog)
+
+  -- The ladder scan answers Ended with k rungs entered, and w is a legal instruction watchdog of k × L or more.
+  pub record LadderEnds (scan : Scan) (ladder : LadderScanCall) : Type 0 where
+    pub rungs : ℕ
+    pub ended : ladder .answer ≡ ladderScanned Ended rungs
+    pub watchdog : question12 mostInstructionWatchdog (scan .instructionWatchdog) ≡ none
+    pub enough : rungs * longestFor ≤ scan .instructionWatchdog
+
+  -- Every ladder scan does so, from the table t on; each begins on the table that the one before it left.
+  unfoldable pub LaddersEnd : List Scan → List ℕ → Type 0
+  LaddersEnd [] t = Unit {0}
+  LaddersEnd (scan ∷ later) t = LadderEnds scan (ladderWith scan t) × LaddersEnd later (ladderWith scan t .table)
+
+  -- an accepted ladder; two legal tables, t for the ladder and u for its list, with the same V variables, while scratch may differ; and ladder scans that end
+  pub record ManyGiven (scans : List Scan) (t u : List ℕ) : Type 0 where
+    pub accepted : ladderAnswer vars k ≡ none
+    pub ladder-legal : question11 (record { vars = vars; bytes = t }) ≡ none
+    pub list-legal : question11 (record { vars = vars; bytes = u }) ≡ none
+    pub same-variables : take vars t ≡ take vars u
+    pub ladders-end : LaddersEnd scans t
+
+  -- Both scans answer Ended with the same k rungs entered; then the V variables are equal in the two tables, and the list scan carried out at least 2 × k and
+  -- at most k × L instructions.
+  pub record BothEnd (ladder : LadderScanCall) (list : ListScanCall) : Type 0 where
+    pub rungs : ℕ
+    pub ladder-ended : ladder .answer ≡ ladderScanned Ended rungs
+    pub list-ended : EndedCalls vars rungs longestFor ladder list
+
+  -- Both scans do so every time, from the tables t and u on.
+  unfoldable pub ManyAgree : List Scan → List ℕ → List ℕ → Type 0
+  ManyAgree [] t u = Unit {0}
+  ManyAgree (scan ∷ later) t u = BothEnd (ladderWith scan t) (listWith scan u) × ManyAgree later (ladderWith scan t .table) (listWith scan u .table)
