@@ -19,7 +19,7 @@ use Rattle.ladder.specs.Meaning.{scanLadder, scanFrom, runRung, runRear, runOut
 use Rattle.ladder.specs.Kept.{Kept, inputWord, outputWord, frontWords, rearWords, rungWords, encode, putInput, putFront, putOutput, putRearAnd, putRearOr, kinds, decodeWords, oneRung, decodeRung, decodeFrom, decode}
 use Rattle.ladder.specs.Questions.{ladderOf, holdsLadder, question4, sizesInRange, question5, inputBelow, outputBelow, question6, newLabels, question7, outputLeads, question8, joinScratch, frontScratch, rearScratch, rungScratch, scratchInRange, question9, ladderAnswer}
 use Rattle.ladder.specs.LadderScan.{ladderScan, scanned, refused}
-use Rattle.ladder.specs.LadderScan.{scanEnds as ladderScanEnds}
+use Rattle.ladder.specs.LadderScan.{scanEnds as ladderScanEnds, scanAnswer as ladderScanAnswer}
 use Rattle.grammar.specs.Reader.{mapP, bind, followed, digitOf, digitsFrom, numberOf, chain, termBy, frontBy, factorBy, factorOf, termOf, frontOf, opensFactor, branchBy, rearBy, endBy, endOf, rearOf, lineOf, linesOf, textOf}
 use Rattle.grammar.specs.Questions.{question3}
 use Rattle.text.specs.Read.{readText, kept}
@@ -28,7 +28,7 @@ use Rattle.list.specs.Instruction.{LD, LDN, ST, AND, ANDN, OR, JMPC, operand, o
 use Rattle.list.specs.Machine.{scanList, scanMachine, begin, step, count, does, halted}
 use Rattle.list.specs.Questions.{operandInRange, wordInRange, recordsLaid, listInRange, question10}
 use Rattle.list.specs.ListScan.{listOf, listScan}
-use Rattle.list.specs.ListScan.{scanned as listScanned, refused as listRefused, scanEnds as listScanEnds}
+use Rattle.list.specs.ListScan.{scanned as listScanned, refused as listRefused, scanEnds as listScanEnds, scanAnswer as listScanAnswer}
 use Rattle.translation.specs.Translate.{F, R, join, outputCode, rungCode, listRecords, translate}
 use Rattle.translation.specs.TranslateKept.{Counts, countsOf, translateKept, translated}
 use Rattle.translation.specs.TranslateKept.{refused as translateRefused}
@@ -160,8 +160,8 @@ unfolding table listA outcomeA run asFar start room wrote watchdog variablesOf b
     valueAt value writtenAt write tableInRange laid lay search present startOf isStart longest rowOf asBuffers needs written writtenOver zipWith flatMap
     frontAll rearAll rungAll scanLadder scanFrom runRung runRear runOutput workFront workInput jumpIf unlessJumped from follow left
     inputWord outputWord frontWords rearWords rungWords encode putInput putFront putOutput putRearAnd putRearOr kinds decodeWords oneRung decodeRung decodeFrom decode
-    ladderOf holdsLadder sizesInRange inputBelow outputBelow newLabels outputLeads joinScratch frontScratch rearScratch rungScratch scratchInRange ladderAnswer ladderScan ladderScanEnds
+    ladderOf holdsLadder sizesInRange inputBelow outputBelow newLabels outputLeads joinScratch frontScratch rearScratch rungScratch scratchInRange ladderAnswer ladderScan ladderScanAnswer ladderScanEnds
     mapP bind followed digitOf digitsFrom numberOf chain termBy frontBy factorBy factorOf termOf frontOf opensFactor branchBy rearBy endBy endOf rearOf lineOf linesOf textOf
     readText ladderOfText operand opOf operandNumber onlyNot ops instrWord decodeInstr decodeCode codeOf scanList scanMachine begin step count does halted
-    operandInRange wordInRange recordsLaid listInRange listOf listScan listScanEnds F R join outputCode rungCode listRecords translate countsOf translateKept
+    operandInRange wordInRange recordsLaid listInRange listOf listScan listScanAnswer listScanEnds F R join outputCode rungCode listRecords translate countsOf translateKept
 bench = refl

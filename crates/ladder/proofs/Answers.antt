@@ -1,9 +1,9 @@
--- Laws of the questions in order: the first "no" of Ladder scan. Assumes nothing.
+-- Laws of the questions in order: the first "no" of Ladder scan, and the scan after no "no". Assumes nothing.
 use Prim.Native.Nat.{ℕ, _≤_}
 use mathlib.Core.Path.{_≡_, sym, ap, _∙_}
 use mathlib.Core.Bool.{Bool, true, false}
 use mathlib.Core.Option.{none, some}
-use mathlib.Core.List.{List, [], _∷_, map}
+use mathlib.Core.List.{List, [], map}
 use lib.Dec.{leb}
 use lib.ListN.{length}
 use Rattle.questions.specs.Questions.{ask, askEach, firstNo, varsInRange, question1, question12, mostRungWatchdog}
@@ -15,23 +15,21 @@ use Rattle.questions.specs.declared.Verdict.the-variants.{Accepted, Refused}
 use Rattle.table.specs.State.{State}
 use Rattle.table.specs.Questions.{tableInRange, question11}
 use Rattle.rungs.specs.Records.{rowOf}
-use Rattle.rungs.specs.Laws.Rows.{row-lengths}
+use Rattle.rungs.specs.Laws.Rows.{row-labels, row-offsets, row-lengths}
 use Rattle.rungs.specs.Laws.Layout.{lay-lengths}
 use Rattle.ladder.specs.Tree.{Ladder, labels}
-use Rattle.ladder.specs.Meaning.{scanLadder}
 use Rattle.ladder.specs.Kept.{Kept, rungWords, encode, decode}
 use Rattle.ladder.specs.Questions.{ladderOf, holdsLadder, question4, sizesInRange, question5, rungBelow, question6, newLabels, question7, rungLeads, question8, scratchInRange, question9, ladderAnswer}
-use Rattle.ladder.specs.Laws.Accepting.{encode-decode, holds, accepted}
+use Rattle.ladder.specs.Laws.Accepting.{encode-decode, holds}
 use Rattle.ladder.specs.Asking.{LadderIn, placeOf, SizesAsked, VariablesAsked, LabelsAsked, JumpsAsked}
 use Rattle.ladder.specs.Held.{LadderHeld}
 use Rattle.ladder.specs.Scanned.{ScratchAsked, Scanned}
 use Rattle.ladder.specs.Laws.Held.{rows, even, held}
-use Rattle.ladder.specs.LadderScan.{scanEnds, ladderScan, LadderScanDone}
-use Rattle.ladder.specs.LadderScan.{answerOf as scanAnswerOf}
+use Rattle.ladder.specs.LadderScan.{scanAnswer, ladderScan, LadderScanDone}
+use Rattle.ladder.specs.Laws.Scans.{scan-taken, scan-scans}
 use Rattle.ladder.specs.declared.Found.{Found}
 use Rattle.ladder.specs.declared.Found.the-variants.{At, Nothing}
 use Rattle.ladder.specs.declared.LadderScanned.{LadderScanned}
-use Rattle.ladder.specs.declared.LadderScanned.the-variants.{Refused as RefusedScan}
 
 -- ---- what question 4 took
 
@@ -161,40 +159,34 @@ module _ (vars : ℕ) (ws ls os ns : List ℕ) where
         let n : scratchInRange gs ≡ true = sym scratch ∙ e in
         rw (p .past .past .past .past .past .yes1, p .past .past .past .past .yes4, p .past .past .past .yes5, p .past .past .yes6, p .past .yes7, p .yes8, n)
 
--- ---- Ladder scan
+-- ---- Ladder scan's questions
 
 module _ (vars : ℕ) (k : Kept) (t : List ℕ) (w : ℕ) where
   abbrev s : State
   s = record { vars = vars; bytes = t }
 
-  refuses : (refusal : RefusalCase) → firstNo (ladderAnswer vars k ∷ question11 s ∷ question12 mostRungWatchdog w ∷ []) ≡ some (refusalOf refusal)
-      → LadderScanDone (ladderScan vars k t w) (RefusedScan refusal) t
-  unfolding ladderScan scanAnswerOf
-  refuses refusal e = record { answer = rw (e, ladderScan); same-table = rw (e, ladderScan) }
-
-  pub scan-refused : (refusal : RefusalCase) → ladderAnswer vars k ≡ some (refusalOf refusal) → LadderScanDone (ladderScan vars k t w) (RefusedScan refusal) t
-  unfolding firstNo
-  scan-refused refusal e = refuses refusal (rw e)
+  pub scan-refused : (refusal : RefusalCase) → ladderAnswer vars k ≡ some (refusalOf refusal) → answerOf (Refused refusal) ≡ scanAnswer vars k t w
+  unfolding answerOf scanAnswer firstNo
+  scan-refused refusal e = rw e
 
   module _ (ok : ladderAnswer vars k ≡ none) where
-    pub scan-refused-table : tableInRange s ≡ false → LadderScanDone (ladderScan vars k t w) (RefusedScan Table) t
-    unfolding firstNo question11 ask refusalOf
-    scan-refused-table e = refuses Table (rw (ok, e))
+    pub scan-refused-table : tableInRange s ≡ false → answerOf (Refused Table) ≡ scanAnswer vars k t w
+    unfolding answerOf refusalOf scanAnswer firstNo question11 ask
+    scan-refused-table e = rw (ok, e)
 
-    pub scan-refused-watchdog : tableInRange s ≡ true → leb w mostRungWatchdog ≡ false → LadderScanDone (ladderScan vars k t w) (RefusedScan Watchdog) t
-    unfolding firstNo question11 question12 ask refusalOf
-    scan-refused-watchdog e f = refuses Watchdog (rw (ok, e, f))
+    pub scan-refused-watchdog : tableInRange s ≡ true → leb w mostRungWatchdog ≡ false → answerOf (Refused Watchdog) ≡ scanAnswer vars k t w
+    unfolding answerOf refusalOf scanAnswer firstNo question11 question12 ask
+    scan-refused-watchdog e f = rw (ok, e, f)
 
-    pub scan-done : tableInRange s ≡ true → leb w mostRungWatchdog ≡ true → (r : LadderScanned) (u : List ℕ)
-        → LadderScanDone (scanEnds (scanLadder (ladderOf k) w s)) r u → LadderScanDone (ladderScan vars k t w) r u
-    unfolding firstNo question11 question12 ask ladderScan
-    scan-done e f r u d =
-        let q : firstNo (ladderAnswer vars k ∷ question11 s ∷ question12 mostRungWatchdog w ∷ []) ≡ none = rw (ok, e, f) in
-        record { answer = rw (q, ladderScan) (d .answer); same-table = rw (q, ladderScan) (d .same-table) }
+    pub scan-accepted : tableInRange s ≡ true → leb w mostRungWatchdog ≡ true → answerOf Accepted ≡ scanAnswer vars k t w
+    unfolding answerOf scanAnswer firstNo question11 question12 ask
+    scan-accepted e f = rw (ok, e, f)
 
--- the scan of what the questions took
-pub scanned-done : (vars : ℕ) (ws ls os ns t : List ℕ) (w : ℕ) (r : LadderScanned) (u : List ℕ) → ladderAnswer vars (record { words = ws; records = rowOf ls os ns }) ≡ none
-    → Scanned ws ls os t w r u → LadderScanDone (scanEnds (scanLadder (ladderOf (record { words = ws; records = rowOf ls os ns })) w (record { vars = vars; bytes = t }))) r u
-scanned-done vars ws ls os ns t w r u ok scanned =
-    let a = accepted vars (keptOf ws ls os ns) ok in
-    scanned .same (ladderOf (keptOf ws ls os ns)) (held ws ls os ns (ladderOf (keptOf ws ls os ns)) (a .0) (a .1 .some-rung)) vars
+-- the scan of three number slices that the questions took, as the scan of their row
+pub scan-done : (vars : ℕ) (ws ls os ns t : List ℕ) (w : ℕ) (r : LadderScanned) (u : List ℕ) → scanAnswer vars (record { words = ws; records = rowOf ls os ns }) t w ≡ none
+    → Scanned ws ls os t w r u → LadderScanDone (ladderScan vars (record { words = ws; records = rowOf ls os ns }) t w) r u
+scan-done vars ws ls os ns t w r u ok scanned =
+    let k = keptOf ws ls os ns in
+    let a = scan-taken vars k t w ok in
+    let e = even ws ls os ns (ladderOf k) (a .0) (a .1 .some-rung) in
+    scan-scans vars k t w ok r u (rw (row-labels ls os ns e, row-offsets ls os ns e) scanned)

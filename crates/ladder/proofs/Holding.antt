@@ -1,197 +1,23 @@
--- Laws of question 4: counting what is owed tells just when words decode, and so do the tests of the loop over records. Assumes nothing.
+-- Laws of the loops that put question 4: a word after the other, and a record after the other. Assumes nothing.
 use Prim.Native.Nat.{ℕ, zero, suc, _+_, _-_, _≤_, _<_}
 use native.Mathlib.Numerals.{add-one}
 use native.Mathlib.Omega.{arith}
 use native.Mathlib.Decide.{ℕ-discrete}
-use mathlib.Core.Path.{_≡_, refl, sym, ap, _∙_}
+use mathlib.Core.Path.{_≡_, refl, sym, _∙_}
 use mathlib.Core.Bool.{Bool, true, false, _&&_}
-use mathlib.Core.Option.{Option, none, some}
 use mathlib.Core.List.{List, [], _∷_}
-use lib.Dec.{eqb, leb, eqb·zero-suc, eqb·suc-zero, eqb·suc-suc}
-use lib.ListN.{length, take, drop, getD, length-drop, drop-of-length-le, List·getD-eq-default}
-use lib.Seq.{slice, slice-empty, slice-cons, take-add, drop-at, drop-drop, length-take-le}
+use lib.Dec.{eqb, leb}
+use lib.ListN.{length, drop, getD, List·getD-eq-default}
+use lib.Seq.{slice, slice-empty, slice-cons}
 use borrow.Author.Tests.{eq-eqb, ne-eqb, le-leb, lt-leb}
 use Rattle.rungs.specs.Words.{numberOf, operandOf}
 use Rattle.rungs.specs.Records.{RungRecord, rowOf}
 use Rattle.rungs.specs.Laws.Rows.{Even, row-length, row-at, row-uneven-first, row-uneven-second}
-use Rattle.ladder.specs.Tree.{Input, Front, Output, Rung, Ladder}
-use Rattle.ladder.specs.Kept.{Trees, trees, putInput, putFront, putOutput, putRearAnd, putRearOr, noKind, kinds, decodeWords, oneRung, decodeRung, decodeFrom, decode}
+use Rattle.ladder.specs.Kept.{decodeFrom, decode}
 use Rattle.ladder.specs.Questions.{ladderOf, holdsLadder}
-use Rattle.ladder.specs.Owing.{Debt, broken, owing, takeFront, splitFront, takeRear, frontRear, splitRear, noTurn, turns, turn, owes, debtOf, Turned, holdsFrom}
+use Rattle.ladder.specs.Owing.{broken, owing, takeFront, splitFront, takeRear, frontRear, splitRear, noTurn, turns, turn, owes, debtOf, Turned, holdsFrom}
+use Rattle.ladder.specs.Laws.Owing.{holds-counted, holds-next, holds-last}
 use Rattle.ladder.specs.declared.holds.Owed.{Owed}
-
--- ---- words and trees
-
--- whether trees are f fronts and r rears
-shaped : ℕ → ℕ → Trees → Bool
-shaped f r (trees fs rs) = eqb f (length fs) && eqb r (length rs)
-
-decodedAs : ℕ → ℕ → Option Trees → Bool
-decodedAs f r none = false
-decodedAs f r (some ts) = shaped f r ts
-
--- whether trees are what is owed
-met : Debt → Trees → Bool
-met broken ts = false
-met (owing f r) ts = shaped f r ts
-
-input-met : (make : ℕ → Input) (o f r : ℕ) (ts : Trees) → met (takeFront o f r) ts ≡ decodedAs f r (putInput make o ts)
-unfolding takeFront putInput met decodedAs shaped
-input-met make o zero r (trees fs rs) = rw (eqb·zero-suc (length fs))
-input-met make o (suc f) r (trees fs rs) = rw (eqb·suc-suc f (length fs))
-
-front-met : (make : Front → Front → Front) (o f r : ℕ) (ts : Trees) → met (splitFront o f r) ts ≡ decodedAs f r (putFront make o ts)
-unfolding splitFront putFront met decodedAs shaped
-front-met make zero zero r (trees (a ∷ b ∷ fs) rs) = rw (eqb·zero-suc (length fs))
-front-met make zero zero r (trees (a ∷ []) rs) = refl
-front-met make zero zero r (trees [] rs) = refl
-front-met make zero (suc f) r (trees (a ∷ b ∷ fs) rs) = rw (eqb·suc-suc (suc f) (suc (length fs)))
-front-met make zero (suc f) r (trees (a ∷ []) rs) = rw (eqb·suc-suc (suc f) 0, eqb·suc-zero f)
-front-met make zero (suc f) r (trees [] rs) = rw (eqb·suc-zero (suc f))
-front-met make (suc o) f r ts = refl
-
-output-met : (make : ℕ → Output) (o f r : ℕ) (ts : Trees) → met (takeRear o f r) ts ≡ decodedAs f r (putOutput make o ts)
-unfolding takeRear putOutput met decodedAs shaped
-output-met make o zero zero (trees [] rs) = rw (eqb·zero-suc (length rs))
-output-met make o zero zero (trees (a ∷ fs) rs) = refl
-output-met make o zero (suc r) (trees [] rs) = rw (eqb·suc-suc r (length rs))
-output-met make o zero (suc r) (trees (a ∷ fs) rs) = rw (eqb·zero-suc (length fs))
-output-met make o (suc f) r (trees [] rs) = rw (eqb·suc-zero f)
-output-met make o (suc f) r (trees (a ∷ fs) rs) = refl
-
-rear-and-met : (o f r : ℕ) (ts : Trees) → met (frontRear o f r) ts ≡ decodedAs f r (putRearAnd o ts)
-unfolding frontRear putRearAnd met decodedAs shaped
-rear-and-met zero zero zero (trees (a ∷ []) (b ∷ rs)) = rw (eqb·zero-suc (length rs))
-rear-and-met zero zero (suc r) (trees (a ∷ []) (b ∷ rs)) = refl
-rear-and-met zero (suc f) r (trees (a ∷ []) (b ∷ rs)) = rw (eqb·suc-zero f)
-rear-and-met zero zero zero (trees (a ∷ []) []) = refl
-rear-and-met zero zero (suc r) (trees (a ∷ []) []) = rw (eqb·suc-zero r)
-rear-and-met zero (suc f) r (trees (a ∷ []) []) = refl
-rear-and-met zero zero zero (trees (a ∷ b ∷ fs) rs) = refl
-rear-and-met zero zero (suc r) (trees (a ∷ b ∷ fs) rs) = rw (eqb·suc-suc 0 (suc (length fs)), eqb·zero-suc (length fs))
-rear-and-met zero (suc f) r (trees (a ∷ b ∷ fs) rs) = refl
-rear-and-met zero zero zero (trees [] rs) = refl
-rear-and-met zero zero (suc r) (trees [] rs) = refl
-rear-and-met zero (suc f) r (trees [] rs) = refl
-rear-and-met (suc o) f r ts = refl
-
-rear-or-met : (o f r : ℕ) (ts : Trees) → met (splitRear o f r) ts ≡ decodedAs f r (putRearOr o ts)
-unfolding splitRear putRearOr met decodedAs shaped
-rear-or-met zero zero zero (trees [] (a ∷ b ∷ rs)) = rw (eqb·zero-suc (length rs))
-rear-or-met zero zero (suc r) (trees [] (a ∷ b ∷ rs)) = rw (eqb·suc-suc (suc r) (suc (length rs)))
-rear-or-met zero (suc f) r (trees [] (a ∷ b ∷ rs)) = rw (eqb·suc-zero f)
-rear-or-met zero zero zero (trees [] (a ∷ [])) = refl
-rear-or-met zero zero (suc r) (trees [] (a ∷ [])) = rw (eqb·suc-suc (suc r) 0, eqb·suc-zero r)
-rear-or-met zero (suc f) r (trees [] (a ∷ [])) = refl
-rear-or-met zero zero zero (trees [] []) = refl
-rear-or-met zero zero (suc r) (trees [] []) = rw (eqb·suc-zero (suc r))
-rear-or-met zero (suc f) r (trees [] []) = refl
-rear-or-met zero zero zero (trees (a ∷ fs) rs) = refl
-rear-or-met zero zero (suc r) (trees (a ∷ fs) rs) = rw (eqb·zero-suc (length fs))
-rear-or-met zero (suc f) r (trees (a ∷ fs) rs) = refl
-rear-or-met (suc o) f r ts = refl
-
--- a word is put before the trees that are owed after it, and before no others
-turn-met : (k o f r : ℕ) (ts : Trees) → met (turn k o f r) ts ≡ decodedAs f r (getD kinds k noKind o ts)
-unfolding turns kinds met decodedAs
-turn-met zero o f r ts = refl
-turn-met (suc zero) o f r ts = input-met _ o f r ts
-turn-met (suc (suc zero)) o f r ts = input-met _ o f r ts
-turn-met (suc (suc (suc zero))) o f r ts = front-met _ o f r ts
-turn-met (suc (suc (suc (suc zero)))) o f r ts = front-met _ o f r ts
-turn-met (suc (suc (suc (suc (suc zero))))) o f r ts = output-met _ o f r ts
-turn-met (suc (suc (suc (suc (suc (suc zero)))))) o f r ts = output-met _ o f r ts
-turn-met (suc (suc (suc (suc (suc (suc (suc zero))))))) o f r ts = output-met _ o f r ts
-turn-met (suc (suc (suc (suc (suc (suc (suc (suc zero)))))))) o f r ts = output-met _ o f r ts
-turn-met (suc (suc (suc (suc (suc (suc (suc (suc (suc zero))))))))) o f r ts = rear-and-met o f r ts
-turn-met (suc (suc (suc (suc (suc (suc (suc (suc (suc (suc zero)))))))))) o f r ts = rear-or-met o f r ts
-turn-met (suc (suc (suc (suc (suc (suc (suc (suc (suc (suc (suc k))))))))))) o f r ts = refl
-
-owes-decoded : (f r : ℕ) (ws : List ℕ) → owes f r ws ≡ decodedAs f r (decodeWords ws)
-unfolding owes decodeWords decodedAs shaped met
-owes-decoded f r [] = refl
-owes-decoded f r (w ∷ ws) = go (decodeWords ws) refl (turn (numberOf w) (operandOf w) f r) refl (λ g s. owes-decoded g s ws)
-  where
-    go : (x : Option Trees) → decodeWords ws ≡ x → (d : Debt) → turn (numberOf w) (operandOf w) f r ≡ d → ((g s : ℕ) → owes g s ws ≡ decodedAs g s (decodeWords ws))
-        → owes f r (w ∷ ws) ≡ decodedAs f r (decodeWords (w ∷ ws))
-    go none q broken e ih = rw (e, owes, q, decodeWords)
-    go none q (owing g s) e ih = rw (e, owes, q, decodeWords) (ih g s ∙ rw q)
-    go (some ts) q broken e ih =
-        let m = turn-met (numberOf w) (operandOf w) f r ts in
-        rw (e, owes, q, decodeWords) (rw e at m)
-    go (some ts) q (owing g s) e ih =
-        let m = turn-met (numberOf w) (operandOf w) f r ts in
-        rw (e, owes, q, decodeWords) (ih g s ∙ rw q (rw e at m))
-
-found : {A : Type 0} → Option A → Bool
-found none = false
-found (some x) = true
-
-one-rung : (l : ℕ) (ts : Trees) → found (oneRung l ts) ≡ shaped 1 1 ts
-unfolding oneRung found shaped
-one-rung l (trees (f ∷ []) (r ∷ [])) = refl
-one-rung l (trees (f ∷ []) []) = refl
-one-rung l (trees (f ∷ []) (r ∷ q ∷ rs)) = rw (eqb·suc-suc 0 (suc (length rs)), eqb·zero-suc (length rs))
-one-rung l (trees (f ∷ g ∷ fs) rs) = rw (eqb·suc-suc 0 (suc (length fs)), eqb·zero-suc (length fs))
-one-rung l (trees [] rs) = refl
-
--- words hold a rung just when they are the front and the rear that it owes
-rung-found : (l : ℕ) (ws : List ℕ) → owes 1 1 ws ≡ found (decodeRung l ws)
-unfolding decodeRung found decodedAs
-rung-found l ws = owes-decoded 1 1 ws ∙ go (decodeWords ws) refl
-  where
-    go : (x : Option Trees) → decodeWords ws ≡ x → decodedAs 1 1 (decodeWords ws) ≡ found (decodeRung l ws)
-    go none q = rw (q, decodeRung)
-    go (some ts) q = rw (q, decodeRung) (sym (one-rung l ts))
-
--- ---- whole ladders
-
-counted : Option Ladder → Option ℕ
-counted none = none
-counted (some gs) = some (length gs)
-
-onlyIf : Bool → ℕ → Option ℕ
-onlyIf true n = some n
-onlyIf false n = none
-
--- records and words hold as many rungs as there are records, or none
-rungs-counted : (start : ℕ) (rs : List RungRecord) (ws : List ℕ) → counted (decodeFrom start rs ws) ≡ onlyIf (holdsFrom start rs ws) (length rs)
-unfolding decodeFrom holdsFrom counted onlyIf found
-rungs-counted start [] [] = refl
-rungs-counted start [] (w ∷ ws) = rw (eqb·suc-zero (length ws))
-rungs-counted start (r ∷ rs) ws =
-    go (eqb (r .offset) start && leb (r .length) (length ws)) refl (decodeRung (r .label) (take (r .length) ws)) refl (rung-found (r .label) (take (r .length) ws))
-    (decodeFrom (start + r .length) rs (drop (r .length) ws)) refl (holdsFrom (start + r .length) rs (drop (r .length) ws)) refl (rungs-counted (start + r .length) rs (drop (r .length) ws))
-  where
-    go : (b : Bool) → (eqb (r .offset) start && leb (r .length) (length ws)) ≡ b
-        → (x : Option Rung) → decodeRung (r .label) (take (r .length) ws) ≡ x → owes 1 1 (take (r .length) ws) ≡ found (decodeRung (r .label) (take (r .length) ws))
-        → (y : Option Ladder) → decodeFrom (start + r .length) rs (drop (r .length) ws) ≡ y
-        → (t : Bool) → holdsFrom (start + r .length) rs (drop (r .length) ws) ≡ t
-        → counted (decodeFrom (start + r .length) rs (drop (r .length) ws)) ≡ onlyIf (holdsFrom (start + r .length) rs (drop (r .length) ws)) (length rs)
-        → counted (decodeFrom start (r ∷ rs) ws) ≡ onlyIf (holdsFrom start (r ∷ rs) ws) (suc (length rs))
-    go false b x q o y p t h ih = rw (b, decodeFrom)
-    go true b none q o y p t h ih = rw (b, decodeFrom) (rw (o, q))
-    go true b (some g) q o none p false h ih = rw (b, decodeFrom) (rw (o, q, p, h))
-    go true b (some g) q o none p true h ih = let e = rw (p, h) at ih in let z : _≡_ {A = ℕ} 0 1 = cc in absurd (omega arith)
-    go true b (some g) q o (some gs) p false h ih = let e = rw (p, h) at ih in let z : _≡_ {A = ℕ} 0 1 = cc in absurd (omega arith)
-    go true b (some g) q o (some gs) p true h ih =
-        let e : _≡_ {A = Option ℕ} (some (length gs)) (some (length rs)) = rw (p, h) at ih in
-        let z : length gs ≡ length rs = cc in
-        rw (b, decodeFrom) (rw (o, q, p, h) (ap (λ n. some (suc n)) z))
-
-ladder-held : (rs : List RungRecord) (ws : List ℕ) → 1 ≤ length rs → holdsLadder (record { words = ws; records = rs }) ≡ holdsFrom 0 rs ws
-unfolding holdsLadder ladderOf decode counted onlyIf
-ladder-held rs ws some-record = go (decodeFrom 0 rs ws) refl (holdsFrom 0 rs ws) refl (rungs-counted 0 rs ws)
-  where
-    go : (x : Option Ladder) → decodeFrom 0 rs ws ≡ x → (b : Bool) → holdsFrom 0 rs ws ≡ b → counted (decodeFrom 0 rs ws) ≡ onlyIf (holdsFrom 0 rs ws) (length rs)
-        → holdsLadder (record { words = ws; records = rs }) ≡ holdsFrom 0 rs ws
-    go none q false h e = rw (q, ladderOf, h)
-    go none q true h e = let d = rw (q, h) at e in let z : _≡_ {A = ℕ} 0 1 = cc in absurd (omega arith)
-    go (some gs) q false h e = let d = rw (q, h) at e in let z : _≡_ {A = ℕ} 0 1 = cc in absurd (omega arith)
-    go (some gs) q true h e =
-        let d : _≡_ {A = Option ℕ} (some (length gs)) (some (length rs)) = rw (q, h) at e in
-        let z : length gs ≡ length rs = cc in
-        rw (q, ladderOf, h) (le-leb 1 (length gs) (omega arith))
 
 -- ---- a word, by what its kind asks
 
@@ -412,10 +238,6 @@ pub record Walking (ws : List ℕ) (rs : List RungRecord) (start i : ℕ) : Type
   pub same : holdsFrom start (drop i rs) (drop start ws) ≡ holdsFrom 0 rs ws
   pub within : start ≤ length ws
 
--- the words from `start` on, and those that a length takes of them
-take-slice : (ws : List ℕ) (start n : ℕ) → start ≤ length ws → take n (drop start ws) ≡ slice start (start + n) ws
-take-slice ws start n h = rw take-add (sym (drop-at (take start ws) (take n (drop start ws)) start (length-take-le start ws h)))
-
 module _ (ws ls os ns : List ℕ) (p : length ls ≡ length os) (q : length os ≡ length ns) where
   abbrev row : List RungRecord
   row = rowOf ls os ns
@@ -432,18 +254,10 @@ module _ (ws ls os ns : List ℕ) (p : length ls ≡ length os) (q : length os �
 
   module _ (some-record : 1 ≤ length ls) (start i : ℕ) (inv : Walking ws row start i) where
     whole : holdsFrom start (drop i row) (drop start ws) ≡ asked ws ls os ns
-    whole = let e = row-length ls os ns even in inv .same ∙ sym (ladder-held row ws (omega arith))
+    whole = let e = row-length ls os ns even in inv .same ∙ sym (holds-counted row ws (omega arith))
 
     pub records-end : length ls ≤ i → eqb start (length ws) ≡ asked ws ls os ns
-    unfolding holdsFrom
-    records-end h =
-        let e = row-length ls os ns even in
-        let d : drop i row ≡ [] = drop-of-length-le row {i = i} (omega arith) in
-        same-test (ℕ-discrete start (length ws)) ∙ (rw (d, length-drop) at whole)
-      where
-        same-test : Dec (start ≡ length ws) → eqb start (length ws) ≡ eqb (length ws - start) 0
-        same-test (yes e) = eq-eqb _ _ e ∙ sym (eq-eqb (length ws - start) 0 (omega arith))
-        same-test (no n) = let w = inv .within in ne-eqb _ _ n ∙ sym (ne-eqb (length ws - start) 0 (λ e. n (omega arith)))
+    records-end h = let e = row-length ls os ns even in sym (holds-last ws row start i (inv .within) (omega arith)) ∙ whole
 
     module _ (h : i < length ls) where
       abbrev size : ℕ
@@ -451,8 +265,7 @@ module _ (ws ls os ns : List ℕ) (p : length ls ≡ length os) (q : length os �
 
       heads : holdsFrom start (drop i row) (drop start ws)
           ≡ ((eqb (getD os i 0) start && leb size (length ws - start)) && (owes 1 1 (slice start (start + size) ws) && holdsFrom (start + size) (drop (i + 1) row) (drop (start + size) ws)))
-      unfolding holdsFrom
-      heads = rw (row-at ls os ns even i h, add-one) (rw (length-drop start ws, take-slice ws start size (inv .within), drop-drop size start ws))
+      heads = rw add-one (holds-next ws row start i (inv .within) (record { label = getD ls i 0; offset = getD os i 0; length = size }) (row-at ls os ns even i h))
 
       pub record-off : (getD os i 0 ≡ start → ⊥) → false ≡ asked ws ls os ns
       record-off n = sym (sym whole ∙ heads ∙ rw (ne-eqb _ _ n))

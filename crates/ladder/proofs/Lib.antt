@@ -3,6 +3,5 @@ pub mod Holding
 pub mod Asked
 pub mod Walks
 pub mod Measures
-pub mod Scanning
 pub mod Measuring
 pub mod Answers

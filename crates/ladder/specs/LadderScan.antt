@@ -3,9 +3,8 @@ use Prim.Native.Nat.{ℕ}
 use mathlib.Core.Path.{_≡_}
 use mathlib.Core.Option.{none, some}
 use mathlib.Core.List.{List, [], _∷_}
-use Rattle.questions.specs.Questions.{Refusal, firstNo, question12, mostRungWatchdog}
+use Rattle.questions.specs.Questions.{Refusal, Answer, firstNo, question12, mostRungWatchdog}
 use Rattle.questions.specs.Refusals.{refusalOf}
-use Rattle.table.specs.State.{State}
 use Rattle.table.specs.Halt.{Halt, Ended, Stopped}
 use Rattle.table.specs.Questions.{question11}
 use Rattle.ladder.specs.Meaning.{LadderScan, scanLadder}
@@ -26,14 +25,16 @@ pub record ScanCall : Type 0 where
 unfoldable pub scanEnds : LadderScan → ScanCall
 scanEnds x = record { answer = scanned (x .halt) (x .rungs); table = x .state .bytes }
 
--- question 1, questions 4 to 9, then 11 and 12; a refusal leaves the table, and else the ladder is scanned
+-- question 1, questions 4 to 9, then 11 and 12
+unfoldable pub scanAnswer : ℕ → Kept → List ℕ → ℕ → Answer
+scanAnswer vars k table watchdog = firstNo (ladderAnswer vars k ∷ question11 (record { vars = vars; bytes = table }) ∷ question12 mostRungWatchdog watchdog ∷ [])
+
+-- a refusal leaves the table, and else the ladder is scanned
 unfoldable pub ladderScan : ℕ → Kept → List ℕ → ℕ → ScanCall
-ladderScan vars k table watchdog =
-    let s : State = record { vars = vars; bytes = table } in
-    elim (firstNo (ladderAnswer vars k ∷ question11 s ∷ question12 mostRungWatchdog watchdog ∷ [])) [
-      | some refusal ↦ record { answer = refused refusal; table = table }
-      | none ↦ scanEnds (scanLadder (ladderOf k) watchdog s)
-    ]
+ladderScan vars k table watchdog = elim (scanAnswer vars k table watchdog) [
+  | some refusal ↦ record { answer = refused refusal; table = table }
+  | none ↦ scanEnds (scanLadder (ladderOf k) watchdog (record { vars = vars; bytes = table }))
+]
 
 -- document 01's values for each case of the enum LadderScanned
 unfoldable pub answerOf : LadderScanned → ScanAnswer

@@ -4,16 +4,16 @@ ghost use Rattle.questions.specs.Refusals.{answerOf};
 ghost use Rattle.rungs.specs.Records.{rowOf};
 ghost use Rattle.ladder.specs.Kept.{Kept};
 ghost use Rattle.ladder.specs.Questions.{ladderAnswer};
-ghost use Rattle.ladder.specs.LadderScan.{ladderScan, LadderScanDone};
+ghost use Rattle.ladder.specs.LadderScan.{scanAnswer, ladderScan, LadderScanDone};
 use questions::MOST_RUNG_WATCHDOG;
 use questions::Refusal;
 use questions::Verdict;
 
-mod holds;
+pub mod holds;
 mod measure;
 mod question;
 mod scan;
-mod walk;
+pub mod walk;
 
 // The rungs entered.
 pub struct Counts {
@@ -68,6 +68,35 @@ pub fn ladder_answer(
     Verdict::Accepted
 }
 
+// Ladder scan's questions: 1, 4 to 9, 11 and 12, in order.
+pub fn scan_answer(
+    vars: u32,
+    words: &[u32],
+    labels: &[u16],
+    offsets: &[u32],
+    lengths: &[u32],
+    table: &[u8],
+    watchdog: u32,
+) -> Verdict
+    ensures { λ r. ⌜ answerOf r ≡ scanAnswer vars
+        (record { words = now (words .entry); records = rowOf (now (labels .entry)) (now (offsets .entry)) (now (lengths .entry)) })
+        (now (table .entry)) watchdog ⌝ }
+{
+    match ladder_answer(vars, words, labels, offsets, lengths) {
+        Verdict::Refused(refusal) => {
+            return Verdict::Refused(refusal);
+        }
+        Verdict::Accepted => {}
+    }
+    if !table::table_in_range(vars, table) {
+        return Verdict::Refused(Refusal::Table);
+    }
+    if !questions::watchdog_in_range(MOST_RUNG_WATCHDOG, watchdog) {
+        return Verdict::Refused(Refusal::Watchdog);
+    }
+    Verdict::Accepted
+}
+
 // Ladder scan.
 pub fn ladder_scan(
     vars: u32,
@@ -82,17 +111,8 @@ pub fn ladder_scan(
         (record { words = now (words .entry); records = rowOf (now (labels .entry)) (now (offsets .entry)) (now (lengths .entry)) })
         (now (table .entry)) watchdog) r (now (table .exit)) ⌝ }
 {
-    match ladder_answer(vars, words, labels, offsets, lengths) {
-        Verdict::Refused(refusal) => {
-            return LadderScanned::Refused(refusal);
-        }
-        Verdict::Accepted => {}
+    match scan_answer(vars, words, labels, offsets, lengths, table, watchdog) {
+        Verdict::Refused(refusal) => LadderScanned::Refused(refusal),
+        Verdict::Accepted => scan::run(words, labels, offsets, table, watchdog),
     }
-    if !table::table_in_range(vars, table) {
-        return LadderScanned::Refused(Refusal::Table);
-    }
-    if !questions::watchdog_in_range(MOST_RUNG_WATCHDOG, watchdog) {
-        return LadderScanned::Refused(Refusal::Watchdog);
-    }
-    scan::run(words, labels, offsets, table, watchdog)
 }

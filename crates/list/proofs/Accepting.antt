@@ -1,48 +1,18 @@
--- What a "yes" to question 10 tells of words and records. Assumes nothing.
-use mathlib.Core.Path.{_≡_, refl, sym, ap, _∙_}
-use mathlib.Core.Bool.{_&&_}
-use mathlib.Core.Option.{Option, none, some}
-use mathlib.Core.List.{List, [], _∷_, map}
-use Prim.Native.Nat.{ℕ, zero, suc, _≤_, _<_}
+-- What a "yes" to question 10 tells of words and records in three number slices. Assumes nothing.
+use mathlib.Core.Path.{_≡_}
+use mathlib.Core.Option.{some}
+use mathlib.Core.List.{List, map}
+use Prim.Native.Nat.{ℕ, _≤_, _<_}
 use native.Mathlib.Omega.{arith}
-use mir.Facts.{and-yes}
-use lib.Dec.{T, leb, ltb, leb→le}
+use lib.Dec.{T, ltb}
 use lib.ListN.{length, getD}
 use Rattle.questions.specs.Tests.{all}
-use Rattle.questions.specs.Laws.Tests.{all-head, all-tail}
-use Rattle.rungs.specs.Records.{RungRecord, laid, rowOf}
+use Rattle.rungs.specs.Records.{laid, rowOf}
 use Rattle.rungs.specs.Laws.Rows.{Even, row-even, row-length}
-use Rattle.list.specs.Instruction.{Instr, decodeInstr, decodeCode, codeOf}
-use Rattle.list.specs.Questions.{wordInRange, mostInstructions, mostRecords, recordsLaid, listInRange}
+use Rattle.list.specs.Instruction.{decodeCode, codeOf}
+use Rattle.list.specs.Questions.{mostInstructions, mostRecords, listInRange}
 use Rattle.list.specs.Parts.{instrOf, Decodes}
-
-word-decodes : (vars n w : ℕ) → T (wordInRange vars n w) → Decodes w
-unfolding wordInRange
-word-decodes vars n w h = go (decodeInstr w) refl
-  where
-    go : (x : Option Instr) → decodeInstr w ≡ x → Decodes w
-    go none e = absurd (rw (e, wordInRange) at h)
-    go (some i) e = record { instr = i; same = e }
-
-words-decode : (vars n : ℕ) (ws : List ℕ) → T (all (wordInRange vars n) ws) → (i : ℕ) → i < length ws → Decodes (getD ws i 0)
-words-decode vars n [] h i l = absurd (omega arith)
-words-decode vars n (w ∷ ws) h zero l = word-decodes vars n w (all-head (wordInRange vars n) w ws h)
-words-decode vars n (w ∷ ws) h (suc i) l = words-decode vars n ws (all-tail (wordInRange vars n) w ws h) i (omega arith)
-
-pub instr-of : (w : ℕ) (d : Decodes w) → instrOf w ≡ d .instr
-unfolding instrOf
-instr-of w d = rw (d .same, instrOf)
-
-code-decodes : (vars n : ℕ) (ws : List ℕ) → T (all (wordInRange vars n) ws) → decodeCode ws ≡ some (map instrOf ws)
-unfolding decodeCode
-code-decodes vars n [] h = refl
-code-decodes vars n (w ∷ ws) h =
-    let d = word-decodes vars n w (all-head (wordInRange vars n) w ws h) in
-    rw (instr-of w d, d .same, decodeCode) (rw (code-decodes vars n ws (all-tail (wordInRange vars n) w ws h)))
-
-code-of-words : (vars n : ℕ) (ws : List ℕ) → T (all (wordInRange vars n) ws) → codeOf ws ≡ map instrOf ws
-unfolding codeOf
-code-of-words vars n ws h = rw (code-decodes vars n ws h, codeOf)
+use Rattle.list.specs.Laws.InRange.{list-in-range}
 
 pub record ListAccepted (vars : ℕ) (ws ls os ns : List ℕ) : Type 0 where
   pub code-most : length ws ≤ mostInstructions
@@ -56,31 +26,20 @@ pub record ListAccepted (vars : ℕ) (ws ls os ns : List ℕ) : Type 0 where
   pub printed : codeOf ws ≡ map instrOf ws
 
 pub list-accepted : (vars : ℕ) (ws ls os ns : List ℕ) → T (listInRange vars ws (rowOf ls os ns)) → ListAccepted vars ws ls os ns
-unfolding listInRange recordsLaid
 list-accepted vars ws ls os ns h =
-    let rs : List RungRecord = rowOf ls os ns in
-    let n : ℕ = length ws in
-    let code = leb 1 n && leb n mostInstructions in
-    let records = leb 1 (length rs) && leb (length rs) mostRecords in
-    let some-each = all (λ (r : RungRecord). ltb 0 (r .length)) rs in
-    let words = all (wordInRange vars n) ws in
-    let x = and-yes code (records && ((laid 0 n rs && some-each) && words)) h in
-    let y = and-yes records ((laid 0 n rs && some-each) && words) (x .1) in
-    let z = and-yes (laid 0 n rs && some-each) words (y .1) in
-    let laid-all = and-yes (laid 0 n rs) some-each (z .0) in
-    let rows = and-yes (leb 1 (length rs)) (leb (length rs) mostRecords) (y .0) in
-    let e = row-even ls os ns (leb→le 1 (length rs) (rows .0)) in
+    let a = list-in-range vars ws (rowOf ls os ns) h in
+    let e = row-even ls os ns (a .some-record) in
     let l = row-length ls os ns e in
-    let most = leb→le (length rs) mostRecords (rows .1) in
+    let most = a .records-most in
     let p = e .first in let q = e .second in
     record {
-      code-most = leb→le n mostInstructions (and-yes (leb 1 n) (leb n mostInstructions) (x .0) .1);
+      code-most = a .code-most;
       records-most = omega arith;
       even = e;
       lengths = omega arith;
-      lies = laid-all .0;
-      some-length = laid-all .1;
-      decodes = words-decode vars n ws (z .1);
-      held = code-decodes vars n ws (z .1) ∙ ap (λ is. some is) (sym (code-of-words vars n ws (z .1)));
-      printed = code-of-words vars n ws (z .1);
+      lies = a .lies;
+      some-length = a .some-length;
+      decodes = a .decodes;
+      held = a .held;
+      printed = a .printed;
     }

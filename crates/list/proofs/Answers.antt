@@ -2,7 +2,7 @@
 use Prim.Native.Nat.{ℕ, _+_, _≤_, _<_}
 use native.Mathlib.Nat.{zero-add}
 use native.Mathlib.Omega.{arith}
-use mathlib.Core.Path.{_≡_, refl, _∙_}
+use mathlib.Core.Path.{_≡_, sym, _∙_}
 use mathlib.Core.Bool.{true, false}
 use mathlib.Core.Option.{none, some}
 use mathlib.Core.List.{List, [], _∷_}
@@ -11,7 +11,7 @@ use lib.ListN.{length}
 use lib.Seq.{sets-eq}
 use borrow.Author.Tests.{le-leb, lt-leb}
 use mir.Facts.{and-yes}
-use Rattle.questions.specs.Questions.{Answer, Refusal, mostVariables, ask, firstNo, varsInRange, question1, question12, mostInstructionWatchdog, longEnough, question13}
+use Rattle.questions.specs.Questions.{Answer, mostVariables, ask, firstNo, varsInRange, question1, question12, mostInstructionWatchdog, longEnough, question13}
 use Rattle.questions.specs.Tests.{all}
 use Rattle.questions.specs.Refusals.{refusalOf, answerOf}
 use Rattle.questions.specs.declared.Refusal.{Refusal as RefusalCase}
@@ -20,7 +20,7 @@ use Rattle.questions.specs.declared.Verdict.the-variants.{Accepted, Refused}
 use Rattle.table.specs.State.{State}
 use Rattle.table.specs.Questions.{tableInRange, question11}
 use Rattle.rungs.specs.Records.{RungRecord, rowOf}
-use Rattle.rungs.specs.Laws.Rows.{row-offsets}
+use Rattle.rungs.specs.Laws.Rows.{row-even, row-offsets}
 use Rattle.questions.specs.Laws.Tests.{T→true}
 use Rattle.questions.specs.Laws.Answers.{ask-passed, first-yes, later-yes}
 use Rattle.list.specs.Listing.{fixedNames, listingText, listing, ListingDone}
@@ -28,14 +28,11 @@ use Rattle.list.specs.Listing.{answerOf as listedAnswerOf}
 use Rattle.list.specs.declared.Listed.the-variants.{Written, Refused as RefusedListing}
 use Rattle.printing.specs.Put.{Put}
 use Rattle.list.specs.Parts.{Ran}
-use Rattle.list.proofs.Accepting.{list-accepted}
-use Rattle.list.proofs.Seeks.{laid-ascend}
-use Rattle.list.specs.Machine.{scanList}
+use Rattle.list.specs.Laws.Scans.{scan-in-range, scan-scans}
+use Rattle.list.specs.Laws.Refusing.{first-accepted, scan-asked-list}
 use Rattle.list.specs.Questions.{listInRange, question10, listAnswer}
-use Rattle.list.specs.ListScan.{listOf, scanEnds, listScan, ListScanDone}
-use Rattle.list.specs.ListScan.{answerOf as scanAnswerOf}
+use Rattle.list.specs.ListScan.{listOf, scanAnswer, listScan, ListScanDone}
 use Rattle.list.specs.declared.ListScanned.{ListScanned}
-use Rattle.list.specs.declared.ListScanned.the-variants.{Refused as RefusedScan}
 
 pub few-variables : (vars : ℕ) → varsInRange vars ≡ true → vars ≤ mostVariables
 unfolding varsInRange
@@ -54,18 +51,6 @@ module _ (vars : ℕ) (ws : List ℕ) (rs : List RungRecord) where
   unfolding answerOf listAnswer firstNo question1 question10 ask
   accepted-list e f = rw (e, f)
 
-first-refused : (a b : Answer) (later : List Answer) (r : Refusal) → firstNo (a ∷ b ∷ []) ≡ some r → firstNo (a ∷ b ∷ later) ≡ some r
-unfolding firstNo
-first-refused (some x) b later r e = e
-first-refused none (some x) later r e = e
-first-refused none none later r e = cc
-
-first-accepted : (a b : Answer) (later : List Answer) → firstNo (a ∷ b ∷ []) ≡ none → firstNo (a ∷ b ∷ later) ≡ firstNo later
-unfolding firstNo
-first-accepted none none later e = refl
-first-accepted none (some x) later e = cc
-first-accepted (some x) b later e = cc
-
 -- both questions got a "yes"
 pub accepted-vars : (vars : ℕ) (ws : List ℕ) (rs : List RungRecord) → listAnswer vars ws rs ≡ none → vars ≤ mostVariables
 unfolding listAnswer question1
@@ -81,46 +66,33 @@ module _ (vars : ℕ) (ws : List ℕ) (rs : List RungRecord) (t : List ℕ) (w :
   abbrev s : State
   s = record { vars = vars; bytes = t }
 
-  abbrev done : ListScanned → List ℕ → Type 0
-  done = ListScanDone (listScan vars ws rs t w)
-
-  refuses : (refusal : RefusalCase)
-      → firstNo (question1 vars ∷ question10 vars ws rs ∷ question11 s ∷ question12 mostInstructionWatchdog w ∷ []) ≡ some (refusalOf refusal) → done (RefusedScan refusal) t
-  unfolding listScan scanAnswerOf
-  refuses refusal e = record { answer = rw (e, listScan); same-table = rw (e, listScan) }
-
-  pub scan-refused : (refusal : RefusalCase) → listAnswer vars ws rs ≡ some (refusalOf refusal) → ListScanDone (listScan vars ws rs t w) (RefusedScan refusal) t
-  unfolding listAnswer
-  scan-refused refusal e = refuses refusal (first-refused (question1 vars) (question10 vars ws rs) _ (refusalOf refusal) e)
+  pub asked-list : (refusal : RefusalCase) → listAnswer vars ws rs ≡ some (refusalOf refusal) → answerOf (Refused refusal) ≡ scanAnswer vars ws rs t w
+  unfolding answerOf
+  asked-list refusal e = sym (scan-asked-list vars ws rs t w (refusalOf refusal) e)
 
   module _ (ok : listAnswer vars ws rs ≡ none) where
-    rest : firstNo (question1 vars ∷ question10 vars ws rs ∷ question11 s ∷ question12 mostInstructionWatchdog w ∷ []) ≡ firstNo (question11 s ∷ question12 mostInstructionWatchdog w ∷ [])
-    unfolding listAnswer
+    rest : scanAnswer vars ws rs t w ≡ firstNo (question11 s ∷ question12 mostInstructionWatchdog w ∷ [])
+    unfolding listAnswer scanAnswer
     rest = first-accepted (question1 vars) (question10 vars ws rs) _ ok
 
-    pub scan-refused-table : tableInRange s ≡ false → ListScanDone (listScan vars ws rs t w) (RefusedScan Table) t
-    unfolding firstNo question11 ask refusalOf
-    scan-refused-table e = refuses Table (rest ∙ rw e)
+    pub asked-table : tableInRange s ≡ false → answerOf (Refused Table) ≡ scanAnswer vars ws rs t w
+    unfolding firstNo question11 ask refusalOf answerOf
+    asked-table e = sym (rest ∙ rw e)
 
-    pub scan-refused-watchdog : tableInRange s ≡ true → leb w mostInstructionWatchdog ≡ false → ListScanDone (listScan vars ws rs t w) (RefusedScan Watchdog) t
-    unfolding firstNo question11 question12 ask refusalOf
-    scan-refused-watchdog e f = refuses Watchdog (rest ∙ rw (e, f))
+    pub asked-watchdog : tableInRange s ≡ true → leb w mostInstructionWatchdog ≡ false → answerOf (Refused Watchdog) ≡ scanAnswer vars ws rs t w
+    unfolding firstNo question11 question12 ask refusalOf answerOf
+    asked-watchdog e f = sym (rest ∙ rw (e, f))
 
-    pub scan-done : tableInRange s ≡ true → leb w mostInstructionWatchdog ≡ true → (r : ListScanned) (u : List ℕ)
-        → ListScanDone (scanEnds (scanList (listOf ws rs) w s)) r u → ListScanDone (listScan vars ws rs t w) r u
-    unfolding firstNo question11 question12 ask listScan
-    scan-done e f r u d =
-        let q : firstNo (question1 vars ∷ question10 vars ws rs ∷ question11 s ∷ question12 mostInstructionWatchdog w ∷ []) ≡ none = rest ∙ rw (e, f) in
-        record { answer = rw (q, listScan) (d .answer); same-table = rw (q, listScan) (d .same-table) }
+    pub asked-accepted : tableInRange s ≡ true → leb w mostInstructionWatchdog ≡ true → answerOf Accepted ≡ scanAnswer vars ws rs t w
+    unfolding firstNo question11 question12 ask answerOf
+    asked-accepted e f = sym (rest ∙ rw (e, f))
 
 -- the scan of what question 10 took
-pub ran-done : (vars : ℕ) (ws ls os ns t : List ℕ) (w : ℕ) (r : ListScanned) (u : List ℕ) → listAnswer vars ws (rowOf ls os ns) ≡ none → Ran ws os t w r u
-    → ListScanDone (scanEnds (scanList (listOf ws (rowOf ls os ns)) w (record { vars = vars; bytes = t }))) r u
-unfolding listOf
-ran-done vars ws ls os ns t w r u ok ran =
-    let a = list-accepted vars ws ls os ns (accepted-range vars ws (rowOf ls os ns) ok) in
-    let o = row-offsets ls os ns (a .even) in
-    ran .same (listOf ws (rowOf ls os ns)) (a .held) o (rw o at (laid-ascend 0 (length ws) (rowOf ls os ns) (a .lies) (a .some-length))) vars
+pub scanned-row : (vars : ℕ) (ws ls os ns t : List ℕ) (w : ℕ) (r : ListScanned) (u : List ℕ) → scanAnswer vars ws (rowOf ls os ns) t w ≡ none → Ran ws os t w r u
+    → ListScanDone (listScan vars ws (rowOf ls os ns) t w) r u
+scanned-row vars ws ls os ns t w r u ok ran =
+    let e = row-even ls os ns (scan-in-range vars ws (rowOf ls os ns) t w ok .some-record) in
+    scan-scans vars ws (rowOf ls os ns) t w r u ok (rw (row-offsets ls os ns e) ran)
 
 -- ---- Listing
 
@@ -134,10 +106,6 @@ module _ (vars : ℕ) (ws : List ℕ) (rs : List RungRecord) (out : List ℕ) wh
   refuses-listing : (refusal : RefusalCase) → firstNo answers ≡ some (refusalOf refusal) → ListingDone (listing fixedNames vars ws rs out) (RefusedListing refusal) out
   unfolding listing listedAnswerOf
   refuses-listing refusal e = record { answer = rw (e, listing); same-buffer = rw (e, listing) }
-
-  pub listing-refused : (refusal : RefusalCase) → listAnswer vars ws rs ≡ some (refusalOf refusal) → ListingDone (listing fixedNames vars ws rs out) (RefusedListing refusal) out
-  unfolding listAnswer
-  listing-refused refusal e = refuses-listing refusal (first-refused (question1 vars) (question10 vars ws rs) _ (refusalOf refusal) e)
 
   module _ (ok : listAnswer vars ws rs ≡ none) where
     last : firstNo answers ≡ firstNo (question13 (record { needed = length text; lent = length out } ∷ []) ∷ [])

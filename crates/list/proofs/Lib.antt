@@ -3,6 +3,4 @@ pub mod Accepting
 pub mod Answers
 pub mod Printed
 pub mod Ranges
-pub mod Seeks
 pub mod Steps
-pub mod Runs

@@ -3,9 +3,8 @@ use Prim.Native.Nat.{ℕ}
 use mathlib.Core.Path.{_≡_}
 use mathlib.Core.Option.{none, some}
 use mathlib.Core.List.{List, [], _∷_}
-use Rattle.questions.specs.Questions.{Refusal, firstNo, question1, question12, mostInstructionWatchdog}
+use Rattle.questions.specs.Questions.{Refusal, Answer, firstNo, question1, question12, mostInstructionWatchdog}
 use Rattle.questions.specs.Refusals.{refusalOf}
-use Rattle.table.specs.State.{State}
 use Rattle.table.specs.Halt.{Halt, Ended, Stopped}
 use Rattle.table.specs.Questions.{question11}
 use Rattle.rungs.specs.Records.{RungRecord}
@@ -32,14 +31,17 @@ listOf words rs = record { code = codeOf words; records = rs }
 unfoldable pub scanEnds : ListScan → ScanCall
 scanEnds x = record { answer = scanned (x .halt) (x .counts); table = x .state .bytes }
 
--- questions 1, 10, 11 and 12 in order; a refusal leaves the table, and else the list is scanned
+-- questions 1, 10, 11 and 12 in order
+unfoldable pub scanAnswer : ℕ → List ℕ → List RungRecord → List ℕ → ℕ → Answer
+scanAnswer vars words rs table watchdog =
+    firstNo (question1 vars ∷ question10 vars words rs ∷ question11 (record { vars = vars; bytes = table }) ∷ question12 mostInstructionWatchdog watchdog ∷ [])
+
+-- a refusal leaves the table, and else the list is scanned
 unfoldable pub listScan : ℕ → List ℕ → List RungRecord → List ℕ → ℕ → ScanCall
-listScan vars words rs table watchdog =
-    let s : State = record { vars = vars; bytes = table } in
-    elim (firstNo (question1 vars ∷ question10 vars words rs ∷ question11 s ∷ question12 mostInstructionWatchdog watchdog ∷ [])) [
-      | some refusal ↦ record { answer = refused refusal; table = table }
-      | none ↦ scanEnds (scanList (listOf words rs) watchdog s)
-    ]
+listScan vars words rs table watchdog = elim (scanAnswer vars words rs table watchdog) [
+  | some refusal ↦ record { answer = refused refusal; table = table }
+  | none ↦ scanEnds (scanList (listOf words rs) watchdog (record { vars = vars; bytes = table }))
+]
 
 -- document 01's values for each case of the enum ListScanned
 unfoldable pub countsOf : CountsStruct → Counts

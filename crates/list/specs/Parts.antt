@@ -1,10 +1,10 @@
 -- What the functions inside this crate promise to each other. Nothing here is a sentence of document 01. Assumes nothing.
 use Prim.Native.Nat.{ℕ, suc, _+_, _-_, _*_, _≤_, _<_}
 use mathlib.Core.Path.{_≡_}
-use mathlib.Core.Bool.{Bool, true, false, _&&_}
+use mathlib.Core.Bool.{Bool, true, false, not, _&&_}
 use mathlib.Core.Option.{none, some}
 use mathlib.Core.List.{List, [], _∷_, flatMap}
-use lib.Dec.{eqb, ltb}
+use lib.Dec.{eqb, leb, ltb}
 use lib.ListN.{length, getD}
 use Rattle.table.specs.State.{bit}
 use Rattle.rungs.specs.Records.{RungRecord, offsets, isStart}
@@ -14,6 +14,8 @@ use Rattle.list.specs.ListScan.{countsOf, scanEnds, ListScanDone}
 use Rattle.list.specs.Listing.{fixedNames, operandText, instrLine, ended}
 use Rattle.list.specs.declared.ListScanned.{ListScanned}
 use Rattle.list.specs.declared.scan.Machine.{Machine as MachineStruct}
+use Rattle.list.specs.declared.ListScanned.the-variants.{Ended as EndedCase, Stopped as StoppedCase}
+use Rattle.list.specs.declared.scan.Place.{Place}
 use Rattle.list.specs.declared.scan.Effect.{Effect}
 
 -- records laid from `start` on, none of length 0, up to `end`, over two number slices
@@ -53,6 +55,27 @@ before (o ∷ os) index = elim (ltb o index) [ true ↦ suc (before os index) | 
 pub record Sought (os : List ℕ) (index r : ℕ) : Type 0 where
   pub same : ascending 0 os → r ≡ before os index
   pub within : r ≤ length os
+
+-- the place at index 0
+unfoldable pub firstPlace : List ℕ → Place
+firstPlace os = record { index = 0; next = 0; entered = startsHere os 0 0 }
+
+-- the place at the index after a place: on a straight run the record is carried along, and else it is found anew
+pub record Followed (os : List ℕ) (p : Place) (index : ℕ) (r : Place) : Type 0 where
+  pub here : r .index ≡ index
+  pub straight : index ≡ p .index + 1 → r .next ≡ p .next + p .entered
+  pub found : (index ≡ p .index + 1 → ⊥) → Sought os index (r .next)
+  pub starts : r .entered ≡ startsHere os (r .next) index
+
+unfoldable pub firstMachine : MachineStruct
+firstMachine = record { accumulator = false; index = 0; counts = record { instructions = 0; rungs = 0 } }
+
+-- the machine is before the end, and the watchdog has not come
+unfoldable pub runsOn : ℕ → ℕ → MachineStruct → Bool
+runsOn end watchdog m = not (leb end (m .index)) && not (eqb (m .counts .instructions) watchdog)
+
+unfoldable pub haltedAt : ℕ → MachineStruct → ListScanned
+haltedAt end m = elim (leb end (m .index)) [ true ↦ EndedCase (m .counts) | false ↦ StoppedCase (m .counts) ]
 
 -- a list's words and offsets are scanned as the list
 pub record Ran (ws os t : List ℕ) (watchdog : ℕ) (r : ListScanned) (u : List ℕ) : Type 0 where

@@ -3,14 +3,14 @@ ghost use mathlib.Core.Path.{_≡_};
 ghost use Rattle.rungs.specs.Records.{rowOf};
 ghost use Rattle.questions.specs.Refusals.{answerOf};
 ghost use Rattle.list.specs.Questions.{listAnswer};
-ghost use Rattle.list.specs.ListScan.{listScan, ListScanDone};
+ghost use Rattle.list.specs.ListScan.{scanAnswer, listScan, ListScanDone};
 ghost use Rattle.list.specs.Listing.{fixedNames, listing, ListingDone};
 use questions::Refusal;
 use questions::Verdict;
 
 mod print;
 mod question;
-mod scan;
+pub mod scan;
 
 // The instructions carried out and the rungs entered.
 pub struct Counts {
@@ -51,6 +51,35 @@ pub fn list_answer(
     Verdict::Accepted
 }
 
+// List scan's questions: 1, 10, 11 and 12, in order.
+pub fn scan_answer(
+    vars: u32,
+    code: &[u32],
+    labels: &[u16],
+    offsets: &[u32],
+    lengths: &[u32],
+    table: &[u8],
+    watchdog: u32,
+) -> Verdict
+    ensures { λ r. ⌜ answerOf r ≡ scanAnswer vars (now (code .entry))
+        (rowOf (now (labels .entry)) (now (offsets .entry)) (now (lengths .entry)))
+        (now (table .entry)) watchdog ⌝ }
+{
+    match list_answer(vars, code, labels, offsets, lengths) {
+        Verdict::Refused(refusal) => {
+            return Verdict::Refused(refusal);
+        }
+        Verdict::Accepted => {}
+    }
+    if !table::table_in_range(vars, table) {
+        return Verdict::Refused(Refusal::Table);
+    }
+    if !questions::watchdog_in_range(questions::MOST_INSTRUCTION_WATCHDOG, watchdog) {
+        return Verdict::Refused(Refusal::Watchdog);
+    }
+    Verdict::Accepted
+}
+
 // List scan.
 pub fn list_scan(
     vars: u32,
@@ -65,19 +94,10 @@ pub fn list_scan(
         (rowOf (now (labels .entry)) (now (offsets .entry)) (now (lengths .entry)))
         (now (table .entry)) watchdog) r (now (table .exit)) ⌝ }
 {
-    match list_answer(vars, code, labels, offsets, lengths) {
-        Verdict::Refused(refusal) => {
-            return ListScanned::Refused(refusal);
-        }
-        Verdict::Accepted => {}
+    match scan_answer(vars, code, labels, offsets, lengths, table, watchdog) {
+        Verdict::Refused(refusal) => ListScanned::Refused(refusal),
+        Verdict::Accepted => scan::run(code, offsets, table, watchdog),
     }
-    if !table::table_in_range(vars, table) {
-        return ListScanned::Refused(Refusal::Table);
-    }
-    if !questions::watchdog_in_range(questions::MOST_INSTRUCTION_WATCHDOG, watchdog) {
-        return ListScanned::Refused(Refusal::Watchdog);
-    }
-    scan::run(code, offsets, table, watchdog)
 }
 
 // Listing.

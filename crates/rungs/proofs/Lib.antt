@@ -1,2 +1,3 @@
--- Laws that the proofs of this crate's functions cite.
+-- Laws that the proofs of functions cite, in this crate and in those above it.
 pub mod Searches
+pub mod Again

@@ -7,7 +7,7 @@ use mathlib.Core.Option.{some}
 use mathlib.Core.List.{List, [], _∷_, flatMap}
 use lib.ListN.{length, getD, take, drop, length-map, take-append-drop}
 use Rattle.questions.specs.Laws.Tests.{all-head, all-second}
-use Rattle.rungs.specs.Records.{RungRecord, rowOf}
+use Rattle.rungs.specs.Records.{rowOf}
 use Rattle.rungs.specs.Records.{labels as recordLabels, offsets}
 use Rattle.rungs.specs.Laws.Rows.{Even, row-even, row-labels, row-offsets}
 use Rattle.rungs.specs.Laws.Layout.{lay-length, lay-labels, sizes, offset-at, drop-pieces}
@@ -16,28 +16,37 @@ use Rattle.ladder.specs.Kept.{Kept, rungWords, encode, decode, inputFits
 use Rattle.ladder.specs.Held.{RungAt, LadderHeld}
 use Rattle.ladder.specs.Laws.Accepting.{encode-decode}
 
+pub kept-held : (k : Kept) (gs : Ladder) → decode k ≡ some gs → LadderHeld (k .words) (recordLabels (k .records)) (offsets (k .records)) gs
+unfolding encode
+kept-held k gs e =
+    let p = encode-decode k gs e in
+    record {
+      words = ap (λ k. k .words) (p .0);
+      same-labels = ap (λ k. recordLabels (k .records)) (p .0) ∙ lay-labels (λ g. g .label) (λ g. length (rungWords g)) 0 gs;
+      same-offsets = ap (λ k. offsets (k .records)) (p .0);
+      fits = p .1;
+    }
+
+pub kept-many : (k : Kept) (gs : Ladder) → decode k ≡ some gs → length (k .records) ≡ length gs
+unfolding encode
+kept-many k gs e = ap (λ k. length (k .records)) (encode-decode k gs e .0) ∙ lay-length (λ g. g .label) (λ g. length (rungWords g)) 0 gs
+
+-- ---- records as three number slices
+
 abbrev pub keptOf : List ℕ → List ℕ → List ℕ → List ℕ → Kept
 keptOf ws ls os ns = record { words = ws; records = rowOf ls os ns }
 
 module _ (ws ls os ns : List ℕ) (gs : Ladder) (e : decode (keptOf ws ls os ns) ≡ some gs) (h : 1 ≤ length gs) where
-  abbrev laidOut : List RungRecord
-  laidOut = encode gs .records
-
   pub rows : rowOf ls os ns ≡ encode gs .records
   rows = ap (λ k. k .records) (encode-decode (keptOf ws ls os ns) gs e .0)
 
   pub even : Even ls os ns
-  unfolding encode
-  even = let n = ap length rows ∙ lay-length (λ g. g .label) (λ g. length (rungWords g)) 0 gs in row-even ls os ns (omega arith)
+  even = let n = kept-many (keptOf ws ls os ns) gs e in row-even ls os ns (omega arith)
 
   pub held : LadderHeld ws ls os gs
-  unfolding encode
-  held = record {
-    words = ap (λ k. k .words) (encode-decode (keptOf ws ls os ns) gs e .0);
-    same-labels = sym (row-labels ls os ns even) ∙ ap (λ rs. recordLabels rs) rows ∙ lay-labels (λ g. g .label) (λ g. length (rungWords g)) 0 gs;
-    same-offsets = sym (row-offsets ls os ns even) ∙ ap (λ rs. offsets rs) rows;
-    fits = encode-decode (keptOf ws ls os ns) gs e .1;
-  }
+  held = rw (row-labels ls os ns even, row-offsets ls os ns even) at (kept-held (keptOf ws ls os ns) gs e)
+
+-- ---- the rung at a place
 
 -- gs stands apart at place k
 pub record Apart (gs : Ladder) (k : ℕ) : Type 0 where

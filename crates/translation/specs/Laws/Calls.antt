@@ -20,7 +20,7 @@ use Rattle.ladder.specs.Meaning.{LadderScan, scanLadder}
 use Rattle.ladder.specs.Kept.{Kept}
 use Rattle.ladder.specs.Questions.{ladderOf, ladderAnswer, Accepted}
 use Rattle.ladder.specs.LadderScan.{ladderScan}
-use Rattle.ladder.specs.LadderScan.{scanEnds as ladderEnds}
+use Rattle.ladder.specs.LadderScan.{scanEnds as ladderEnds, scanAnswer as ladderScanAnswer}
 use Rattle.ladder.specs.Laws.Accepting.{accepted}
 use Rattle.ladder.specs.Laws.Scratch.{scan-stays}
 use Rattle.ladder.specs.Laws.Watchdog.{stopped-stands, ended-stands}
@@ -28,7 +28,7 @@ use Rattle.list.specs.Instruction.{Instr, LD, LDN, ST, STN, AND, ANDN, OR, ORN,
 use Rattle.list.specs.Machine.{InstructionList, Machine, does, step, halted, ListScan, scanMachine, scanList}
 use Rattle.list.specs.Questions.{question10, listAnswer}
 use Rattle.list.specs.ListScan.{listOf, listScan}
-use Rattle.list.specs.ListScan.{scanned as listScanned, scanEnds as listEnds}
+use Rattle.list.specs.ListScan.{scanned as listScanned, scanEnds as listEnds, scanAnswer as listScanAnswer}
 use Rattle.list.specs.Laws.Watchdog.{scan-end, scan-stop, scan-step}
 use Rattle.translation.specs.Translate.{translate}
 use Rattle.translation.specs.TranslateKept.{countsOf, listBuffers, translated, translateKept}
@@ -125,9 +125,9 @@ module _ (vars : ℕ) (k : Kept) (table : List ℕ) (n : ℕ)
   taken = accepted vars k ok .1
 
   ladder-call : ladderScan vars k table n ≡ ladderEnds (scanLadder gs n s)
-  unfolding ladderScan firstNo
+  unfolding ladderScan ladderScanAnswer firstNo
   ladder-call =
-      let q : firstNo (ladderAnswer vars k ∷ question11 s ∷ question12 mostRungWatchdog n ∷ []) ≡ none = rw (ok, legal, watchdog) in
+      let q : ladderScanAnswer vars k table n ≡ none = rw (ok, legal, watchdog) in
       rw (q, ladderScan)
 
   list-held : listOf words (list .records) ≡ list
@@ -137,7 +137,7 @@ module _ (vars : ℕ) (k : Kept) (table : List ℕ) (n : ℕ)
       λ i. record { code = e i; records = list .records }
 
   list-call : (w : ℕ) → question12 mostInstructionWatchdog w ≡ none → listScan vars words (list .records) table w ≡ listEnds (scanList list w s)
-  unfolding listScan firstNo
+  unfolding listScan listScanAnswer firstNo
   list-call w h =
       let q : firstNo (question1 vars ∷ question10 vars words (list .records) ∷ question11 s ∷ question12 mostInstructionWatchdog w ∷ []) ≡ none
       = rw (taken .range, list-in-range vars gs taken, legal, h) in

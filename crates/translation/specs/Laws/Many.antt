@@ -20,7 +20,7 @@ use Rattle.rungs.specs.Records.{RungRecord}
 use Rattle.ladder.specs.Meaning.{scanLadder}
 use Rattle.ladder.specs.Kept.{Kept}
 use Rattle.ladder.specs.Questions.{ladderOf, ladderAnswer}
-use Rattle.ladder.specs.LadderScan.{ladderScan, ScanCall, scanned, refused, scanEnds}
+use Rattle.ladder.specs.LadderScan.{ladderScan, scanAnswer, ScanCall, scanned, refused, scanEnds}
 use Rattle.ladder.specs.Laws.Accepting.{accepted}
 use Rattle.ladder.specs.Laws.Scratch.{scan-stays}
 use Rattle.ladder.specs.Theorems.{scratch-not-read}
@@ -28,7 +28,7 @@ use Rattle.list.specs.Instruction.{Instr, LD, LDN, ST, STN, AND, ANDN, OR, ORN,
 use Rattle.list.specs.Machine.{InstructionList, Machine, does, step, halted, begin, scanMachine, scanList}
 use Rattle.list.specs.Questions.{question10}
 use Rattle.list.specs.ListScan.{listOf, listScan}
-use Rattle.list.specs.ListScan.{scanEnds as listEnds}
+use Rattle.list.specs.ListScan.{scanEnds as listEnds, scanAnswer as listScanAnswer}
 use Rattle.list.specs.Laws.Watchdog.{scan-end, scan-stop, scan-step}
 use Rattle.translation.specs.Calls.{ScansAgree}
 use Rattle.translation.specs.ManyScans.{InputValue, inputPhase, Scan, listFor, longestFor, ladderWith, listWith, LadderEnds, LaddersEnd, ManyGiven, BothEnd, ManyAgree}
@@ -97,7 +97,7 @@ module _ (vars : ℕ) where
 
   -- List scan leaves a legal table legal, refused or not
   list-legal : (words : List ℕ) (rs : List RungRecord) (table : List ℕ) (w : ℕ) → Legal vars table → Legal vars (listScan vars words rs table w .table)
-  unfolding listScan listEnds scanList
+  unfolding listScan listScanAnswer listEnds scanList
   list-legal words rs table w h = go answers refl
     where
       s : State
@@ -136,14 +136,14 @@ module _ (vars : ℕ) (k : Kept) where
     call : ladderScan vars k table n ≡ scanEnds (scanLadder (ladderOf k) n (record { vars = vars; bytes = table }))
 
   asked : (table : List ℕ) (n : ℕ) (h : Halt) (rungs : ℕ) → ladderScan vars k table n .answer ≡ scanned h rungs → Asked table n
-  unfolding ladderScan
+  unfolding ladderScan scanAnswer
   asked table n h rungs e = go answers refl
     where
       s : State
       s = record { vars = vars; bytes = table }
 
       answers : Answer
-      answers = firstNo (ladderAnswer vars k ∷ question11 s ∷ question12 mostRungWatchdog n ∷ [])
+      answers = scanAnswer vars k table n
 
       go : (a : Answer) → answers ≡ a → Asked table n
       go none q =

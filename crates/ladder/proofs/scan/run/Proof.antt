@@ -3,7 +3,7 @@
 use Prim.Native.Nat.{_-_}
 use native.Mathlib.Omega.{arith}
 use borrow.Author.Needs.{needs}
-use Rattle.ladder.proofs.Scanning.{Scanning, scanning-first, scan-ended, scan-stopped, scan-onward, scan-jumped}
+use Rattle.ladder.specs.Laws.Scanning.{Scanning, scanning-first, scan-ended, scan-stopped, scan-onward, scan-jumped}
 use Rattle.ladder.proofs.scan.run.Statement.{statement}
 use Rattle.ladder.proofs.scan.run.Tie as tie
 

@@ -1,77 +1,62 @@
--- `list::scan::run` meets its contract. The loop's invariant: the scan from where the machine stands is the whole scan, and `next` is the first record that does not begin
--- before the index. The measure is what is left before the watchdog. Assumes nothing.
+-- `list::scan::run` meets its contract. The loop's invariant: the scan from where the machine stands is the whole scan, and the place is that of its index. The measure is
+-- what is left before the watchdog. Assumes nothing.
 use Prim.Native.Nat.{_-_}
 use native.Mathlib.Omega.{arith}
+use mathlib.Core.Path.{refl, sym, _∙_}
 use borrow.Author.Needs.{needs}
-use Rattle.list.proofs.Runs.{starts-few, starts-within, Running, running-first, ran-ended, ran-stopped, run-straight, run-jump}
+use Rattle.list.specs.Parts.{firstPlace}
+use Rattle.list.specs.Laws.Runs.{Standing, standing-first, standing-needs, standing-next, standing-less, standing-ends}
 use Rattle.list.proofs.scan.run.Statement.{statement}
 use Rattle.list.proofs.scan.run.Tie as tie
 
 abbrev Inv-loop : tie.InvT-loop
-Inv-loop code offsets table₀ watchdog m₀ next₀ table m next = Running code offsets table₀ watchdog table m next
+Inv-loop code offsets table₀ watchdog m₀ place₀ table m place = Standing code offsets table₀ watchdog table m place
 
 abbrev μ-loop : tie.MeasureT-loop
-μ-loop code offsets table₀ watchdog m₀ next₀ table m next = watchdog - m .counts .instructions
+μ-loop code offsets table₀ watchdog m₀ place₀ table m place = watchdog - m .counts .instructions
+
+first-machine-requires : tie.Need-first-machine-requires Inv-loop μ-loop
+first-machine-requires c κs = search needs
+
+first-place-requires : tie.Need-first-place-requires Inv-loop μ-loop
+first-place-requires c κs = search needs
 
 loop-holds : tie.Need-loop-holds Inv-loop μ-loop
-loop-holds c = running-first _ _ _ _
+unfolding firstPlace
+loop-holds c = rw (c .before .first-machine .ensures, c .first-place .ensures) (standing-first _ _ _ _ _ refl refl refl)
 
-same-length : tie.Need-same-length Inv-loop μ-loop
-same-length c = c .before .before .loop .inv .long
+runs-on-requires : tie.Need-runs-on-requires Inv-loop μ-loop
+runs-on-requires c κs = search needs
 
-returns : tie.Need-returns Inv-loop μ-loop
-returns c = ran-ended _ _ _ _ _ _ _ (c .before .before .loop .inv) (c .if1 .taken)
+stepped-requires : tie.Need-stepped-requires Inv-loop μ-loop
+stepped-requires c κs =
+    let n = standing-needs _ _ _ _ _ _ _ (c .before .before .before .loop .inv) (c .before .before .before .before .before .before .before .before .before .fits .watchdog .fits) (sym (c .before .before .runs-on .ensures) ∙ c .before .if1 .taken) in
+    (n .inside, n .instructions, n .rungs)
 
-same-length-2 : tie.Need-same-length-2 Inv-loop μ-loop
-same-length-2 c = c .before .before .before .loop .inv .long
-
-returns-2 : tie.Need-returns-2 Inv-loop μ-loop
-returns-2 c = ran-stopped _ _ _ _ _ _ _ (c .before .before .before .loop .inv) (c .before .if1 .left) (c .if2 .taken)
-
-starts-here-requires : tie.Need-starts-here-requires Inv-loop μ-loop
-starts-here-requires c κs = search needs
-
-mul-step : tie.Need-mul-step Inv-loop μ-loop
-mul-step c = omega arith
-
-shared-slice-read-step : tie.Need-shared-slice-read-step Inv-loop μ-loop
-shared-slice-read-step c = omega arith
-
-step-requires : tie.Need-step-requires Inv-loop μ-loop
-step-requires c κs =
-    let entered = c .before .before .starts-here .ensures in
-    let few = starts-few (c .before .before .before .before .before .before .before .before .before .before .args .offsets .now) (c .before .before .before .before .before .before .loop .next) (c .before .before .before .before .before .before .loop .m .index) in
-    (omega arith, omega arith, omega arith)
-
-add-if3 : tie.Need-add-if3 Inv-loop μ-loop
-add-if3 c = omega arith
-
-cast-next : tie.Need-cast-next Inv-loop μ-loop
-cast-next c =
-    let entered = c .before .before .before .before .before .before .starts-here .ensures in
-    let few = starts-few (c .before .before .before .before .before .before .before .before .before .before .before .before .before .before .args .offsets .now) (c .before .before .before .before .before .before .before .before .before .before .loop .next) (c .before .before .before .before .before .before .before .before .before .before .loop .m .index) in
-    omega arith
-
-add-next : tie.Need-add-next Inv-loop μ-loop
-add-next c =
-    let entered = c .before .before .before .before .before .before .starts-here .ensures in
-    let within = starts-within (c .before .before .before .before .before .before .before .before .before .before .before .before .before .before .args .offsets .now) (c .before .before .before .before .before .before .before .before .before .before .loop .next) (c .before .before .before .before .before .before .before .before .before .before .loop .m .index) (c .before .before .before .before .before .before .before .before .before .before .loop .inv .next-within) in
-    omega arith
+follow-requires : tie.Need-follow-requires Inv-loop μ-loop
+follow-requires c κs =
+    let n = standing-needs _ _ _ _ _ _ _ (c .before .before .before .before .before .before .loop .inv) (c .before .before .before .before .before .before .before .before .before .before .before .before .fits .watchdog .fits) (sym (c .before .before .before .before .before .runs-on .ensures) ∙ c .before .before .before .before .if1 .taken) in
+    let inside = n .inside in
+    let same = n .same-index in
+    let within = n .next-within in
+    (omega arith, omega arith)
 
 loop-less : tie.Need-loop-less Inv-loop μ-loop
-loop-less c = omega (arith, c .before .before .before .step .ensures .carried)
+loop-less c = standing-less _ _ _ _ _ _ _ (c .before .before .before .before .before .before .before .loop .inv) (sym (c .before .before .before .before .before .before .runs-on .ensures) ∙ c .before .before .before .before .before .if1 .taken) _ _ (c .before .before .before .stepped .ensures)
 
 loop-again : tie.Need-loop-again Inv-loop μ-loop
-loop-again c = run-straight _ _ _ _ _ _ _ (c .before .before .before .before .before .before .before .before .before .before .loop .inv) (c .before .before .before .before .before .before .before .before .if1 .left) (c .before .before .before .before .before .before .before .if2 .left) _ _ (c .before .before .before .step .kept .1 .1 .1 .0) _ (c .before .before .before .before .before .before .starts-here .ensures) (c .before .before .before .step .ensures) (c .if3 .taken)
+loop-again c =
+    standing-next _ _ _ _ _ _ _ (c .before .before .before .before .before .before .before .loop .inv) (sym (c .before .before .before .before .before .before .runs-on .ensures) ∙ c .before .before .before .before .before .if1 .taken) _ _ (c .before .before .before .stepped .ensures)
+    (c .before .before .before .stepped .kept .1 .1 .1 .0) _ (c .follow .ensures)
 
-seek-requires : tie.Need-seek-requires Inv-loop μ-loop
-seek-requires c κs = search needs
+halted-at-requires : tie.Need-halted-at-requires Inv-loop μ-loop
+halted-at-requires c κs = search needs
 
-loop-less-2 : tie.Need-loop-less-2 Inv-loop μ-loop
-loop-less-2 c = omega (arith, c .before .before .before .before .step .ensures .carried)
+same-length : tie.Need-same-length Inv-loop μ-loop
+same-length c = c .before .before .before .loop .inv .running .long
 
-loop-again-2 : tie.Need-loop-again-2 Inv-loop μ-loop
-loop-again-2 c = run-jump _ _ _ _ _ _ _ (c .before .before .before .before .before .before .before .before .before .before .before .loop .inv) (c .before .before .before .before .before .before .before .before .before .if1 .left) (c .before .before .before .before .before .before .before .before .if2 .left) _ _ (c .before .before .before .before .step .kept .1 .1 .1 .0) _ (c .before .before .before .before .before .before .before .starts-here .ensures) (c .before .before .before .before .step .ensures) _ (c .seek .ensures)
+returns : tie.Need-returns Inv-loop μ-loop
+returns c = rw (c .halted-at .ensures) (standing-ends _ _ _ _ _ _ _ (c .before .before .before .loop .inv) (sym (c .before .before .runs-on .ensures) ∙ c .before .if1 .left))
 
 pub run-spec : {M : Type 1} → statement M
 run-spec =
@@ -79,20 +64,14 @@ run-spec =
     (tie.spec
     Inv-loop
     μ-loop
+    first-machine-requires
+    first-place-requires
     loop-holds
-    same-length
-    returns
-    same-length-2
-    returns-2
-    starts-here-requires
-    mul-step
-    shared-slice-read-step
-    step-requires
-    add-if3
-    cast-next
-    add-next
+    runs-on-requires
+    stepped-requires
+    follow-requires
     loop-less
     loop-again
-    seek-requires
-    loop-less-2
-    loop-again-2)
+    halted-at-requires
+    same-length
+    returns)

@@ -1,7 +1,7 @@
 -- `list::scan::seek` meets its contract. The loop's invariant: the place lies between `low` and `high`, which come nearer by halves. Assumes nothing.
 use Prim.Native.Nat.{_+_, _-_, _/_}
 use native.Mathlib.Omega.{arith}
-use Rattle.list.proofs.Seeks.{Between, between-all, go-up, go-down, sought}
+use Rattle.list.specs.Laws.Seeks.{Between, between-all, go-up, go-down, sought}
 use Rattle.list.proofs.scan.seek.Statement.{statement}
 use Rattle.list.proofs.scan.seek.Tie as tie
 

@@ -1,14 +1,15 @@
 -- Laws of the scan's loop: a scan from where the machine stands is the scan from the start. Assumes nothing.
-use Prim.Native.Nat.{ℕ, zero, suc, _+_, _-_, _≤_, _<_}
+use Prim.Native.Nat.{ℕ, zero, suc, _+_, _-_, _≤_, _<_, _^_}
 use native.Mathlib.Nat.{sub-zero}
 use native.Mathlib.Omega.{arith}
+use native.Mathlib.Decide.{ℕ-discrete}
 use mathlib.Core.Path.{_≡_, refl, sym, ap, _∙_}
-use mathlib.Core.Bool.{Bool, true, false, _&&_}
+use mathlib.Core.Bool.{Bool, true, false, not, _&&_}
 use mathlib.Core.Option.{none, some}
 use mathlib.Core.List.{List, [], _∷_, map}
-use lib.Dec.{T, eqb, ltb}
+use lib.Dec.{T, eqb, leb, ltb}
 use lib.ListN.{length, getD, getElem?, length-map}
-use borrow.Author.Tests.{ltb-true}
+use borrow.Author.Tests.{ltb-true, leb-true, leb-false, eqb-true, eqb-false}
 use Rattle.questions.specs.Tests.{all}
 use Rattle.questions.specs.Laws.Tests.{all-head, all-tail}
 use Rattle.table.specs.State.{bit}
@@ -16,12 +17,13 @@ use Rattle.rungs.specs.Records.{RungRecord, offsets, isStart}
 use Rattle.list.specs.Instruction.{Instr, instrWord, instrFits, decodeInstr, decodeCode}
 use Rattle.list.specs.Machine.{InstructionList, begin, halted, scanMachine, scanList}
 use Rattle.list.specs.ListScan.{countsOf, scanEnds, answerOf}
-use Rattle.list.specs.Parts.{machineOf, Stepped, startsHere, ascending, before, Sought, Ran}
+use Rattle.list.specs.Parts.{machineOf, Stepped, startsHere, ascending, before, Sought, Followed, firstMachine, runsOn, haltedAt, Ran}
 use Rattle.list.specs.Laws.Decoding.{decode-instr, code-decoded}
 use Rattle.list.specs.Laws.Watchdog.{scan-end, scan-stop, scan-step}
 use Rattle.list.specs.declared.ListScanned.the-variants.{Ended as EndedCase, Stopped as StoppedCase}
 use Rattle.list.specs.declared.scan.Machine.{Machine as MachineStruct}
-use Rattle.list.proofs.Seeks.{before-zero, carried-on}
+use Rattle.list.specs.declared.scan.Place.{Place}
+use Rattle.list.specs.Laws.Seeks.{before-zero, carried-on}
 
 -- ---- the word at an index and its instruction
 
@@ -95,8 +97,8 @@ pub record Running (ws os t : List ℕ) (w : ℕ) (u : List ℕ) (m : MachineStr
   pub long : length u ≡ length t
 
 pub running-first : (ws os t : List ℕ) (w : ℕ)
-    → Running ws os t w t (record { accumulator = false; index = 0; counts = record { instructions = 0; rungs = 0 } }) 0
-unfolding scanList begin machineOf countsOf
+    → Running ws os t w t firstMachine 0
+unfolding scanList begin machineOf countsOf firstMachine
 running-first ws os t w = record {
   same = λ l d o a vars. rw sub-zero refl;
   next-is = λ a. sym (before-zero os);
@@ -158,3 +160,101 @@ module _ (ws os t : List ℕ) (w : ℕ) (u : List ℕ) (m : MachineStruct) (next
 
     pub run-jump : (found : ℕ) → Sought os (m′ .index) found → Running ws os t w u′ m′ found
     run-jump found k = next-after found (k .within) (k .same)
+
+-- ---- the same over a place
+
+-- the machine is before the end, and the watchdog has not come
+pub record RunsOn (end w : ℕ) (m : MachineStruct) : Type 0 where
+  pub inside : m .index < end
+  pub left : m .counts .instructions ≡ w → ⊥
+
+pub runs-on : (end w : ℕ) (m : MachineStruct) → runsOn end w m ≡ true → RunsOn end w m
+unfolding runsOn
+runs-on end w m e = go (leb end (m .index)) (eqb (m .counts .instructions) w) refl refl e
+  where
+    no-path : _≡_ {A = Bool} false true → RunsOn end w m
+    no-path h = let z : _≡_ {A = ℕ} 0 1 = cc in absurd (omega arith)
+
+    go : (a b : Bool) → leb end (m .index) ≡ a → eqb (m .counts .instructions) w ≡ b → (not a && not b) ≡ true → RunsOn end w m
+    go true b p q h = no-path h
+    go false true p q h = no-path h
+    go false false p q h = record { inside = leb-false _ _ p; left = eqb-false _ _ q }
+
+pub halts : (end w : ℕ) (m : MachineStruct) → runsOn end w m ≡ false → m .index < end → m .counts .instructions ≡ w
+unfolding runsOn
+halts end w m e h = go (leb end (m .index)) (eqb (m .counts .instructions) w) refl refl e
+  where
+    go : (a b : Bool) → leb end (m .index) ≡ a → eqb (m .counts .instructions) w ≡ b → (not a && not b) ≡ false → m .counts .instructions ≡ w
+    go true b p q k = let l = leb-true end (m .index) p in absurd (omega arith)
+    go false true p q k = eqb-true _ _ q
+    go false false p q k = cc
+
+pub record Standing (ws os t : List ℕ) (w : ℕ) (u : List ℕ) (m : MachineStruct) (place : Place) : Type 0 where
+  pub running : Running ws os t w u m (place .next)
+  pub same-index : place .index ≡ m .index
+  pub starts : place .entered ≡ startsHere os (place .next) (m .index)
+
+pub standing-first : (ws os t : List ℕ) (w : ℕ) (place : Place) → place .index ≡ 0 → place .next ≡ 0 → place .entered ≡ startsHere os 0 0
+    → Standing ws os t w t firstMachine place
+unfolding firstMachine
+standing-first ws os t w place i n e = record { running = rw n (running-first ws os t w); same-index = i; starts = rw n e }
+
+-- what one more instruction asks for
+pub record StandingNeeds (ws os : List ℕ) (m : MachineStruct) (place : Place) : Type 0 where
+  pub inside : m .index < length ws
+  pub instructions : m .counts .instructions + 1 < 2 ^ 32
+  pub rungs : m .counts .rungs + place .entered < 2 ^ 32
+  pub same-index : place .index ≡ m .index
+  pub next-within : place .next + place .entered ≤ length os
+
+module _ (ws os t : List ℕ) (w : ℕ) (u : List ℕ) (m : MachineStruct) (place : Place) (standing : Standing ws os t w u m place) where
+  pub standing-needs : w < 2 ^ 32 → runsOn (length ws) w m ≡ true → StandingNeeds ws os m place
+  standing-needs b on =
+      let r = standing .running in
+      let o = runs-on (length ws) w m on in
+      let z = o .left in
+      let e = standing .starts in
+      let carried = r .carried in
+      let few = r .few in
+      let one = starts-few os (place .next) (m .index) in
+      let within = starts-within os (place .next) (m .index) (r .next-within) in
+      record {
+        inside = o .inside;
+        instructions = omega arith;
+        rungs = omega arith;
+        same-index = standing .same-index;
+        next-within = omega arith;
+      }
+
+  pub standing-next : runsOn (length ws) w m ≡ true → (m′ : MachineStruct) (u′ : List ℕ) → Stepped (getD ws (m .index) 0) (place .entered) m u m′ u′ → length u′ ≡ length u
+      → (place′ : Place) → Followed os place (m′ .index) place′ → Standing ws os t w u′ m′ place′
+  standing-next on m′ u′ s len place′ f = record {
+    running = go (ℕ-discrete (m′ .index) (place .index + 1));
+    same-index = f .here;
+    starts = f .starts;
+  }
+    where
+      o : RunsOn (length ws) w m
+      o = runs-on (length ws) w m on
+
+      go : Dec (m′ .index ≡ place .index + 1) → Running ws os t w u′ m′ (place′ .next)
+      go (yes q) = rw (f .straight q)
+          (run-straight ws os t w u m (place .next) (standing .running) (o .inside) (o .left) m′ u′ len (place .entered) (standing .starts) s (q ∙ ap (λ i. i + 1) (standing .same-index)))
+      go (no n) = run-jump ws os t w u m (place .next) (standing .running) (o .inside) (o .left) m′ u′ len (place .entered) (standing .starts) s (place′ .next) (f .found n)
+
+  pub standing-less : runsOn (length ws) w m ≡ true → (m′ : MachineStruct) (u′ : List ℕ) → Stepped (getD ws (m .index) 0) (place .entered) m u m′ u′
+      → w - m′ .counts .instructions < w - m .counts .instructions
+  standing-less on m′ u′ s =
+      let z = runs-on (length ws) w m on .left in
+      let c = s .carried in
+      let carried = standing .running .carried in
+      omega arith
+
+  pub standing-ends : runsOn (length ws) w m ≡ false → Ran ws os t w (haltedAt (length ws) m) u
+  unfolding haltedAt
+  standing-ends off = go (leb (length ws) (m .index)) refl
+    where
+      go : (b : Bool) → leb (length ws) (m .index) ≡ b → Ran ws os t w (haltedAt (length ws) m) u
+      go true e = rw (e, haltedAt) (ran-ended ws os t w u m (place .next) (standing .running) (leb-true _ _ e))
+      go false e = rw (e, haltedAt)
+          (ran-stopped ws os t w u m (place .next) (standing .running) (leb-false _ _ e) (halts (length ws) w m off (leb-false _ _ e)))

@@ -1,0 +1,225 @@
+-- Laws of the scan's loop over a row: the scan from the rung that comes next is the whole scan, and a refused call leaves the table. Assumes nothing.
+use Prim.Native.Nat.{ℕ, _+_, _-_, _≤_, _<_, _^_}
+use native.Mathlib.Omega.{arith}
+use mathlib.Core.Path.{_≡_, refl, sym, ap, _∙_}
+use mathlib.Core.Bool.{Bool, true, false, not, _&&_}
+use mathlib.Core.Logic.{_⊎_, inl, inr}
+use mathlib.Core.List.{List}
+use lib.Dec.{eqb, leb, leb→le, nleb→lt, eqb→eq}
+use lib.ListN.{length, getD, take, length-map, List·getD-map}
+use lib.Seq.{take-all}
+use borrow.Author.Tests.{eq-eqb, le-leb, lt-leb, not-false}
+use Rattle.questions.specs.declared.Refusal.{Refusal}
+use Rattle.questions.specs.declared.Verdict.{Verdict}
+use Rattle.questions.specs.declared.Verdict.the-variants.{Accepted, Refused}
+use Rattle.rungs.specs.Records.{RungRecord, labels, offsets, search}
+use Rattle.rows.specs.Rows.{noRecord, recordAt}
+use Rattle.ladder.specs.Walking.{RungRun}
+use Rattle.ladder.specs.Scanned.{Scanned}
+use Rattle.ladder.specs.Laws.Scanning.{Scanning, scanning-first, scan-ended, scan-stopped, scan-onward, scan-jumped}
+use Rattle.ladder.specs.declared.LadderScanned.the-variants.{Ended as EndedCase, Stopped as StoppedCase, Refused as RefusedScan}
+use Rattle.ladder.specs.declared.walk.Ran.{Ran}
+use Rattle.ladder.specs.declared.walk.Ran.the-variants.{Onward, Jumped}
+use Rattle.ladder_rows.specs.Parts.{goesOn, accepts, begun, wayOf, Entered, arrivesAt, arrived, answered, RowScanned}
+use Rattle.ladder_rows.specs.declared.Standing.{Standing}
+use Rattle.ladder_rows.specs.declared.Way.{Way}
+
+-- ---- what the tests tell
+
+accepts-taken : (v : Verdict) → accepts v ≡ true → v ≡ Accepted
+unfolding accepts
+accepts-taken Accepted e = refl
+accepts-taken (Refused x) e = let z : _≡_ {A = ℕ} 0 1 = cc in absurd (omega arith)
+
+not-both : (v : Verdict) (x : Refusal) → v ≡ Accepted → v ≡ Refused x → ⊥
+unfolding accepts
+not-both v x a r =
+    let e : true ≡ false = sym (ap accepts a) ∙ ap accepts r in
+    let z : _≡_ {A = ℕ} 0 1 = cc in
+    omega arith
+
+and-left : (a b : Bool) → (a && b) ≡ true → a ≡ true
+and-left true b e = refl
+and-left false b e = e
+
+and-right : (a b : Bool) → (a && b) ≡ true → b ≡ true
+and-right true b e = e
+and-right false b e = let z : _≡_ {A = ℕ} 0 1 = cc in absurd (omega arith)
+
+-- a rung is to be entered
+record Goes (rung n entered w : ℕ) : Type 0 where
+  inside : rung < n
+  before : entered ≡ w → ⊥
+
+goes : (rung n entered w : ℕ) → goesOn rung n entered w ≡ true → Goes rung n entered w
+unfolding goesOn
+goes rung n entered w e =
+    record {
+      inside = nleb→lt n rung (rw (and-left (not (leb n rung)) (not (eqb entered w)) e) tt);
+      before = λ q. let z = and-right (not (leb n rung)) (not (eqb entered w)) e in let d : not true ≡ true = rw (eq-eqb _ _ q) at z in let z : _≡_ {A = ℕ} 0 1 = cc in omega arith;
+    }
+
+-- ---- one test, and where it leads
+
+pub goes-past : (rung n entered w : ℕ) → n ≤ rung → false ≡ goesOn rung n entered w
+unfolding goesOn
+goes-past rung n entered w h = rw (le-leb n rung h)
+
+pub goes-here : (rung n entered w : ℕ) → rung < n → not (eqb entered w) ≡ goesOn rung n entered w
+unfolding goesOn
+goes-here rung n entered w h = rw (lt-leb n rung h)
+
+module _ (v : Verdict) (n w : ℕ) where
+  pub begun-refused : (x : Refusal) → v ≡ Refused x → record { entered = 0; rung = 0; on = false } ≡ begun v n w
+  unfolding begun accepts
+  begun-refused x e = rw e
+
+  pub begun-accepted : v ≡ Accepted → (on : Bool) → on ≡ goesOn 0 n 0 w → record { entered = 0; rung = 0; on = on } ≡ begun v n w
+  unfolding begun accepts
+  begun-accepted e on q = rw (e, q)
+
+module _ (ws : List ℕ) (r : RungRecord) (n : ℕ) (t u : List ℕ) (ran : Ran) (run : RungRun ws (r .offset) t ran u) where
+  pub entered-onward : (k : ℕ) → ran ≡ Onward k → Entered ws r n t (record { jumped = false; label = 0; upto = 0 }) u
+  unfolding wayOf
+  entered-onward k e = record { ran = ran; run = run; way = rw (e, wayOf) }
+
+  pub entered-jumped : (l : ℕ) → ran ≡ Jumped l → Entered ws r n t (record { jumped = true; label = l; upto = n }) u
+  unfolding wayOf
+  entered-jumped l e = record { ran = ran; run = run; way = rw (e, wayOf) }
+
+module _ (at : Standing) (way : Way) (found rung : ℕ) where
+  pub arrives : ((way .jumped ≡ true) × (rung ≡ found)) ⊎ ((way .jumped ≡ false) × (rung ≡ at .rung + 1)) → rung ≡ arrivesAt at way found
+  unfolding arrivesAt
+  arrives (inl e) = rw (e .0, arrivesAt) (e .1)
+  arrives (inr e) = rw (e .0, arrivesAt) (e .1)
+
+  pub arrived-there : (n w : ℕ) → rung ≡ arrivesAt at way found → (on : Bool) → on ≡ goesOn rung n (at .entered + 1) w
+      → record { entered = at .entered + 1; rung = rung; on = on } ≡ arrived at way found n w
+  unfolding arrived
+  arrived-there n w e on q = rw (q, e)
+
+module _ (v : Verdict) (at : Standing) (n : ℕ) where
+  pub answer-refused : (x : Refusal) → v ≡ Refused x → RefusedScan x ≡ answered v at n
+  unfolding answered
+  answer-refused x e = rw e
+
+  module _ (e : v ≡ Accepted) where
+    pub answer-ended : n ≤ at .rung → EndedCase (record { rungs = at .entered }) ≡ answered v at n
+    unfolding answered
+    answer-ended h = rw e (rw (le-leb n (at .rung) h, answered))
+
+    pub answer-stopped : at .rung < n → StoppedCase (record { rungs = at .entered }) ≡ answered v at n
+    unfolding answered
+    answer-stopped h = rw e (rw (lt-leb n (at .rung) h, answered))
+
+-- ---- the loop's invariant
+
+pub record Going (v : Verdict) (ws : List ℕ) (rs : List RungRecord) (t : List ℕ) (w : ℕ) (u : List ℕ) (at : Standing) : Type 0 where
+  pub on-is : at .on ≡ (accepts v && goesOn (at .rung) (length rs) (at .entered) w)
+  pub within : at .entered ≤ w
+  pub long : length u ≡ length t
+  pub untouched : (x : Refusal) → v ≡ Refused x → u ≡ t
+  pub going : v ≡ Accepted → Scanning ws (labels rs) (offsets rs) t w u (at .entered) (at .rung)
+
+module _ (v : Verdict) (ws : List ℕ) (rs : List RungRecord) (t : List ℕ) (w : ℕ) where
+  pub going-first : Going v ws rs t w t (begun v (length rs) w)
+  unfolding begun
+  going-first = record {
+    on-is = refl;
+    within = omega arith;
+    long = refl;
+    untouched = λ x e. refl;
+    going = λ e. scanning-first ws (labels rs) (offsets rs) t w;
+  }
+
+  module _ (u : List ℕ) (at : Standing) (g : Going v ws rs t w u at) where
+    module _ (on : at .on ≡ true) where
+      verdict : v ≡ Accepted
+      verdict = accepts-taken v (and-left _ _ (sym (g .on-is) ∙ on))
+
+      next : Goes (at .rung) (length rs) (at .entered) w
+      next = goes (at .rung) (length rs) (at .entered) w (and-right (accepts v) _ (sym (g .on-is) ∙ on))
+
+      pub going-needs : (at .rung < length rs) × (at .entered < w)
+      going-needs = let n = next in let h = g .within in (n .inside, lt-from h (n .before))
+        where
+          lt-from : at .entered ≤ w → (at .entered ≡ w → ⊥) → at .entered < w
+          lt-from h n = omega arith
+
+      -- no count wraps
+      pub going-fits : w < 2 ^ 32 → length rs < 2 ^ 64 → (at .entered + 1 < 2 ^ 32) × (at .rung + 1 < 2 ^ 64)
+      going-fits f h = let n = going-needs in (fits (n .1) f, fits (n .0) h)
+        where
+          fits : {a b c : ℕ} → a < b → b < c → a + 1 < c
+          fits p q = omega arith
+
+      module _ (way : Way) (u′ : List ℕ) (e : Entered ws (recordAt rs (at .rung)) (length rs) u way u′) where
+        pub going-upto : way .upto ≤ length rs
+        unfolding wayOf
+        going-upto = go (e .ran) (e .way)
+          where
+            go : (ran : Ran) → way ≡ wayOf (length rs) ran → way .upto ≤ length rs
+            go (Onward k) q = let n = ap (λ s. s .upto) q in omega arith
+            go (Jumped l) q = let n = ap (λ s. s .upto) q in omega arith
+
+        pub going-nearer : (found : ℕ) → w - arrived at way found (length rs) w .entered < w - at .entered
+        unfolding arrived
+        going-nearer found = let n = going-needs .1 in omega arith
+
+        pub going-next : (stays : length u′ ≡ length u) (found : ℕ) → found ≡ search (way .label) (take (way .upto) (labels rs))
+            → Going v ws rs t w u′ (arrived at way found (length rs) w)
+        unfolding accepts arrived wayOf arrivesAt
+        going-next stays found f =
+            let n = going-needs in
+            record {
+              on-is = rw (verdict, accepts);
+              within = add-within (n .1);
+              long = stays ∙ g .long;
+              untouched = λ x r. absurd (not-both v x verdict r);
+              going = λ a. go (e .ran) (e .run) (e .way);
+            }
+          where
+            add-within : at .entered < w → at .entered + 1 ≤ w
+            add-within h = omega arith
+
+            inside : at .rung < length (labels rs)
+            inside = let h = next .inside in let n = length-map rs (λ r. r .label) in omega arith
+
+            offset : recordAt rs (at .rung) .offset ≡ getD (offsets rs) (at .rung) 0
+            offset = sym (List·getD-map (λ (r : RungRecord). r .offset) rs (at .rung) noRecord)
+
+            go : (ran : Ran) → RungRun ws (recordAt rs (at .rung) .offset) u ran u′ → way ≡ wayOf (length rs) ran
+                → Scanning ws (labels rs) (offsets rs) t w u′ (at .entered + 1) (arrivesAt at way found)
+            go (Onward k) run q =
+                let p : arrivesAt at way found ≡ at .rung + 1 = ap (λ s. arrivesAt at s found) q in
+                rw p (scan-onward ws (labels rs) (offsets rs) t w u (at .entered) (at .rung) (g .going verdict) inside (next .before) _ offset (Onward k) u′ run stays k refl)
+            go (Jumped l) run q =
+                let p : arrivesAt at way found ≡ found = ap (λ s. arrivesAt at s found) q in
+                let n = length-map rs (λ (r : RungRecord). r .label) in
+                let all : take (length rs) (labels rs) ≡ labels rs = take-all (length rs) (labels rs) (omega arith) in
+                let z : found ≡ search l (labels rs) = f ∙ ap (λ s. search (s .label) (take (s .upto) (labels rs))) q ∙ ap (λ ls. search l ls) all in
+                rw p (scan-jumped ws (labels rs) (offsets rs) t w u (at .entered) (at .rung) (g .going verdict) inside (next .before) _ offset (Jumped l) u′ run stays l found refl z)
+
+    pub going-ends : at .on ≡ false → RowScanned v ws rs t w (answered v at (length rs)) u
+    unfolding answered accepts goesOn
+    going-ends off = record {
+      refused = λ x e. (ap (λ v. answered v at (length rs)) e, g .untouched x e);
+      scanned = λ e. rw e (go (g .going e) (halts e) (leb (length rs) (at .rung)) refl);
+    }
+      where
+        halts : v ≡ Accepted → goesOn (at .rung) (length rs) (at .entered) w ≡ false
+        halts e = sym (sym off ∙ g .on-is ∙ ap (λ v. accepts v && goesOn (at .rung) (length rs) (at .entered) w) e)
+
+        many : length (labels rs) ≡ length rs
+        many = length-map rs (λ r. r .label)
+
+        go : Scanning ws (labels rs) (offsets rs) t w u (at .entered) (at .rung) → goesOn (at .rung) (length rs) (at .entered) w ≡ false
+            → (b : Bool) → leb (length rs) (at .rung) ≡ b → Scanned ws (labels rs) (offsets rs) t w (answered Accepted at (length rs)) u
+        go s h true q =
+            let n = many in
+            let l = leb→le (length rs) (at .rung) (rw q tt) in
+            rw (q, answered) (scan-ended ws (labels rs) (offsets rs) t w u (at .entered) (at .rung) s (omega arith))
+        go s h false q =
+            let n = many in
+            let l = nleb→lt (length rs) (at .rung) (rw q tt) in
+            rw (q, answered) (scan-stopped ws (labels rs) (offsets rs) t w u (at .entered) (at .rung) s (omega arith) (eqb→eq (at .entered) w (rw (not-false (eqb (at .entered) w) (rw q at h)) tt)))

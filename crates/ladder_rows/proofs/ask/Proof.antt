@@ -1,0 +1,57 @@
+-- `ladder_rows::ask` meets its contract. More than 256 records are refused by what was found of the whole row; the fields of 256 or fewer are the row. Assumes nothing.
+use mathlib.Core.Path.{refl, sym}
+use lib.Seq.{length-take-le}
+use Rattle.rows.proofs.Fields.{within}
+use Rattle.ladder_rows.proofs.Answers.{asked-long, asked-short}
+use borrow.Author.Needs.{needs}
+use Rattle.ladder_rows.proofs.ask.Statement.{statement}
+use Rattle.ladder_rows.proofs.ask.Tie as tie
+
+long-refusal-requires : tie.Need-long-refusal-requires
+long-refusal-requires c κs = search needs
+
+returns : tie.Need-returns
+returns c = (asked-long _ _ _ _ _ _ (c .before .if1 .taken) _ (c .long-refusal .ensures), refl)
+
+array-share-prefix-labels : tie.Need-array-share-prefix-labels
+array-share-prefix-labels c = within (c .before .before .before .before .before .before .before .args .rows) _ (c .before .before .before .before .before .before .before .good .1 .1 .0) (c .before .before .before .if1 .left) .labels
+
+slice-aggregate-scan-answer : tie.Need-slice-aggregate-scan-answer
+slice-aggregate-scan-answer c = sym (length-take-le _ _ (within (c .before .before .before .before .before .before .before .before .args .rows) _ (c .before .before .before .before .before .before .before .before .good .1 .1 .0) (c .before .before .before .before .if1 .left) .labels))
+
+array-share-prefix-offsets : tie.Need-array-share-prefix-offsets
+array-share-prefix-offsets c = within (c .before .before .before .before .before .before .before .before .args .rows) _ (c .before .before .before .before .before .before .before .before .good .1 .1 .0) (c .before .before .before .before .if1 .left) .offsets
+
+slice-aggregate-scan-answer-2 : tie.Need-slice-aggregate-scan-answer-2
+slice-aggregate-scan-answer-2 c = sym (length-take-le _ _ (within (c .before .before .before .before .before .before .before .before .before .args .rows) _ (c .before .before .before .before .before .before .before .before .before .good .1 .1 .0) (c .before .before .before .before .before .if1 .left) .offsets))
+
+array-share-prefix-lengths : tie.Need-array-share-prefix-lengths
+array-share-prefix-lengths c = within (c .before .before .before .before .before .before .before .before .before .args .rows) _ (c .before .before .before .before .before .before .before .before .before .good .1 .1 .0) (c .before .before .before .before .before .if1 .left) .lengths
+
+slice-aggregate-scan-answer-3 : tie.Need-slice-aggregate-scan-answer-3
+slice-aggregate-scan-answer-3 c = sym (length-take-le _ _ (within (c .before .before .before .before .before .before .before .before .before .before .args .rows) _ (c .before .before .before .before .before .before .before .before .before .before .good .1 .1 .0) (c .before .before .before .before .before .before .if1 .left) .lengths))
+
+scan-answer-requires : tie.Need-scan-answer-requires
+scan-answer-requires c κs = search needs
+
+same-length : tie.Need-same-length
+same-length c = search needs
+
+returns-2 : tie.Need-returns-2
+returns-2 c = (asked-short _ _ _ _ _ _ (c .before .before .before .before .before .before .before .before .if1 .left) _ (c .scan-answer .ensures), refl)
+
+pub ask-spec : {M : Type 1} → statement M
+ask-spec =
+    tie.close
+    (tie.spec
+    long-refusal-requires
+    returns
+    array-share-prefix-labels
+    slice-aggregate-scan-answer
+    array-share-prefix-offsets
+    slice-aggregate-scan-answer-2
+    array-share-prefix-lengths
+    slice-aggregate-scan-answer-3
+    scan-answer-requires
+    same-length
+    returns-2)

@@ -1,0 +1,42 @@
+-- `ladder_rows::enter` meets its contract. Where the rung leads goes by how it was run. Assumes nothing.
+use Rattle.ladder_rows.proofs.Scans.{entered-onward, entered-jumped}
+use borrow.Author.Needs.{needs}
+use Rattle.ladder_rows.proofs.enter.Statement.{statement}
+use Rattle.ladder_rows.proofs.enter.Tie as tie
+
+cast-run-rung : tie.Need-cast-run-rung
+cast-run-rung c = search needs
+
+run-rung-requires : tie.Need-run-rung-requires
+run-rung-requires c κs = search needs
+
+enum-told : tie.Need-enum-told
+enum-told c = search needs
+
+enum-known-label : tie.Need-enum-known-label
+enum-known-label c = search needs
+
+same-length : tie.Need-same-length
+same-length c = search needs
+
+returns : tie.Need-returns
+returns c = entered-onward _ _ _ _ _ _ (c .before .before .before .before .run-rung .ensures) _ (c .enum-told .given .1)
+
+same-length-2 : tie.Need-same-length-2
+same-length-2 c = search needs
+
+returns-2 : tie.Need-returns-2
+returns-2 c = entered-jumped _ _ _ _ _ _ (c .before .before .before .before .before .run-rung .ensures) _ (c .before .label .given .1)
+
+pub enter-spec : {M : Type 1} → statement M
+enter-spec =
+    tie.close
+    (tie.spec
+    cast-run-rung
+    run-rung-requires
+    enum-told
+    enum-known-label
+    same-length
+    returns
+    same-length-2
+    returns-2)

@@ -1,0 +1,2 @@
+-- Ladder scan over a lent row of rung records. What its functions promise each other: Parts. The promise of the call is ladder's definition.
+pub mod Parts

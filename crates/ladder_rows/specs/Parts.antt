@@ -1,0 +1,95 @@
+-- What the functions of this crate promise to each other. Nothing here is a sentence of document 01. Assumes nothing.
+use Prim.Native.Nat.{ℕ, _+_, _<_}
+use mathlib.Core.Path.{_≡_}
+use mathlib.Core.Bool.{Bool, true, false, not, _&&_}
+use mathlib.Core.Option.{some}
+use mathlib.Core.List.{List}
+use lib.Dec.{eqb, leb, ltb}
+use lib.ListN.{length}
+use lib.Seq.{slice}
+use Rattle.questions.specs.Refusals.{refusalOf, answerOf}
+use Rattle.questions.specs.declared.Refusal.{Refusal}
+use Rattle.questions.specs.declared.Verdict.{Verdict}
+use Rattle.questions.specs.declared.Verdict.the-variants.{Accepted, Refused}
+use Rattle.rungs.specs.Records.{RungRecord, labels, offsets}
+use Rattle.rows.specs.Rows.{mostRungs, gathered}
+use Rattle.rows.specs.declared.Rows.{Rows}
+use Rattle.ladder.specs.Questions.{holdsLadder, ladderAnswer}
+use Rattle.ladder.specs.LadderScan.{scanAnswer}
+use Rattle.ladder.specs.Owing.{owes}
+use Rattle.ladder.specs.Walking.{RungRun}
+use Rattle.ladder.specs.Scanned.{Scanned}
+use Rattle.ladder.specs.declared.LadderScanned.{LadderScanned}
+use Rattle.ladder.specs.declared.LadderScanned.the-variants.{Ended as EndedCase, Stopped as StoppedCase, Refused as RefusedScan}
+use Rattle.ladder.specs.declared.walk.Ran.{Ran}
+use Rattle.ladder.specs.declared.walk.Ran.the-variants.{Onward, Jumped}
+use Rattle.ladder_rows.specs.declared.Laid.{Laid}
+use Rattle.ladder_rows.specs.declared.Standing.{Standing}
+use Rattle.ladder_rows.specs.declared.Way.{Way}
+
+-- ---- question 4 of a row of more than 256 records
+
+-- "no", of a row of 256 or fewer
+unfoldable pub longHolds : List ℕ → List RungRecord → Bool
+longHolds ws rs = ltb mostRungs (length rs) && holdsLadder (record { words = ws; records = rs })
+
+unfoldable pub askedTo : ℕ → ℕ
+askedTo n = elim (ltb mostRungs n) [ true ↦ n | false ↦ 0 ]
+
+unfoldable pub laidFirst : Laid
+laidFirst = record { start = 0; whole = true }
+
+unfoldable pub laidNext : List ℕ → Laid → RungRecord → Laid
+laidNext ws l r =
+    elim (l .whole && (eqb (r .offset) (l .start) && (leb (l .start + r .length) (length ws) && owes 1 1 (slice (l .start) (l .start + r .length) ws)))) [
+      | true ↦ record { start = l .start + r .length; whole = true }
+      | false ↦ record { start = 0; whole = false }
+    ]
+
+unfoldable pub laidWhole : ℕ → ℕ → Laid → Bool
+laidWhole upto words l = ltb 0 upto && (l .whole && eqb (l .start) words)
+
+-- what the first question says "no" to in such a row
+pub record LongRefused (vars : ℕ) (holds : Bool) (r : Refusal) : Type 0 where
+  pub same : (ws : List ℕ) (rs : List RungRecord) → mostRungs < length rs → holds ≡ longHolds ws rs → ladderAnswer vars (record { words = ws; records = rs }) ≡ some (refusalOf r)
+
+-- ---- the questions
+
+pub record RowAsked (vars : ℕ) (ws : List ℕ) (rows : Rows) (long : Bool) (t : List ℕ) (w : ℕ) (r : Verdict) : Type 0 where
+  pub same : (rs : List RungRecord) → rows ≡ gathered rs → long ≡ longHolds ws rs → answerOf r ≡ scanAnswer vars (record { words = ws; records = rs }) t w
+
+-- ---- the scan
+
+unfoldable pub goesOn : ℕ → ℕ → ℕ → ℕ → Bool
+goesOn rung n entered w = not (leb n rung) && not (eqb entered w)
+
+unfoldable pub accepts : Verdict → Bool
+accepts Accepted = true
+accepts (Refused x) = false
+
+unfoldable pub begun : Verdict → ℕ → ℕ → Standing
+begun v n w = record { entered = 0; rung = 0; on = accepts v && goesOn 0 n 0 w }
+
+-- where a rung leads in a row of n records
+unfoldable pub wayOf : ℕ → Ran → Way
+wayOf n (Onward k) = record { jumped = false; label = 0; upto = 0 }
+wayOf n (Jumped l) = record { jumped = true; label = l; upto = n }
+
+pub record Entered (ws : List ℕ) (r : RungRecord) (n : ℕ) (t : List ℕ) (s : Way) (u : List ℕ) : Type 0 where
+  pub ran : Ran
+  pub run : RungRun ws (r .offset) t ran u
+  pub way : s ≡ wayOf n ran
+
+unfoldable pub arrivesAt : Standing → Way → ℕ → ℕ
+arrivesAt at way found = elim (way .jumped) [ true ↦ found | false ↦ at .rung + 1 ]
+
+unfoldable pub arrived : Standing → Way → ℕ → ℕ → ℕ → Standing
+arrived at way found n w = record { entered = at .entered + 1; rung = arrivesAt at way found; on = goesOn (arrivesAt at way found) n (at .entered + 1) w }
+
+unfoldable pub answered : Verdict → Standing → ℕ → LadderScanned
+answered (Refused x) at n = RefusedScan x
+answered Accepted at n = elim (leb n (at .rung)) [ true ↦ EndedCase (record { rungs = at .entered }) | false ↦ StoppedCase (record { rungs = at .entered }) ]
+
+pub record RowScanned (v : Verdict) (ws : List ℕ) (rs : List RungRecord) (t : List ℕ) (w : ℕ) (r : LadderScanned) (u : List ℕ) : Type 0 where
+  pub refused : (x : Refusal) → v ≡ Refused x → (r ≡ RefusedScan x) × (u ≡ t)
+  pub scanned : v ≡ Accepted → Scanned ws (labels rs) (offsets rs) t w r u

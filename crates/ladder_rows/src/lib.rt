@@ -1,0 +1,260 @@
+// Ladder scan over one lent row of rung records. Document 01, "The kept ladder": "Rung records lie side by side in one lent row". The
+// questions are put to a copy of the row's fields; the scan goes by the row itself, and searches it where a rung jumps.
+ghost use mathlib.Core.Path.{_≡_};
+ghost use lib.ListN.{length};
+ghost use Prim.Native.Nat.{_+_, _≤_, _<_, _^_};
+ghost use Rattle.rows.specs.Rows.{recordOf, recordsOf};
+ghost use Rattle.ladder.specs.LadderScan.{ladderScan, LadderScanDone};
+ghost use Rattle.ladder_rows.specs.Parts.{longHolds, LongRefused, laidFirst, laidNext, laidWhole, askedTo};
+ghost use Rattle.ladder_rows.specs.Parts.{RowAsked, Entered, goesOn, begun, arrived, answered, RowScanned};
+use ladder::LadderScanned;
+use ladder::walk::Ran;
+use questions::Refusal;
+use questions::Verdict;
+use rows::Rows;
+use rows::Rung;
+
+// At most 256 rungs.
+const MOST_RUNGS: usize = 256;
+
+// How far a row's words have been found to be rungs laid one after the other.
+pub struct Laid {
+    pub start: usize,
+    pub whole: bool,
+}
+
+// Where a scan stands: the rungs entered, the rung that comes next, and whether it is to be entered.
+pub struct Standing {
+    pub entered: u32,
+    pub rung: usize,
+    pub on: bool,
+}
+
+// Where a rung leads: to a label, which is to be searched among the first `upto` records, or onward.
+pub struct Way {
+    pub jumped: bool,
+    pub label: u32,
+    pub upto: usize,
+}
+
+// ---- question 4 of a row of more than 256 records
+
+// As many records as question 4 is put to here: none, where the questions can be put to a copy.
+fn asked_to(n: usize) -> usize
+    ensures { λ r. ⌜ r ≡ askedTo n ⌝ }
+{
+    if MOST_RUNGS < n { n } else { 0 }
+}
+
+fn laid_first() -> Laid
+    ensures { λ r. ⌜ r ≡ laidFirst ⌝ }
+{
+    Laid {
+        start: 0,
+        whole: true,
+    }
+}
+
+// One record more. No sum wraps: its length is compared with what is left of the words.
+fn laid_next(laid: Laid, words: &[u32], r: Rung) -> Laid
+    requires { ⌜ laid .start ≤ length (now words) ⌝ }
+    ensures { λ s. ⌜ s ≡ laidNext (now (words .entry)) laid (recordOf r) ⌝ }
+{
+    let no = Laid {
+        start: 0,
+        whole: false,
+    };
+    if !laid.whole {
+        return no;
+    }
+    let start = laid.start;
+    if r.offset as usize != start {
+        return no;
+    }
+    let n = r.length as usize;
+    if words.len() - start < n {
+        return no;
+    }
+    if !ladder::holds::holds_rung(words, start, start + n) {
+        return no;
+    }
+    Laid {
+        start: start + n,
+        whole: true,
+    }
+}
+
+fn laid_whole(laid: Laid, upto: usize, words: usize) -> bool
+    ensures { λ r. ⌜ r ≡ laidWhole upto words laid ⌝ }
+{
+    if upto < 1 {
+        return false;
+    }
+    if !laid.whole {
+        return false;
+    }
+    laid.start == words
+}
+
+// Question 4 of a row of more than 256 records. Of fewer it says nothing.
+pub fn long_holds(row: &[Rung], words: &[u32]) -> bool
+    ensures { λ r. ⌜ r ≡ longHolds (now (words .entry)) (recordsOf (now (row .entry))) ⌝ }
+{
+    let upto = asked_to(row.len());
+    let mut laid = laid_first();
+    let mut i = 0;
+    while i < upto {
+        laid = laid_next(laid, words, rows::rung_at(row, i));
+        i += 1;
+    }
+    laid_whole(laid, upto, words.len())
+}
+
+// What the first question says "no" to in a row of more than 256 records: 1, or 4, or 5.
+pub fn long_refusal(vars: u32, holds: bool) -> Refusal
+    ensures { λ r. ⌜ LongRefused vars holds r ⌝ }
+{
+    if !questions::vars_in_range(vars) {
+        return Refusal::Variables;
+    }
+    if !holds {
+        return Refusal::Kept;
+    }
+    Refusal::Sizes
+}
+
+// ---- the questions, and the scan
+
+// Ladder scan's questions, to a copy of the row's fields. The table stays.
+fn ask(vars: u32, words: &[u32], rows: Rows, long: bool, table: &mut [u8], watchdog: u32) -> Verdict
+    ensures { λ r. ⌜ RowAsked vars (now (words .entry)) rows long (now (table .entry)) watchdog r
+        × (now (table .exit) ≡ now (table .entry)) ⌝ }
+{
+    if MOST_RUNGS < rows.n {
+        return Verdict::Refused(long_refusal(vars, long));
+    }
+    let labels = rows.labels;
+    let offsets = rows.offsets;
+    let lengths = rows.lengths;
+    let m = rows.n;
+    ladder::scan_answer(
+        vars,
+        words,
+        &labels[..m],
+        &offsets[..m],
+        &lengths[..m],
+        table,
+        watchdog,
+    )
+}
+
+// Where the scan begins: at rung 0, if no question got a "no".
+fn begin(verdict: Verdict, n: usize, watchdog: u32) -> Standing
+    ensures { λ r. ⌜ r ≡ begun verdict n watchdog ⌝ }
+{
+    let on = match verdict {
+        Verdict::Refused(_) => false,
+        Verdict::Accepted => goes_on(0, n, 0, watchdog),
+    };
+    Standing {
+        entered: 0,
+        rung: 0,
+        on,
+    }
+}
+
+// Whether a rung is to be entered: not past the last, and the watchdog has not come.
+fn goes_on(rung: usize, n: usize, entered: u32, watchdog: u32) -> bool
+    ensures { λ r. ⌜ r ≡ goesOn rung n entered watchdog ⌝ }
+{
+    if n <= rung {
+        return false;
+    }
+    entered != watchdog
+}
+
+// A rung is run, and leads on.
+fn enter(words: &[u32], r: Rung, n: usize, table: &mut [u8]) -> Way
+    ensures { λ s. ⌜ Entered (now (words .entry)) (recordOf r) n (now (table .entry)) s (now (table .exit)) ⌝ }
+{
+    match ladder::walk::run_rung(words, r.offset as usize, table) {
+        Ran::Onward(_) => Way {
+            jumped: false,
+            label: 0,
+            upto: 0,
+        },
+        Ran::Jumped(label) => Way {
+            jumped: true,
+            label,
+            upto: n,
+        },
+    }
+}
+
+// Where the scan stands after a rung: at the record found, if the rung jumped, and else at the record next in the row.
+fn arrive(at: Standing, way: Way, found: usize, n: usize, watchdog: u32) -> Standing
+    requires { ⌜ (at .entered + 1 < 2 ^ 32) × (at .rung + 1 < 2 ^ 64) ⌝ }
+    ensures { λ r. ⌜ r ≡ arrived at way found n watchdog ⌝ }
+{
+    let entered = at.entered + 1;
+    let rung = if way.jumped { found } else { at.rung + 1 };
+    Standing {
+        entered,
+        rung,
+        on: goes_on(rung, n, entered, watchdog),
+    }
+}
+
+// The answer of a scan that goes no further.
+fn answer(verdict: Verdict, at: Standing, n: usize) -> LadderScanned
+    ensures { λ r. ⌜ r ≡ answered verdict at n ⌝ }
+{
+    match verdict {
+        Verdict::Refused(refusal) => LadderScanned::Refused(refusal),
+        Verdict::Accepted => {
+            let counts = ladder::Counts { rungs: at.entered };
+            if n <= at.rung {
+                LadderScanned::Ended(counts)
+            } else {
+                LadderScanned::Stopped(counts)
+            }
+        }
+    }
+}
+
+// The scan, if no question got a "no".
+pub fn run(
+    verdict: Verdict,
+    words: &[u32],
+    row: &[Rung],
+    table: &mut [u8],
+    watchdog: u32,
+) -> LadderScanned
+    ensures { λ r. ⌜ RowScanned verdict (now (words .entry)) (recordsOf (now (row .entry))) (now (table .entry)) watchdog
+        r (now (table .exit)) ⌝ }
+{
+    let mut at = begin(verdict, row.len(), watchdog);
+    while at.on {
+        let way = enter(words, rows::rung_at(row, at.rung), row.len(), table);
+        let found = rows::look_up(row, way.label, way.upto);
+        at = arrive(at, way, found, row.len(), watchdog);
+    }
+    answer(verdict, at, row.len())
+}
+
+// Ladder scan.
+pub fn ladder_scan(
+    vars: u32,
+    words: &[u32],
+    row: &[Rung],
+    table: &mut [u8],
+    watchdog: u32,
+) -> LadderScanned
+    ensures { λ r. ⌜ LadderScanDone (ladderScan vars
+        (record { words = now (words .entry); records = recordsOf (now (row .entry)) }) (now (table .entry)) watchdog)
+        r (now (table .exit)) ⌝ }
+{
+    let long = long_holds(row, words);
+    let verdict = ask(vars, words, rows::gather(row), long, table, watchdog);
+    run(verdict, words, row, table, watchdog)
+}

@@ -1,0 +1,79 @@
+-- What the functions of this crate promise to each other. Nothing here is a sentence of document 01. Assumes nothing.
+use Prim.Native.Nat.{ℕ, _+_, _-_, _/_, _<_}
+use mathlib.Core.Path.{_≡_}
+use mathlib.Core.Bool.{true, false, _&&_}
+use mathlib.Core.Option.{some}
+use mathlib.Core.List.{List}
+use lib.Dec.{eqb, ltb}
+use lib.ListN.{length}
+use Rattle.questions.specs.Refusals.{refusalOf, answerOf}
+use Rattle.questions.specs.declared.Refusal.{Refusal}
+use Rattle.questions.specs.declared.Verdict.{Verdict}
+use Rattle.questions.specs.declared.Verdict.the-variants.{Accepted, Refused}
+use Rattle.table.specs.State.{bit}
+use Rattle.rungs.specs.Records.{RungRecord, offsets}
+use Rattle.rows.specs.Rows.{mostRungs, gathered}
+use Rattle.rows.specs.declared.Rows.{Rows}
+use Rattle.list.specs.Questions.{listAnswer}
+use Rattle.list.specs.ListScan.{scanAnswer}
+use Rattle.list.specs.Listing.{fixedNames, listing, ListingDone}
+use Rattle.list.specs.Parts.{startsHere, haltedAt, Ran}
+use Rattle.list.specs.declared.Listed.{Listed}
+use Rattle.list.specs.declared.ListScanned.{ListScanned}
+use Rattle.list.specs.declared.ListScanned.the-variants.{Refused as RefusedScan}
+use Rattle.list.specs.declared.scan.Machine.{Machine}
+use Rattle.list.specs.declared.scan.Place.{Place}
+use Rattle.list_rows.specs.declared.Seeking.{Seeking}
+
+-- ---- the place at the index after a place
+
+unfoldable pub seekFrom : Place → ℕ → ℕ → Seeking
+seekFrom p i n = elim (eqb i (p .index + 1)) [ true ↦ record { low = p .next + p .entered; high = p .next + p .entered } | false ↦ record { low = 0; high = n } ]
+
+unfoldable pub middleOf : Seeking → ℕ
+middleOf s = s .low + (s .high - s .low) / 2
+
+unfoldable pub halved : Seeking → RungRecord → ℕ → Seeking
+halved s r i = elim (ltb (r .offset) i) [ true ↦ record { low = middleOf s + 1; high = s .high } | false ↦ record { low = s .low; high = middleOf s } ]
+
+unfoldable pub clampTo : ℕ → ℕ → ℕ
+clampTo next n = elim (ltb next n) [ true ↦ next | false ↦ n - 1 ]
+
+unfoldable pub placeAt : ℕ → ℕ → ℕ → RungRecord → Place
+placeAt i next n r = record { index = i; next = next; entered = bit (ltb next n && eqb (r .offset) i) }
+
+-- ---- the questions
+
+-- what the first question says "no" to in a row of more than 256 records
+pub record LongRefused (vars : ℕ) (r : Refusal) : Type 0 where
+  pub same : (ws : List ℕ) (rs : List RungRecord) → mostRungs < length rs → listAnswer vars ws rs ≡ some (refusalOf r)
+
+pub record RowAsked (vars : ℕ) (ws : List ℕ) (rows : Rows) (t : List ℕ) (w : ℕ) (r : Verdict) : Type 0 where
+  pub same : (rs : List RungRecord) → rows ≡ gathered rs → answerOf r ≡ scanAnswer vars ws rs t w
+
+-- ---- the scan
+
+unfoldable pub endOf : Verdict → ℕ → ℕ
+endOf Accepted n = n
+endOf (Refused x) n = 0
+
+unfoldable pub firstRowPlace : Place
+firstRowPlace = record { index = 0; next = 0; entered = 1 }
+
+unfoldable pub answered : Verdict → Machine → ℕ → ListScanned
+answered (Refused x) m n = RefusedScan x
+answered Accepted m n = haltedAt n m
+
+-- where no question got a "no", there is a record, and the first begins at index 0
+pub record RowReady (v : Verdict) (rs : List RungRecord) : Type 0 where
+  pub some-record : v ≡ Accepted → 0 < length rs
+  pub first-starts : v ≡ Accepted → startsHere (offsets rs) 0 0 ≡ 1
+
+pub record RowRan (v : Verdict) (ws : List ℕ) (rs : List RungRecord) (t : List ℕ) (w : ℕ) (r : ListScanned) (u : List ℕ) : Type 0 where
+  pub refused : (x : Refusal) → v ≡ Refused x → (r ≡ RefusedScan x) × (u ≡ t)
+  pub ran : v ≡ Accepted → Ran ws (offsets rs) t w r u
+
+-- ---- Listing
+
+pub record RowListed (vars : ℕ) (ws : List ℕ) (rows : Rows) (out : List ℕ) (r : Listed) (after : List ℕ) : Type 0 where
+  pub same : (rs : List RungRecord) → rows ≡ gathered rs → ListingDone (listing fixedNames vars ws rs out) r after

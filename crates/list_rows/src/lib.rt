@@ -1,0 +1,244 @@
+// List scan and Listing over one lent row of rung records. Document 01, "The kept ladder": "A list has the same records, counting
+// instructions." The questions are put to a copy of the row's fields; the scan goes by the row itself.
+ghost use mathlib.Core.Path.{_≡_};
+ghost use Prim.Native.Nat.{_+_, _≤_, _<_, _^_};
+ghost use lib.ListN.{length};
+ghost use Rattle.rungs.specs.Records.{offsets};
+ghost use Rattle.rows.specs.Rows.{recordOf, recordsOf};
+ghost use Rattle.list.specs.Parts.{Followed};
+ghost use Rattle.list.specs.ListScan.{listScan, ListScanDone};
+ghost use Rattle.list.specs.Listing.{fixedNames, listing, ListingDone};
+ghost use Rattle.list_rows.specs.Parts.{seekFrom, middleOf, halved, clampTo, placeAt};
+ghost use Rattle.list_rows.specs.Parts.{LongRefused, RowAsked, endOf, firstRowPlace, answered, RowReady, RowRan, RowListed};
+use list::ListScanned;
+use list::Listed;
+use list::scan::Machine;
+use list::scan::Place;
+use questions::Refusal;
+use questions::Verdict;
+use rows::Rows;
+use rows::Rung;
+
+// At most 256 records.
+const MOST_RECORDS: usize = 256;
+
+// The records among which the first that does not begin before an index is sought.
+pub struct Seeking {
+    pub low: usize,
+    pub high: usize,
+}
+
+// ---- the place at the index after a place
+
+// On a straight run the record is carried along, and there is nothing to seek; else it is sought among all.
+fn seek_from(place: Place, index: usize, n: usize) -> Seeking
+    requires { ⌜ (place .index + 1 < 2 ^ 64) × (place .next + place .entered < 2 ^ 64) ⌝ }
+    ensures { λ r. ⌜ r ≡ seekFrom place index n ⌝ }
+{
+    if index == place.index + 1 {
+        let next = place.next + place.entered as usize;
+        return Seeking {
+            low: next,
+            high: next,
+        };
+    }
+    Seeking { low: 0, high: n }
+}
+
+fn middle(s: Seeking) -> usize
+    requires { ⌜ s .low < s .high ⌝ }
+    ensures { λ r. ⌜ r ≡ middleOf s ⌝ }
+{
+    s.low + (s.high - s.low) / 2
+}
+
+// Half of them, by the record in the middle.
+fn halve(s: Seeking, r: Rung, index: usize) -> Seeking
+    requires { ⌜ s .low < s .high ⌝ }
+    ensures { λ t. ⌜ t ≡ halved s (recordOf r) index ⌝ }
+{
+    let at = middle(s);
+    if (r.offset as usize) < index {
+        return Seeking {
+            low: at + 1,
+            high: s.high,
+        };
+    }
+    Seeking {
+        low: s.low,
+        high: at,
+    }
+}
+
+// The last record in place of one past it.
+fn clamp(next: usize, n: usize) -> usize
+    ensures { λ r. ⌜ r ≡ clampTo next n ⌝ }
+{
+    if next < n {
+        return next;
+    }
+    if 0 < n {
+        return n - 1;
+    }
+    0
+}
+
+// The place at an index, of whose record `next` the fields are `r` if it is no later than the last.
+fn place_at(index: usize, next: usize, n: usize, r: Rung) -> Place
+    ensures { λ s. ⌜ s ≡ placeAt index next n (recordOf r) ⌝ }
+{
+    let mut entered = 0;
+    if next < n {
+        if r.offset as usize == index {
+            entered = 1;
+        }
+    }
+    Place {
+        index,
+        next,
+        entered,
+    }
+}
+
+// The place at the index after it.
+pub fn follow(row: &[Rung], place: Place, index: usize) -> Place
+    requires { ⌜ (0 < length (now row)) × (place .index + 1 < 2 ^ 64) × (place .next + place .entered ≤ length (now row)) ⌝ }
+    ensures { λ r. ⌜ Followed (offsets (recordsOf (now (row .entry)))) place index r ⌝ }
+{
+    let mut s = seek_from(place, index, row.len());
+    while s.low < s.high {
+        s = halve(s, rows::rung_at(row, middle(s)), index);
+    }
+    place_at(
+        index,
+        s.low,
+        row.len(),
+        rows::rung_at(row, clamp(s.low, row.len())),
+    )
+}
+
+// ---- the questions, and the scan
+
+// List scan's questions, to a copy of the row's fields. The table stays.
+fn ask(vars: u32, code: &[u32], rows: Rows, table: &mut [u8], watchdog: u32) -> Verdict
+    ensures { λ r. ⌜ RowAsked vars (now (code .entry)) rows (now (table .entry)) watchdog r
+        × (now (table .exit) ≡ now (table .entry)) ⌝ }
+{
+    if MOST_RECORDS < rows.n {
+        return Verdict::Refused(long_refusal(vars));
+    }
+    let labels = rows.labels;
+    let offsets = rows.offsets;
+    let lengths = rows.lengths;
+    let m = rows.n;
+    list::scan_answer(
+        vars,
+        code,
+        &labels[..m],
+        &offsets[..m],
+        &lengths[..m],
+        table,
+        watchdog,
+    )
+}
+
+// What the first question says "no" to in a row of more than 256 records: 1, or 10.
+fn long_refusal(vars: u32) -> Refusal
+    ensures { λ r. ⌜ LongRefused vars r ⌝ }
+{
+    if !questions::vars_in_range(vars) {
+        return Refusal::Variables;
+    }
+    Refusal::List
+}
+
+// The end of the list that is scanned: at once, if a question got a "no".
+fn end_of(verdict: Verdict, n: usize) -> usize
+    ensures { λ r. ⌜ r ≡ endOf verdict n ⌝ }
+{
+    match verdict {
+        Verdict::Refused(_) => 0,
+        Verdict::Accepted => n,
+    }
+}
+
+// The place at index 0, where the first record begins.
+fn first_place() -> Place
+    ensures { λ r. ⌜ r ≡ firstRowPlace ⌝ }
+{
+    Place {
+        index: 0,
+        next: 0,
+        entered: 1,
+    }
+}
+
+fn answer(verdict: Verdict, m: Machine, n: usize) -> ListScanned
+    ensures { λ r. ⌜ r ≡ answered verdict m n ⌝ }
+{
+    match verdict {
+        Verdict::Refused(refusal) => ListScanned::Refused(refusal),
+        Verdict::Accepted => list::scan::halted_at(m, n),
+    }
+}
+
+// The scan, if no question got a "no". Each instruction changes the machine, which is lent to `step`.
+pub fn run(
+    verdict: Verdict,
+    code: &[u32],
+    row: &[Rung],
+    table: &mut [u8],
+    watchdog: u32,
+) -> ListScanned
+    requires { ⌜ RowReady verdict (recordsOf (now row)) ⌝ }
+    ensures { λ r. ⌜ RowRan verdict (now (code .entry)) (recordsOf (now (row .entry))) (now (table .entry)) watchdog
+        r (now (table .exit)) ⌝ }
+{
+    let end = end_of(verdict, code.len());
+    let mut m = list::scan::first_machine();
+    let mut place = first_place();
+    while list::scan::runs_on(m, end, watchdog) {
+        list::scan::step(&mut m, code, place.entered, table);
+        place = follow(row, place, m.index);
+    }
+    answer(verdict, m, code.len())
+}
+
+// List scan.
+pub fn list_scan(
+    vars: u32,
+    code: &[u32],
+    row: &[Rung],
+    table: &mut [u8],
+    watchdog: u32,
+) -> ListScanned
+    ensures { λ r. ⌜ ListScanDone (listScan vars (now (code .entry)) (recordsOf (now (row .entry))) (now (table .entry)) watchdog)
+        r (now (table .exit)) ⌝ }
+{
+    let verdict = ask(vars, code, rows::gather(row), table, watchdog);
+    run(verdict, code, row, table, watchdog)
+}
+
+// ---- Listing
+
+// Listing, of a copy of the row's fields.
+fn list_fields(vars: u32, code: &[u32], rows: Rows, out: &mut [u8]) -> Listed
+    ensures { λ r. ⌜ RowListed vars (now (code .entry)) rows (now (out .entry)) r (now (out .exit)) ⌝ }
+{
+    if MOST_RECORDS < rows.n {
+        return Listed::Refused(long_refusal(vars));
+    }
+    let labels = rows.labels;
+    let offsets = rows.offsets;
+    let lengths = rows.lengths;
+    let m = rows.n;
+    list::listing(vars, code, &labels[..m], &offsets[..m], &lengths[..m], out)
+}
+
+// Listing.
+pub fn listing(vars: u32, code: &[u32], row: &[Rung], out: &mut [u8]) -> Listed
+    ensures { λ r. ⌜ ListingDone (listing fixedNames vars (now (code .entry)) (recordsOf (now (row .entry))) (now (out .entry)))
+        r (now (out .exit)) ⌝ }
+{
+    list_fields(vars, code, rows::gather(row), out)
+}

@@ -1,0 +1,75 @@
+-- Laws of a row put together from arrays, record by record. Assumes nothing.
+use Prim.Native.Nat.{ℕ, zero, suc, _+_, _≤_, _<_}
+use native.Mathlib.Numerals.{add-one}
+use native.Mathlib.Omega.{arith}
+use mathlib.Core.Path.{_≡_, refl, ap, sym, _∙_}
+use mathlib.Core.List.{List, [], _∷_, _++_, map}
+use lib.ListN.{length, getD, set, take, drop, length-map, List·getD-map}
+use lib.Seq.{drop-cons, length-front, length-take-le}
+use Rattle.rungs.specs.Records.{RungRecord, rowOf}
+use Rattle.rungs.specs.Laws.Rows.{Even, row-length, row-at}
+use Rattle.rows.specs.declared.Rung.{Rung}
+use Rattle.rows.specs.declared.Rows.{Rows}
+use Rattle.rows.specs.Rows.{recordsOf, noRecord, mostRungs, scattered}
+use Rattle.rows.specs.Parts.{rungIn}
+use Rattle.rows.specs.Laws.Records.{rungOf, noRung}
+use Rattle.rows.proofs.Gathers.{laid-more}
+
+-- arrays as long as their type says
+pub record Full (rows : Rows) : Type 0 where
+  pub labels : length (rows .labels) ≡ mostRungs
+  pub offsets : length (rows .offsets) ≡ mostRungs
+  pub lengths : length (rows .lengths) ≡ mostRungs
+
+abbrev recordsIn : Rows → List RungRecord
+recordsIn rows = rowOf (rows .labels) (rows .offsets) (rows .lengths)
+
+-- the row once i records are stored
+unfoldable pub scatteredTo : ℕ → Rows → List Rung → List Rung
+scatteredTo i rows row = take i (map rungOf (recordsIn rows)) ++ drop i row
+
+pub scattered-start : (rows : Rows) (row : List Rung) → row ≡ scatteredTo 0 rows row
+unfolding scatteredTo
+scattered-start rows row = refl
+
+records-laid : (n : ℕ) (rs : List RungRecord) (row : List Rung) → n ≤ length rs → n ≤ length row → recordsOf (take n (map rungOf rs) ++ drop n row) ≡ take n rs ++ drop n (recordsOf row)
+records-laid zero rs row h k = refl
+records-laid (suc n) [] row h k = absurd (omega arith)
+records-laid (suc n) (r ∷ rs) [] h k = absurd (omega arith)
+records-laid (suc n) (r ∷ rs) (s ∷ row) h k = ap (λ (l : List RungRecord). r ∷ l) (records-laid n rs row (omega arith) (omega arith))
+
+module _ (rows : Rows) (full : Full rows) where
+  even : Even (rows .labels) (rows .offsets) (rows .lengths)
+  even = record { first = full .labels ∙ sym (full .offsets); second = full .offsets ∙ sym (full .lengths) }
+
+  records-in : length (recordsIn rows) ≡ mostRungs
+  records-in = row-length (rows .labels) (rows .offsets) (rows .lengths) even ∙ full .labels
+
+  rungs-in : length (map rungOf (recordsIn rows)) ≡ mostRungs
+  rungs-in = length-map (recordsIn rows) rungOf ∙ records-in
+
+  rung-in : (i : ℕ) → i < mostRungs → rungIn rows i ≡ getD (map rungOf (recordsIn rows)) i noRung
+  rung-in i h =
+      let p = records-in in
+      let q = full .labels in
+      sym (List·getD-map rungOf (recordsIn rows) i noRecord
+      ∙ ap (λ (l : List RungRecord). rungOf (getD l 0 noRecord))
+      (sym (drop-cons (recordsIn rows) i noRecord (omega (arith, p))) ∙ row-at (rows .labels) (rows .offsets) (rows .lengths) even i (omega (arith, q))))
+
+  pub scattered-next : (i : ℕ) (row : List Rung) → i < mostRungs → i < length row → set (scatteredTo i rows row) i (rungIn rows i) ≡ scatteredTo (i + 1) rows row
+  unfolding scatteredTo
+  scattered-next i row h k =
+      let p = rungs-in in
+      ap (λ (z : Rung). set (take i (map rungOf (recordsIn rows)) ++ drop i row) i z) (rung-in i h)
+      ∙ laid-more (map rungOf (recordsIn rows)) row i noRung (omega (arith, p)) k
+      ∙ ap (λ (z : ℕ). take z (map rungOf (recordsIn rows)) ++ drop z row) (sym (add-one i))
+
+  pub scattered-length : (i : ℕ) (row : List Rung) → i ≤ mostRungs → i ≤ length row → length (scatteredTo i rows row) ≡ length row
+  unfolding scatteredTo
+  scattered-length i row h k =
+      let p = rungs-in in
+      length-front row (take i (map rungOf (recordsIn rows))) i (length-take-le i (map rungOf (recordsIn rows)) (omega (arith, p)) ∙ sym (length-take-le i row k))
+
+  pub scattered-all : (n : ℕ) (row : List Rung) → n ≤ mostRungs → n ≤ length row → recordsOf (scatteredTo n rows row) ≡ scattered n rows (recordsOf row)
+  unfolding scatteredTo scattered
+  scattered-all n row h k = let p = records-in in records-laid n (recordsIn rows) row (omega (arith, p)) k

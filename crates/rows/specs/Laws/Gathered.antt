@@ -1,0 +1,33 @@
+-- The arrays of a row taken apart begin with its first 256 records; all of them, where it has no more. Assumes nothing.
+use mathlib.Core.Path.{_≡_, refl, ap, _∙_}
+use Prim.Native.Nat.{ℕ, zero, suc, _≤_, min}
+use mathlib.Core.List.{List, [], _∷_, map}
+use lib.ListN.{length, take, drop, replicate, length-take, length-map}
+use lib.Seq.{take-at, take-all}
+use Rattle.rungs.specs.Records.{RungRecord, rowOf}
+use Rattle.rungs.specs.Laws.Rows.{row-back}
+use Rattle.rows.specs.Rows.{mostRungs, overZeros, gathered}
+
+take-map : (f : RungRecord → ℕ) (k : ℕ) (rs : List RungRecord) → take k (map f rs) ≡ map f (take k rs)
+take-map f zero rs = refl
+take-map f (suc k) [] = refl
+take-map f (suc k) (r ∷ rs) = ap (λ (l : List ℕ). f r ∷ l) (take-map f k rs)
+
+kept-fields : (f : RungRecord → ℕ) (rs : List RungRecord) → take (min mostRungs (length rs)) (overZeros (map f rs)) ≡ map f (take mostRungs rs)
+unfolding overZeros
+kept-fields f rs =
+    take-at (take mostRungs (map f rs)) (drop (length (map f rs)) (replicate mostRungs 0)) (min mostRungs (length rs))
+    (length-take mostRungs (map f rs) ∙ ap (λ (n : ℕ). min mostRungs n) (length-map rs f))
+    ∙ take-map f mostRungs rs
+
+-- the first `kept` of each array, as one row
+pub gathered-row : (rs : List RungRecord)
+    → rowOf (take (gathered rs .kept) (gathered rs .labels)) (take (gathered rs .kept) (gathered rs .offsets)) (take (gathered rs .kept) (gathered rs .lengths)) ≡ take mostRungs rs
+unfolding gathered
+gathered-row rs =
+    (λ j. rowOf (kept-fields (λ (r : RungRecord). r .label) rs j) (kept-fields (λ (r : RungRecord). r .offset) rs j) (kept-fields (λ (r : RungRecord). r .length) rs j))
+    ∙ row-back (take mostRungs rs)
+
+pub gathered-whole : (rs : List RungRecord) → length rs ≤ mostRungs
+    → rowOf (take (gathered rs .kept) (gathered rs .labels)) (take (gathered rs .kept) (gathered rs .offsets)) (take (gathered rs .kept) (gathered rs .lengths)) ≡ rs
+gathered-whole rs h = gathered-row rs ∙ take-all mostRungs rs h

@@ -1,0 +1,146 @@
+-- Records written from the start of a row of structs are those written into a copy of its fields. Assumes nothing.
+use mathlib.Core.Path.{_≡_, refl, ap, sym, _∙_}
+use Prim.Native.Nat.{ℕ, zero, suc, _+_, _≤_, min}
+use native.Mathlib.Omega.{arith}
+use native.Mathlib.Decide.{decLe}
+use mathlib.Core.Option.{none, some}
+use mathlib.Core.List.{List, [], _∷_, _++_, map, map-append, append-assoc}
+use borrow.Author.Tests.{le-leb, lt-leb}
+use lib.Dec.{leb}
+use lib.ListN.{length, take, drop, length-map, length-append}
+use lib.Seq.{take-append-seam}
+use Rattle.questions.specs.Tests.{all}
+use Rattle.questions.specs.Questions.{Answer, firstNo, longEnough, question13}
+use Rattle.questions.specs.Laws.Answers.{first-yes, later-yes}
+use Rattle.rungs.specs.Records.{RungRecord, labels, offsets, rowOf}
+use Rattle.rungs.specs.Buffers.{Buffers, asBuffers, buffers, needs, written, writtenOver}
+use Rattle.rungs.specs.Laws.Rows.{Even, row-back, row-take}
+use Rattle.rungs.specs.Laws.Filling.{labels-count, roomy}
+use Rattle.rows.specs.declared.Rows.{Rows}
+use Rattle.rows.specs.Rows.{mostRungs, scattered}
+
+abbrev lengths : List RungRecord → List ℕ
+lengths rs = map (λ r. r .length) rs
+
+-- ---- question 13
+
+same-room : (m n l : ℕ) → m ≤ mostRungs → l ≡ min mostRungs n → leb m l ≡ leb m n
+same-room m n l h e = go (decLe m n)
+  where
+    go : Dec (m ≤ n) → leb m l ≡ leb m n
+    go (yes p) = rw (le-leb m n p) (le-leb m l (omega (arith, e)))
+    go (no p) = rw (lt-leb m n (omega arith)) (lt-leb m l (omega (arith, e)))
+
+-- a copy with room for as many records as the row, or 256, has room where the row has
+pub needs-same : (nw : List ℕ) (ks : List RungRecord) (ws : List ℕ) (rs : List RungRecord) (ls os ns : List ℕ) → length ks ≤ mostRungs
+    → length ls ≡ min mostRungs (length rs) → length os ≡ min mostRungs (length rs) → length ns ≡ min mostRungs (length rs)
+    → question13 (needs (asBuffers nw ks) (buffers ws ls os ns)) ≡ question13 (needs (asBuffers nw ks) (asBuffers ws rs))
+unfolding question13 all longEnough needs asBuffers
+needs-same nw ks ws rs ls os ns h a b c = rw (
+  length-map ks (λ (r : RungRecord). r .label),
+  length-map ks (λ (r : RungRecord). r .offset),
+  length-map ks (λ (r : RungRecord). r .length),
+  length-map rs (λ (r : RungRecord). r .label),
+  length-map rs (λ (r : RungRecord). r .offset),
+  length-map rs (λ (r : RungRecord). r .length),
+  same-room (length ks) (length rs) (length ls) h a,
+  same-room (length ks) (length rs) (length os) h b,
+  same-room (length ks) (length rs) (length ns) h c,
+) refl
+
+-- and so the first "no" is the same, where the questions before it let only 256 records pass
+pub asked-same : (before : Answer) (nw : List ℕ) (ks : List RungRecord) (ws : List ℕ) (rs : List RungRecord) (ls os ns : List ℕ) → (before ≡ none → length ks ≤ mostRungs)
+    → length ls ≡ min mostRungs (length rs) → length os ≡ min mostRungs (length rs) → length ns ≡ min mostRungs (length rs)
+    → firstNo (before ∷ question13 (needs (asBuffers nw ks) (buffers ws ls os ns)) ∷ []) ≡ firstNo (before ∷ question13 (needs (asBuffers nw ks) (asBuffers ws rs)) ∷ [])
+unfolding firstNo
+asked-same (some x) nw ks ws rs ls os ns h a b c = refl
+asked-same none nw ks ws rs ls os ns h a b c = ap (λ (q : Answer). firstNo (q ∷ [])) (needs-same nw ks ws rs ls os ns (h refl) a b c)
+
+-- ---- what is written
+
+pub scattered-none : (rows : Rows) (rs : List RungRecord) → scattered 0 rows rs ≡ rs
+unfolding scattered
+scattered-none rows rs = refl
+
+-- a copy whose fields begin with those of some records
+pub record Begins (rows : Rows) (ks : List RungRecord) : Type 0 where
+  pub even : Even (rows .labels) (rows .offsets) (rows .lengths)
+  pub first-labels : take (length ks) (rows .labels) ≡ labels ks
+  pub first-offsets : take (length ks) (rows .offsets) ≡ offsets ks
+  pub first-lengths : take (length ks) (rows .lengths) ≡ lengths ks
+
+pub scattered-begins : (rows : Rows) (ks rs : List RungRecord) → Begins rows ks → scattered (length ks) rows rs ≡ ks ++ drop (length ks) rs
+unfolding scattered
+scattered-begins rows ks rs b =
+    ap (λ (l : List RungRecord). l ++ drop (length ks) rs)
+    (row-take (rows .labels) (rows .offsets) (rows .lengths) (b .even) (length ks)
+    ∙ (λ i. rowOf (b .first-labels i) (b .first-offsets i) (b .first-lengths i))
+    ∙ row-back ks)
+
+drop-map : (f : RungRecord → ℕ) (k : ℕ) (rs : List RungRecord) → drop k (map f rs) ≡ map f (drop k rs)
+drop-map f zero rs = refl
+drop-map f (suc k) [] = refl
+drop-map f (suc k) (r ∷ rs) = drop-map f k rs
+
+written-field : (f : RungRecord → ℕ) (ks rs : List RungRecord) → map f (ks ++ drop (length ks) rs) ≡ written (map f ks) (map f rs)
+unfolding written
+written-field f ks rs = map-append f ks (drop (length ks) rs) ∙ ap (λ (l : List ℕ). map f ks ++ l) (sym (drop-map f (length ks) rs) ∙ ap (λ (n : ℕ). drop n (map f rs)) (sym (length-map ks f)))
+
+pub written-row : (nw ws : List ℕ) (ks rs : List RungRecord) → asBuffers (written nw ws) (ks ++ drop (length ks) rs) ≡ writtenOver (asBuffers nw ks) (asBuffers ws rs)
+unfolding asBuffers writtenOver
+written-row nw ws ks rs i = record {
+  words = written nw ws;
+  labels = written-field (λ (r : RungRecord). r .label) ks rs i;
+  offsets = written-field (λ (r : RungRecord). r .offset) ks rs i;
+  lengths = written-field (λ (r : RungRecord). r .length) ks rs i;
+}
+
+-- ---- a call whose last question is 13, and which writes words and records, done on a copy of the fields of a row of `lent` records
+
+module _ (before : Answer) (nw : List ℕ) (ks : List RungRecord) (few : before ≡ none → length ks ≤ mostRungs) (words : List ℕ) (lent : ℕ) (zl zo zn : List ℕ)
+    (el : length zl ≡ min mostRungs lent) (eo : length zo ≡ min mostRungs lent) (en : length zn ≡ min mostRungs lent) where
+  abbrev pub copy : Buffers
+  copy = buffers words zl zo zn
+
+  abbrev pub asked : Buffers → Answer
+  asked b = firstNo (before ∷ question13 (needs (asBuffers nw ks) b) ∷ [])
+
+  pub same-asked : (rs : List RungRecord) → length rs ≡ lent → asked copy ≡ asked (asBuffers words rs)
+  same-asked rs e = asked-same before nw ks words rs zl zo zn few (rw e el) (rw e eo) (rw e en)
+
+  pub few-written : asked copy ≡ none → length ks ≤ mostRungs
+  few-written e = few (first-yes before _ e)
+
+  pub within-written : asked copy ≡ none → length ks ≤ lent
+  within-written e =
+      let y = roomy (asBuffers nw ks) copy (first-yes _ _ (later-yes before _ e)) in
+      let l = labels-count nw ks in
+      omega (arith, y .labels, el)
+
+  module _ (words′ ls os ns rest : List ℕ) where
+    abbrev pub fields : ℕ → Rows
+    fields k = record { labels = ls ++ rest; offsets = os ++ rest; lengths = ns ++ rest; n = lent; kept = k }
+
+    pub same-refused : buffers words′ ls os ns ≡ copy → (rs : List RungRecord) → asBuffers words′ (scattered 0 (fields 0) rs) ≡ asBuffers words rs
+    same-refused e rs = ap (λ (b : Buffers). asBuffers (b .words) (scattered 0 (fields 0) rs)) e ∙ ap (asBuffers words) (scattered-none (fields 0) rs)
+
+    module _ (after : buffers words′ ls os ns ≡ writtenOver (asBuffers nw ks) copy) (same-l : length ls ≡ length zl) (same-o : length os ≡ length zo) (same-n : length ns ≡ length zn) where
+      first-field : (xs zs ys : List ℕ) → length ks ≡ length xs → ys ≡ written xs zs → take (length ks) (ys ++ rest) ≡ xs
+      unfolding written
+      first-field xs zs ys n e = rw (e, n, append-assoc xs (drop (length xs) zs) rest) (take-append-seam xs (drop (length xs) zs ++ rest))
+
+      length-both : (xs ys : List ℕ) → length xs ≡ length ys → length (xs ++ rest) ≡ length (ys ++ rest)
+      length-both xs ys e = length-append xs rest ∙ ap (λ n. n + length rest) e ∙ sym (length-append ys rest)
+
+      begins : Begins (fields (length ks)) ks
+      unfolding asBuffers writtenOver
+      begins = record {
+        even = record { first = length-both ls os (same-l ∙ el ∙ sym (same-o ∙ eo)); second = length-both os ns (same-o ∙ eo ∙ sym (same-n ∙ en)) };
+        first-labels = first-field (labels ks) zl ls (sym (length-map ks (λ r. r .label))) (ap (λ b. b .labels) after);
+        first-offsets = first-field (offsets ks) zo os (sym (length-map ks (λ r. r .offset))) (ap (λ b. b .offsets) after);
+        first-lengths = first-field (lengths ks) zn ns (sym (length-map ks (λ r. r .length))) (ap (λ b. b .lengths) after);
+      }
+
+      pub same-written : (rs : List RungRecord) → asBuffers words′ (scattered (length ks) (fields (length ks)) rs) ≡ writtenOver (asBuffers nw ks) (asBuffers words rs)
+      unfolding asBuffers writtenOver
+      same-written rs = (λ i. asBuffers (after i .words) (scattered-begins (fields (length ks)) ks rs begins i)) ∙ written-row nw words ks rs

@@ -1,0 +1,2 @@
+-- Read into a lent row of rung records. What its functions promise each other: Parts. The promise of the call is text's definition.
+pub mod Parts

@@ -1,0 +1,16 @@
+-- What the functions of this crate promise to each other. Nothing here is a sentence of document 01. Assumes nothing.
+use Prim.Native.Nat.{ℕ, _≤_}
+use mathlib.Core.Path.{_≡_}
+use mathlib.Core.List.{List}
+use lib.ListN.{length}
+use Rattle.rungs.specs.Records.{RungRecord}
+use Rattle.rungs.specs.Buffers.{asBuffers}
+use Rattle.rows.specs.Rows.{mostRungs, scattered}
+use Rattle.text.specs.Read.{readText, ReadDone}
+use Rattle.text_rows.specs.declared.ReadFields.{ReadFields}
+
+-- the fields kept are those that Read writes into a row of as many records
+pub record FieldsRead (vars : ℕ) (text words : List ℕ) (lent : ℕ) (r : ReadFields) (after : List ℕ) : Type 0 where
+  pub same : (rs : List RungRecord) → length rs ≡ lent → ReadDone (readText vars text (asBuffers words rs)) (r .answer) (asBuffers after (scattered (r .rows .kept) (r .rows) rs))
+  pub few : r .rows .kept ≤ mostRungs
+  pub within : r .rows .kept ≤ lent
