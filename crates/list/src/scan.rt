@@ -243,14 +243,14 @@ fn first_place(offsets: &[u32]) -> Place
     }
 }
 
-// A scan with a watchdog.
+// A scan with a watchdog. Each instruction changes the machine, which is lent to `step`.
 pub fn run(code: &[u32], offsets: &[u32], table: &mut [u8], watchdog: u32) -> ListScanned
     ensures { λ r. ⌜ Ran (now (code .entry)) (now (offsets .entry)) (now (table .entry)) watchdog r (now (table .exit)) ⌝ }
 {
     let mut m = first_machine();
     let mut place = first_place(offsets);
     while runs_on(m, code.len(), watchdog) {
-        m = stepped(m, code, place.entered, table);
+        step(&mut m, code, place.entered, table);
         place = follow(offsets, place, m.index);
     }
     halted_at(m, code.len())

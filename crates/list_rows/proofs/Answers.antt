@@ -21,7 +21,8 @@ use Rattle.rows.specs.declared.Rows.{Rows}
 use Rattle.list.specs.Questions.{mostInstructions, mostRecords, listInRange, question10, listAnswer}
 use Rattle.list.specs.ListScan.{scanAnswer, listScan, ListScanDone}
 use Rattle.list.specs.Listing.{fixedNames, listing, ListingDone}
-use Rattle.list.specs.Laws.Scans.{scan-refuses, scan-scans, first-starts}
+use Rattle.list.specs.Laws.Scans.{scan-refuses, scan-in-range, scan-scans, first-starts}
+use Rattle.list.specs.Laws.Seeks.{laid-ascend}
 use Rattle.list.specs.Laws.Refusing.{scan-asked-list, listing-refused}
 use Rattle.list.specs.declared.Listed.{Listed}
 use Rattle.list.specs.declared.Listed.the-variants.{Refused as RefusedListing}
@@ -81,6 +82,7 @@ module _ (vars : ℕ) (ws : List ℕ) (rows : Rows) (t : List ℕ) (w : ℕ) whe
   module _ (v : Verdict) (asked : RowAsked vars ws rows t w v) (rs : List RungRecord) (e : rows ≡ gathered rs) where
     pub row-ready : RowReady v rs
     row-ready = record {
+      ascends = λ q. let a = scan-in-range vars ws rs t w (verdict-accepted (asked .same rs e) q) in laid-ascend 0 (length ws) rs (a .lies) (a .some-length);
       some-record = λ q. first-starts vars ws rs t w (verdict-accepted (asked .same rs e) q) .0;
       first-starts = λ q. first-starts vars ws rs t w (verdict-accepted (asked .same rs e) q) .1;
     }

@@ -2,19 +2,21 @@
 use Prim.Native.Nat.{ℕ, _+_, _-_, _≤_, _<_, _^_}
 use native.Mathlib.Omega.{arith}
 use mathlib.Core.Path.{_≡_, refl, sym, ap, _∙_}
-use mathlib.Core.Bool.{true, false}
+use mathlib.Core.Bool.{Bool, true, false}
 use mathlib.Core.List.{List}
+use lib.Dec.{eqb, ltb}
 use lib.ListN.{length, getD, length-map}
+use borrow.Author.Tests.{eqb-true}
 use Rattle.questions.specs.declared.Refusal.{Refusal}
 use Rattle.questions.specs.declared.Verdict.{Verdict}
 use Rattle.questions.specs.declared.Verdict.the-variants.{Accepted, Refused}
 use Rattle.rungs.specs.Records.{RungRecord, offsets}
-use Rattle.list.specs.Parts.{Stepped, Followed, firstMachine, runsOn}
+use Rattle.list.specs.Parts.{startsHere, Stepped, Followed, firstMachine, runsOn}
 use Rattle.list.specs.Laws.Runs.{runs-on, Standing, standing-first, standing-needs, standing-next, standing-less, standing-ends}
 use Rattle.list.specs.declared.ListScanned.{ListScanned}
 use Rattle.list.specs.declared.scan.Machine.{Machine}
-use Rattle.list.specs.declared.scan.Place.{Place}
-use Rattle.list_rows.specs.Parts.{endOf, firstRowPlace, answered, RowReady, RowRan}
+use Rattle.list_rows.specs.Parts.{placeOf, Begins, RowFollowed, endOf, firstRowPlace, answered, RowReady, RowRan}
+use Rattle.list_rows.specs.declared.RowPlace.{RowPlace}
 
 -- a verdict is no refusal
 accepted-refused : (A : Type 0) (x : Refusal) → Accepted ≡ Refused x → A
@@ -22,35 +24,50 @@ unfolding endOf
 accepted-refused A x e = let z : _≡_ {A = ℕ} 1 0 = ap (λ v. endOf v 1) e in absurd (omega arith)
 
 -- the loop's invariant
-pub record Going (v : Verdict) (ws : List ℕ) (rs : List RungRecord) (t : List ℕ) (w : ℕ) (u : List ℕ) (m : Machine) (place : Place) (end : ℕ) : Type 0 where
+pub record Going (v : Verdict) (ws : List ℕ) (rs : List RungRecord) (t : List ℕ) (w : ℕ) (u : List ℕ) (m : Machine) (place : RowPlace) (end : ℕ) : Type 0 where
   pub ready : RowReady v rs
   pub ends : end ≡ endOf v (length ws)
-  pub standing : v ≡ Accepted → Standing ws (offsets rs) t w u m place
+  pub standing : v ≡ Accepted → Standing ws (offsets rs) t w u m (placeOf place)
+  pub begins : v ≡ Accepted → Begins rs place
   pub untouched : (x : Refusal) → v ≡ Refused x → (u ≡ t) × (m ≡ firstMachine)
   pub long : length u ≡ length t
 
-pub going-first : (v : Verdict) (ws : List ℕ) (rs : List RungRecord) (t : List ℕ) (w : ℕ) → RowReady v rs
-    → (m : Machine) → m ≡ firstMachine → (place : Place) → place ≡ firstRowPlace → (end : ℕ) → end ≡ endOf v (length ws)
-    → Going v ws rs t w t m place end
+-- where the first record begins at index 0, its offset is 0
+first-offset : (os : List ℕ) → startsHere os 0 0 ≡ 1 → 0 ≡ getD os 0 0
+unfolding startsHere
+first-offset os e = go (ltb 0 (length os)) refl (eqb (getD os 0 0) 0) refl
+  where
+    go : (x : Bool) → ltb 0 (length os) ≡ x → (y : Bool) → eqb (getD os 0 0) 0 ≡ y → 0 ≡ getD os 0 0
+    go true f true g = sym (eqb-true (getD os 0 0) 0 g)
+    go true f false g = let z : _≡_ {A = ℕ} 0 1 = rw (f, g) at e in absurd (omega arith)
+    go false f y g = let z : _≡_ {A = ℕ} 0 1 = rw f at e in absurd (omega arith)
+
+first-begins : (rs : List RungRecord) → startsHere (offsets rs) 0 0 ≡ 1 → Begins rs firstRowPlace
 unfolding firstRowPlace
+first-begins rs e = record { offset = λ l. first-offset (offsets rs) e; starts = sym e }
+
+pub going-first : (v : Verdict) (ws : List ℕ) (rs : List RungRecord) (t : List ℕ) (w : ℕ) → RowReady v rs
+    → (m : Machine) → m ≡ firstMachine → (place : RowPlace) → place ≡ firstRowPlace → (end : ℕ) → end ≡ endOf v (length ws)
+    → Going v ws rs t w t m place end
+unfolding firstRowPlace placeOf
 going-first v ws rs t w ready m em place ep end ee = record {
   ready = ready;
   ends = ee;
-  standing = λ q. rw em (standing-first ws (offsets rs) t w place (ap (λ p. p .index) ep) (ap (λ p. p .next) ep) (ap (λ p. p .entered) ep ∙ sym (ready .first-starts q)));
+  standing = λ q. rw em (standing-first ws (offsets rs) t w (placeOf place) (ap (λ p. p .index) ep) (ap (λ p. p .next) ep) (ap (λ p. p .entered) ep ∙ sym (ready .first-starts q)));
+  begins = λ q. rw ep (first-begins rs (ready .first-starts q));
   untouched = λ x q. (refl, em);
   long = refl;
 }
 
 -- what one more instruction asks for
-pub record GoingNeeds (ws : List ℕ) (rs : List RungRecord) (m : Machine) (place : Place) : Type 0 where
+pub record GoingNeeds (ws : List ℕ) (rs : List RungRecord) (m : Machine) (place : RowPlace) : Type 0 where
   pub inside : m .index < length ws
   pub instructions : m .counts .instructions + 1 < 2 ^ 32
   pub rungs : m .counts .rungs + place .entered < 2 ^ 32
-  pub some-record : 0 < length rs
   pub index-within : place .index + 1 ≤ length ws
   pub next-within : place .next + place .entered ≤ length rs
 
-module _ (v : Verdict) (ws : List ℕ) (rs : List RungRecord) (t : List ℕ) (w : ℕ) (u : List ℕ) (m : Machine) (place : Place) (end : ℕ)
+module _ (v : Verdict) (ws : List ℕ) (rs : List RungRecord) (t : List ℕ) (w : ℕ) (u : List ℕ) (m : Machine) (place : RowPlace) (end : ℕ)
     (going : Going v ws rs t w u m place end) where
   -- it goes on
   module _ (on : runsOn end w m ≡ true) where
@@ -73,8 +90,9 @@ module _ (v : Verdict) (ws : List ℕ) (rs : List RungRecord) (t : List ℕ) (w 
     going-on = rw going-end at on
 
     pub going-needs : w < 2 ^ 32 → GoingNeeds ws rs m place
+    unfolding placeOf
     going-needs b =
-        let n = standing-needs ws (offsets rs) t w u m place (going .standing going-accepted) b going-on in
+        let n = standing-needs ws (offsets rs) t w u m (placeOf place) (going .standing going-accepted) b going-on in
         let inside = n .inside in
         let same = n .same-index in
         let within = n .next-within in
@@ -83,24 +101,31 @@ module _ (v : Verdict) (ws : List ℕ) (rs : List RungRecord) (t : List ℕ) (w 
           inside = inside;
           instructions = n .instructions;
           rungs = n .rungs;
-          some-record = going .ready .some-record going-accepted;
           index-within = omega arith;
           next-within = omega arith;
         }
 
+    -- the place that follows, as list's
+    module _ (index : ℕ) (place′ : RowPlace) (f : RowFollowed rs place index place′) where
+      going-followed : Followed (offsets rs) (placeOf place) index (placeOf place′) × Begins rs place′
+      going-followed = f .same (going .ready .ascends going-accepted) (going .begins going-accepted)
+
     pub going-next : (m′ : Machine) (u′ : List ℕ) → Stepped (getD ws (m .index) 0) (place .entered) m u m′ u′ → length u′ ≡ length u
-        → (place′ : Place) → Followed (offsets rs) place (m′ .index) place′ → Going v ws rs t w u′ m′ place′ end
+        → (place′ : RowPlace) → RowFollowed rs place (m′ .index) place′ → Going v ws rs t w u′ m′ place′ end
+    unfolding placeOf
     going-next m′ u′ s len place′ f = record {
       ready = going .ready;
       ends = going .ends;
-      standing = λ q. standing-next ws (offsets rs) t w u m place (going .standing q) going-on m′ u′ s len place′ f;
+      standing = λ q. standing-next ws (offsets rs) t w u m (placeOf place) (going .standing q) going-on m′ u′ s len (placeOf place′) (going-followed (m′ .index) place′ f .0);
+      begins = λ q. going-followed (m′ .index) place′ f .1;
       untouched = λ x q. accepted-refused _ x (sym going-accepted ∙ q);
       long = len ∙ going .long;
     }
 
     pub going-less : (m′ : Machine) (u′ : List ℕ) → Stepped (getD ws (m .index) 0) (place .entered) m u m′ u′
         → w - m′ .counts .instructions < w - m .counts .instructions
-    going-less m′ u′ s = standing-less ws (offsets rs) t w u m place (going .standing going-accepted) going-on m′ u′ s
+    unfolding placeOf
+    going-less m′ u′ s = standing-less ws (offsets rs) t w u m (placeOf place) (going .standing going-accepted) going-on m′ u′ s
 
   pub going-ends : runsOn end w m ≡ false → RowRan v ws rs t w (answered v m (length ws)) u
   unfolding endOf answered
@@ -108,7 +133,7 @@ module _ (v : Verdict) (ws : List ℕ) (rs : List RungRecord) (t : List ℕ) (w 
     refused = λ x q. (ap (λ y. answered y m (length ws)) q, going .untouched x q .0);
     ran = λ q.
         let e : end ≡ length ws = going .ends ∙ ap (λ y. endOf y (length ws)) q in
-        let d = standing-ends ws (offsets rs) t w u m place (going .standing q) (rw e at off) in
+        let d = standing-ends ws (offsets rs) t w u m (placeOf place) (going .standing q) (rw e at off) in
         rw q d;
   }
 

@@ -1,11 +1,11 @@
 -- What the functions of this crate promise to each other. Nothing here is a sentence of document 01. Assumes nothing.
-use Prim.Native.Nat.{ℕ, _+_, _-_, _/_, _<_}
+use Prim.Native.Nat.{ℕ, _+_, _-_, _/_, _≤_, _<_}
 use mathlib.Core.Path.{_≡_}
 use mathlib.Core.Bool.{true, false, _&&_}
 use mathlib.Core.Option.{some}
 use mathlib.Core.List.{List}
 use lib.Dec.{eqb, ltb}
-use lib.ListN.{length}
+use lib.ListN.{length, getD}
 use Rattle.questions.specs.Refusals.{refusalOf, answerOf}
 use Rattle.questions.specs.declared.Refusal.{Refusal}
 use Rattle.questions.specs.declared.Verdict.{Verdict}
@@ -17,30 +17,47 @@ use Rattle.rows.specs.declared.Rows.{Rows}
 use Rattle.list.specs.Questions.{listAnswer}
 use Rattle.list.specs.ListScan.{scanAnswer}
 use Rattle.list.specs.Listing.{fixedNames, listing, ListingDone}
-use Rattle.list.specs.Parts.{startsHere, haltedAt, Ran}
+use Rattle.list.specs.Parts.{startsHere, ascending, Followed, haltedAt, Ran}
 use Rattle.list.specs.declared.Listed.{Listed}
 use Rattle.list.specs.declared.ListScanned.{ListScanned}
 use Rattle.list.specs.declared.ListScanned.the-variants.{Refused as RefusedScan}
 use Rattle.list.specs.declared.scan.Machine.{Machine}
 use Rattle.list.specs.declared.scan.Place.{Place}
+use Rattle.list_rows.specs.declared.RowPlace.{RowPlace}
 use Rattle.list_rows.specs.declared.Seeking.{Seeking}
 
 -- ---- the place at the index after a place
 
-unfoldable pub seekFrom : Place → ℕ → ℕ → Seeking
-seekFrom p i n = elim (eqb i (p .index + 1)) [ true ↦ record { low = p .next + p .entered; high = p .next + p .entered } | false ↦ record { low = 0; high = n } ]
+-- the place without the offset
+unfoldable pub placeOf : RowPlace → Place
+placeOf p = record { index = p .index; next = p .next; entered = p .entered }
+
+-- a place of the row: its record begins where it says, and `entered` says whether that is the place's index
+pub record Begins (rs : List RungRecord) (p : RowPlace) : Type 0 where
+  pub offset : p .next < length rs → p .start ≡ getD (offsets rs) (p .next) 0
+  pub starts : p .entered ≡ startsHere (offsets rs) (p .next) (p .index)
+
+pub record RowFollowed (rs : List RungRecord) (p : RowPlace) (index : ℕ) (r : RowPlace) : Type 0 where
+  pub within : r .next + r .entered ≤ length rs
+  pub same : ascending 0 (offsets rs) → Begins rs p → Followed (offsets rs) (placeOf p) index (placeOf r) × Begins rs r
+
+unfoldable pub seekFrom : RowPlace → ℕ → ℕ → Seeking
+seekFrom p i n = elim (eqb i (p .index + 1)) [
+  | false ↦ record { low = 0; high = n; start = 0 }
+  | true ↦ elim (eqb (p .entered) 0) [
+    | true ↦ record { low = p .next; high = p .next; start = p .start }
+    | false ↦ record { low = p .next + 1; high = elim (ltb (p .next + 1) n) [ true ↦ p .next + 1 + 1 | false ↦ p .next + 1 ]; start = 0 }
+  ]
+]
 
 unfoldable pub middleOf : Seeking → ℕ
 middleOf s = s .low + (s .high - s .low) / 2
 
 unfoldable pub halved : Seeking → RungRecord → ℕ → Seeking
-halved s r i = elim (ltb (r .offset) i) [ true ↦ record { low = middleOf s + 1; high = s .high } | false ↦ record { low = s .low; high = middleOf s } ]
+halved s r i = elim (ltb (r .offset) i) [ true ↦ record { low = middleOf s + 1; high = s .high; start = s .start } | false ↦ record { low = s .low; high = middleOf s; start = r .offset } ]
 
-unfoldable pub clampTo : ℕ → ℕ → ℕ
-clampTo next n = elim (ltb next n) [ true ↦ next | false ↦ n - 1 ]
-
-unfoldable pub placeAt : ℕ → ℕ → ℕ → RungRecord → Place
-placeAt i next n r = record { index = i; next = next; entered = bit (ltb next n && eqb (r .offset) i) }
+unfoldable pub placeAt : ℕ → Seeking → ℕ → RowPlace
+placeAt i s n = record { index = i; next = s .low; entered = bit (ltb (s .low) n && eqb (s .start) i); start = s .start }
 
 -- ---- the questions
 
@@ -57,15 +74,16 @@ unfoldable pub endOf : Verdict → ℕ → ℕ
 endOf Accepted n = n
 endOf (Refused x) n = 0
 
-unfoldable pub firstRowPlace : Place
-firstRowPlace = record { index = 0; next = 0; entered = 1 }
+unfoldable pub firstRowPlace : RowPlace
+firstRowPlace = record { index = 0; next = 0; entered = 1; start = 0 }
 
 unfoldable pub answered : Verdict → Machine → ℕ → ListScanned
 answered (Refused x) m n = RefusedScan x
 answered Accepted m n = haltedAt n m
 
--- where no question got a "no", there is a record, and the first begins at index 0
+-- where no question got a "no", the records ascend, there is one, and the first begins at index 0
 pub record RowReady (v : Verdict) (rs : List RungRecord) : Type 0 where
+  pub ascends : v ≡ Accepted → ascending 0 (offsets rs)
   pub some-record : v ≡ Accepted → 0 < length rs
   pub first-starts : v ≡ Accepted → startsHere (offsets rs) 0 0 ≡ 1
 

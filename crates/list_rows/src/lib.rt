@@ -3,17 +3,14 @@
 ghost use mathlib.Core.Path.{_≡_};
 ghost use Prim.Native.Nat.{_+_, _≤_, _<_, _^_};
 ghost use lib.ListN.{length};
-ghost use Rattle.rungs.specs.Records.{offsets};
 ghost use Rattle.rows.specs.Rows.{recordOf, recordsOf};
-ghost use Rattle.list.specs.Parts.{Followed};
 ghost use Rattle.list.specs.ListScan.{listScan, ListScanDone};
 ghost use Rattle.list.specs.Listing.{fixedNames, listing, ListingDone};
-ghost use Rattle.list_rows.specs.Parts.{seekFrom, middleOf, halved, clampTo, placeAt};
+ghost use Rattle.list_rows.specs.Parts.{seekFrom, middleOf, halved, placeAt, RowFollowed};
 ghost use Rattle.list_rows.specs.Parts.{LongRefused, RowAsked, endOf, firstRowPlace, answered, RowReady, RowRan, RowListed};
 use list::ListScanned;
 use list::Listed;
 use list::scan::Machine;
-use list::scan::Place;
 use questions::Refusal;
 use questions::Verdict;
 use rows::Rows;
@@ -22,27 +19,50 @@ use rows::Rung;
 // At most 256 records.
 const MOST_RECORDS: usize = 256;
 
-// The records among which the first that does not begin before an index is sought.
+// Where a scan stands among the records of a row: as list's Place, with the offset of the record `next`, if there is one, so that a
+// straight run reads no record but those that it enters.
+pub struct RowPlace {
+    pub index: usize,
+    pub next: usize,
+    pub entered: u32,
+    pub start: usize,
+}
+
+// The records among which the first that does not begin before an index is sought, and the offset of the one past them.
 pub struct Seeking {
     pub low: usize,
     pub high: usize,
+    pub start: usize,
 }
 
 // ---- the place at the index after a place
 
-// On a straight run the record is carried along, and there is nothing to seek; else it is sought among all.
-fn seek_from(place: Place, index: usize, n: usize) -> Seeking
-    requires { ⌜ (place .index + 1 < 2 ^ 64) × (place .next + place .entered < 2 ^ 64) ⌝ }
+// On a straight run the record is carried along, with its offset, or the record after it is looked at; else all are sought.
+fn seek_from(place: RowPlace, index: usize, n: usize) -> Seeking
+    requires { ⌜ (place .index + 1 < 2 ^ 64) × (place .next + place .entered ≤ n) ⌝ }
     ensures { λ r. ⌜ r ≡ seekFrom place index n ⌝ }
 {
-    if index == place.index + 1 {
-        let next = place.next + place.entered as usize;
+    if index != place.index + 1 {
         return Seeking {
-            low: next,
-            high: next,
+            low: 0,
+            high: n,
+            start: 0,
         };
     }
-    Seeking { low: 0, high: n }
+    if place.entered == 0 {
+        return Seeking {
+            low: place.next,
+            high: place.next,
+            start: place.start,
+        };
+    }
+    let next = place.next + 1;
+    let high = if next < n { next + 1 } else { next };
+    Seeking {
+        low: next,
+        high,
+        start: 0,
+    }
 }
 
 fn middle(s: Seeking) -> usize
@@ -58,63 +78,49 @@ fn halve(s: Seeking, r: Rung, index: usize) -> Seeking
     ensures { λ t. ⌜ t ≡ halved s (recordOf r) index ⌝ }
 {
     let at = middle(s);
-    if (r.offset as usize) < index {
+    let start = r.offset as usize;
+    if start < index {
         return Seeking {
             low: at + 1,
             high: s.high,
+            start: s.start,
         };
     }
     Seeking {
         low: s.low,
         high: at,
+        start,
     }
 }
 
-// The last record in place of one past it.
-fn clamp(next: usize, n: usize) -> usize
-    ensures { λ r. ⌜ r ≡ clampTo next n ⌝ }
-{
-    if next < n {
-        return next;
-    }
-    if 0 < n {
-        return n - 1;
-    }
-    0
-}
-
-// The place at an index, of whose record `next` the fields are `r` if it is no later than the last.
-fn place_at(index: usize, next: usize, n: usize, r: Rung) -> Place
-    ensures { λ s. ⌜ s ≡ placeAt index next n (recordOf r) ⌝ }
+// The place at an index once the record is found.
+fn place_at(index: usize, s: Seeking, n: usize) -> RowPlace
+    ensures { λ r. ⌜ r ≡ placeAt index s n ⌝ }
 {
     let mut entered = 0;
-    if next < n {
-        if r.offset as usize == index {
+    if s.low < n {
+        if s.start == index {
             entered = 1;
         }
     }
-    Place {
+    RowPlace {
         index,
-        next,
+        next: s.low,
         entered,
+        start: s.start,
     }
 }
 
 // The place at the index after it.
-pub fn follow(row: &[Rung], place: Place, index: usize) -> Place
-    requires { ⌜ (0 < length (now row)) × (place .index + 1 < 2 ^ 64) × (place .next + place .entered ≤ length (now row)) ⌝ }
-    ensures { λ r. ⌜ Followed (offsets (recordsOf (now (row .entry)))) place index r ⌝ }
+pub fn follow(row: &[Rung], place: RowPlace, index: usize) -> RowPlace
+    requires { ⌜ (place .index + 1 < 2 ^ 64) × (place .next + place .entered ≤ length (now row)) ⌝ }
+    ensures { λ r. ⌜ RowFollowed (recordsOf (now (row .entry))) place index r ⌝ }
 {
     let mut s = seek_from(place, index, row.len());
     while s.low < s.high {
         s = halve(s, rows::rung_at(row, middle(s)), index);
     }
-    place_at(
-        index,
-        s.low,
-        row.len(),
-        rows::rung_at(row, clamp(s.low, row.len())),
-    )
+    place_at(index, s, row.len())
 }
 
 // ---- the questions, and the scan
@@ -163,13 +169,14 @@ fn end_of(verdict: Verdict, n: usize) -> usize
 }
 
 // The place at index 0, where the first record begins.
-fn first_place() -> Place
+fn first_place() -> RowPlace
     ensures { λ r. ⌜ r ≡ firstRowPlace ⌝ }
 {
-    Place {
+    RowPlace {
         index: 0,
         next: 0,
         entered: 1,
+        start: 0,
     }
 }
 

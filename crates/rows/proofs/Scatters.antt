@@ -48,7 +48,7 @@ module _ (rows : Rows) (full : Full rows) where
   rungs-in : length (map rungOf (recordsIn rows)) ≡ mostRungs
   rungs-in = length-map (recordsIn rows) rungOf ∙ records-in
 
-  rung-in : (i : ℕ) → i < mostRungs → rungIn rows i ≡ getD (map rungOf (recordsIn rows)) i noRung
+  rung-in : (i : ℕ) → i < mostRungs → rungIn (rows .labels) (rows .offsets) (rows .lengths) i ≡ getD (map rungOf (recordsIn rows)) i noRung
   rung-in i h =
       let p = records-in in
       let q = full .labels in
@@ -56,7 +56,7 @@ module _ (rows : Rows) (full : Full rows) where
       ∙ ap (λ (l : List RungRecord). rungOf (getD l 0 noRecord))
       (sym (drop-cons (recordsIn rows) i noRecord (omega (arith, p))) ∙ row-at (rows .labels) (rows .offsets) (rows .lengths) even i (omega (arith, q))))
 
-  pub scattered-next : (i : ℕ) (row : List Rung) → i < mostRungs → i < length row → set (scatteredTo i rows row) i (rungIn rows i) ≡ scatteredTo (i + 1) rows row
+  pub scattered-next : (i : ℕ) (row : List Rung) → i < mostRungs → i < length row → set (scatteredTo i rows row) i (rungIn (rows .labels) (rows .offsets) (rows .lengths) i) ≡ scatteredTo (i + 1) rows row
   unfolding scatteredTo
   scattered-next i row h k =
       let p = rungs-in in

@@ -2,10 +2,10 @@
 // each)." The contracts speak of a row's records as those of the other crates do (rungs, Records).
 ghost use mathlib.Core.Path.{_≡_};
 ghost use Prim.Native.Nat.{_<_, _≤_, min};
-ghost use lib.ListN.{length, take};
+ghost use lib.ListN.{length, take, set};
 ghost use Rattle.rungs.specs.Records.{labels, search};
 ghost use Rattle.rows.specs.Rows.{mostRungs, recordOf, recordsOf, recordAt, gathered, scattered};
-ghost use Rattle.rows.specs.Parts.{nextFound, blankRows, withRung, rungIn};
+ghost use Rattle.rows.specs.Parts.{nextFound, rowsOf, rungIn};
 
 pub struct Rung {
     pub label: u16,
@@ -64,54 +64,68 @@ pub fn room(n: usize) -> usize
     if MOST_RUNGS < n { MOST_RUNGS } else { n }
 }
 
-// No fields yet.
-fn blank(n: usize) -> Rows
-    ensures { λ r. ⌜ r ≡ blankRows n ⌝ }
+// The fields of one record more.
+fn put_rung(
+    labels: &mut [u16; 256],
+    offsets: &mut [u32; 256],
+    lengths: &mut [u32; 256],
+    i: usize,
+    r: Rung,
+)
+    requires { ⌜ i < 256 ⌝ }
+    ensures { λ _. ⌜ (now (labels .exit) ≡ set (now (labels .entry)) i (r .label))
+        × (now (offsets .exit) ≡ set (now (offsets .entry)) i (r .offset))
+        × (now (lengths .exit) ≡ set (now (lengths .entry)) i (r .length)) ⌝ }
 {
-    Rows {
-        labels: [0u16; 256],
-        offsets: [0u32; 256],
-        lengths: [0u32; 256],
-        n,
-        kept: room(n),
-    }
+    labels[i] = r.label;
+    offsets[i] = r.offset;
+    lengths[i] = r.length;
 }
 
-// The fields of one record more.
-fn with_rung(rows: Rows, i: usize, r: Rung) -> Rows
-    requires { ⌜ i < 256 ⌝ }
-    ensures { λ s. ⌜ s ≡ withRung rows i (recordOf r) ⌝ }
+// The arrays as one struct.
+fn rows_of(
+    labels: [u16; 256],
+    offsets: [u32; 256],
+    lengths: [u32; 256],
+    n: usize,
+    kept: usize,
+) -> Rows
+    ensures { λ r. ⌜ r ≡ rowsOf labels offsets lengths n kept ⌝ }
 {
-    let mut next = rows;
-    next.labels[i] = r.label;
-    next.offsets[i] = r.offset;
-    next.lengths[i] = r.length;
-    next
+    Rows {
+        labels,
+        offsets,
+        lengths,
+        n,
+        kept,
+    }
 }
 
 // The fields of the first 256 records.
 pub fn gather(row: &[Rung]) -> Rows
     ensures { λ r. ⌜ r ≡ gathered (recordsOf (now (row .entry))) ⌝ }
 {
-    let mut rows = blank(row.len());
-    let kept = rows.kept;
+    let mut labels = [0u16; 256];
+    let mut offsets = [0u32; 256];
+    let mut lengths = [0u32; 256];
+    let kept = room(row.len());
     let mut i = 0;
     while i < kept {
-        rows = with_rung(rows, i, rung_at(row, i));
+        put_rung(&mut labels, &mut offsets, &mut lengths, i, rung_at(row, i));
         i += 1;
     }
-    rows
+    rows_of(labels, offsets, lengths, row.len(), kept)
 }
 
 // The record at a place of the arrays.
-fn rung_in(rows: Rows, i: usize) -> Rung
+fn rung_in(labels: &[u16; 256], offsets: &[u32; 256], lengths: &[u32; 256], i: usize) -> Rung
     requires { ⌜ i < 256 ⌝ }
-    ensures { λ r. ⌜ r ≡ rungIn rows i ⌝ }
+    ensures { λ r. ⌜ r ≡ rungIn (now (labels .entry)) (now (offsets .entry)) (now (lengths .entry)) i ⌝ }
 {
     Rung {
-        label: rows.labels[i],
-        offset: rows.offsets[i],
-        length: rows.lengths[i],
+        label: labels[i],
+        offset: offsets[i],
+        length: lengths[i],
     }
 }
 
@@ -120,9 +134,16 @@ pub fn scatter(row: &mut [Rung], rows: Rows, n: usize)
     requires { ⌜ (n ≤ 256) × (n ≤ length (now row)) ⌝ }
     ensures { λ _. ⌜ recordsOf (now (row .exit)) ≡ scattered n rows (recordsOf (now (row .entry))) ⌝ }
 {
+    let labels = rows.labels;
+    let offsets = rows.offsets;
+    let lengths = rows.lengths;
+    // Lent once: a turn copies no array.
+    let labels_lent = &labels;
+    let offsets_lent = &offsets;
+    let lengths_lent = &lengths;
     let mut i = 0;
     while i < n {
-        row[i] = rung_in(rows, i);
+        row[i] = rung_in(labels_lent, offsets_lent, lengths_lent, i);
         i += 1;
     }
 }

@@ -1,7 +1,6 @@
--- `list_rows::follow` meets its contract. In each turn `middle`, `rung_at` and `halve` are called, and after the loop `clamp`, `rung_at` and `place_at`; of them and of `seek_from` the proof knows only that they meet their contracts. Assumes nothing.
+-- `list_rows::follow` meets its contract. In each turn `middle`, `rung_at` and `halve` are called, and after the loop `place_at`; of them and of `seek_from` the proof knows only that they meet their contracts. Assumes nothing.
 use mathlib.Core.Path.{_≡_, refl, sym, _∙_, ap, subst}
 use Prim.Native.Nat.{ℕ, _+_, _-_, _≤_, _<_, _^_}
-use native.Mathlib.Nat.{lt-of-le-of-lt}
 use native.Mathlib.Omega.{arith}
 use mathlib.Core.WellFounded.{WellFounded, InvImage·wf}
 use mathlib.Core.List.{List, [], _∷_}
@@ -43,19 +42,17 @@ use denote.Triple.Statement.{Contract, Triple}
 use denote.Triple.Table.{entered, cited}
 use denote.Triple.Walked.{says, needs, Stays, stay-none-slice, stay-none, walkOf, goes-none-slice, goes-none, Walks, ends-at, walked, walk-meets}
 use denote.Exit.{yes}
-use Rattle.rungs.specs.Records.{offsets}
 use Rattle.rows.specs.Rows.{recordOf, recordsOf, recordAt}
 use Rattle.rows.specs.Laws.Records.{rungAt, records-length, records-at, same-rung}
 use Rattle.rows.specs.declared.Rung.{Rung}
-use Rattle.list.specs.Parts.{Followed}
-use Rattle.list.specs.declared.scan.Place.{Place}
-use Rattle.list_rows.specs.Parts.{seekFrom, middleOf, halved, clampTo, placeAt}
+use Rattle.list_rows.specs.Parts.{RowFollowed, seekFrom, middleOf, halved, placeAt}
+use Rattle.list_rows.specs.declared.RowPlace.{RowPlace}
 use Rattle.list_rows.specs.declared.Seeking.{Seeking}
-use Rattle.list_rows.proofs.Follows.{Seeks, seeks-start, seeks-within, seeks-turn, seeks-end, clamp-within}
+use Rattle.list_rows.proofs.Follows.{Seeks, seeks-start, seeks-within, seeks-turn, seeks-end}
 use Rattle.rows.proofs.Rung as T
 use Rattle.rows.proofs.Rung.Laws as T′
-use Rattle.list.proofs.scan.Place as P
-use Rattle.list.proofs.scan.Place.Laws as P′
+use Rattle.list_rows.proofs.RowPlace as P
+use Rattle.list_rows.proofs.RowPlace.Laws as P′
 use Rattle.list_rows.proofs.Seeking as S
 use Rattle.list_rows.proofs.Seeking.Laws as S′
 use Rattle.rows.proofs.rung_at as rung-at
@@ -74,10 +71,6 @@ use Rattle.list_rows.proofs.halve as halve
 use Rattle.list_rows.proofs.halve.Symbol as halve-def
 use Rattle.list_rows.proofs.halve.Symbol.{name as #list-rows·halve}
 use Rattle.list_rows.proofs.halve.Met as halve-thm
-use Rattle.list_rows.proofs.clamp as clamp
-use Rattle.list_rows.proofs.clamp.Symbol as clamp-def
-use Rattle.list_rows.proofs.clamp.Symbol.{name as #list-rows·clamp}
-use Rattle.list_rows.proofs.clamp.Met as clamp-thm
 use Rattle.list_rows.proofs.place_at as place-at
 use Rattle.list_rows.proofs.place_at.Symbol as place-at-def
 use Rattle.list_rows.proofs.place_at.Symbol.{name as #list-rows·place-at}
@@ -120,7 +113,7 @@ more = seq (call #list-rows·middle (copy (place 4 []) ∷ []) (place 8 []))
     (call #list-rows·halve (copy (place 4 []) ∷ copy (place 7 []) ∷ copy (place 3 []) ∷ []) (place 4 [])))
 
 -- a turn's beginning: what is sought among, and what holds of it
-record Here (row : List Rung) (p : Place) (index : ℕ) : Type 0 where
+record Here (row : List Rung) (p : RowPlace) (index : ℕ) : Type 0 where
   s : Seeking
   is : Is S.the-row s (S′.lowered s ∷ [])
   seeks : Seeks (recordsOf row) p index s
@@ -139,16 +132,13 @@ module _ {M : Type 1} (𝓤 : URA M) (H : Heap 𝓤) (A : Atoms 𝓤) (at-mem : 
   abbrev Halve : Contract 𝓤
   Halve = tripleOf 𝓤 H A halve.signature (halve.spec 𝓤 H A at-mem run)
 
-  abbrev Clamp : Contract 𝓤
-  Clamp = tripleOf 𝓤 H A clamp.signature (clamp.spec 𝓤 H A at-mem run)
-
   abbrev PlaceAt : Contract 𝓤
   PlaceAt = tripleOf 𝓤 H A place-at.signature (place-at.spec 𝓤 H A at-mem run)
 
   said-at : (κ : Lft) (x : RefT (List Rung)) (i : ℕ) (r : Rung) → ent 𝓤 (ensured 𝓤 H A rung-at.ended (rung-at.clauses 𝓤 H A at-mem run) (κ, tt) (x, (i, tt)) tt r) (fact 𝓤 (recordOf r ≡ recordAt (recordsOf (x .now)) i))
   said-at κ x i r = exE 𝓤 _ (λ ws. snd∗ 𝓤 (sem 𝓤 H A (lasts rung-at.ended (κ, tt) (x, (i, tt)) ws)) (fact 𝓤 (recordOf r ≡ recordAt (recordsOf (x .now)) i)))
 
-  said-seek : (p : Place) (i n : ℕ) (s : Seeking) → ent 𝓤 (ensured 𝓤 H A seek-from.ended (seek-from.clauses 𝓤 H A at-mem run) tt (p, (i, (n, tt))) tt s) (fact 𝓤 (s ≡ seekFrom p i n))
+  said-seek : (p : RowPlace) (i n : ℕ) (s : Seeking) → ent 𝓤 (ensured 𝓤 H A seek-from.ended (seek-from.clauses 𝓤 H A at-mem run) tt (p, (i, (n, tt))) tt s) (fact 𝓤 (s ≡ seekFrom p i n))
   said-seek p i n s = exE 𝓤 _ (λ ws. snd∗ 𝓤 (sem 𝓤 H A (lasts seek-from.ended tt (p, (i, (n, tt))) ws)) (fact 𝓤 (s ≡ seekFrom p i n)))
 
   said-middle : (s : Seeking) (m : ℕ) → ent 𝓤 (ensured 𝓤 H A middle.ended (middle.clauses 𝓤 H A at-mem run) tt (s, tt) tt m) (fact 𝓤 (m ≡ middleOf s))
@@ -157,15 +147,12 @@ module _ {M : Type 1} (𝓤 : URA M) (H : Heap 𝓤) (A : Atoms 𝓤) (at-mem : 
   said-halve : (s : Seeking) (r : Rung) (i : ℕ) (t : Seeking) → ent 𝓤 (ensured 𝓤 H A halve.ended (halve.clauses 𝓤 H A at-mem run) tt (s, (r, (i, tt))) tt t) (fact 𝓤 (t ≡ halved s (recordOf r) i))
   said-halve s r i t = exE 𝓤 _ (λ ws. snd∗ 𝓤 (sem 𝓤 H A (lasts halve.ended tt (s, (r, (i, tt))) ws)) (fact 𝓤 (t ≡ halved s (recordOf r) i)))
 
-  said-clamp : (next n m : ℕ) → ent 𝓤 (ensured 𝓤 H A clamp.ended (clamp.clauses 𝓤 H A at-mem run) tt (next, (n, tt)) tt m) (fact 𝓤 (m ≡ clampTo next n))
-  said-clamp next n m = exE 𝓤 _ (λ ws. snd∗ 𝓤 (sem 𝓤 H A (lasts clamp.ended tt (next, (n, tt)) ws)) (fact 𝓤 (m ≡ clampTo next n)))
+  said-place : (i : ℕ) (s : Seeking) (n : ℕ) (r : RowPlace) → ent 𝓤 (ensured 𝓤 H A place-at.ended (place-at.clauses 𝓤 H A at-mem run) tt (i, (s, (n, tt))) tt r) (fact 𝓤 (r ≡ placeAt i s n))
+  said-place i s n r = exE 𝓤 _ (λ ws. snd∗ 𝓤 (sem 𝓤 H A (lasts place-at.ended tt (i, (s, (n, tt))) ws)) (fact 𝓤 (r ≡ placeAt i s n)))
 
-  said-place : (i next n : ℕ) (r : Rung) (s : Place) → ent 𝓤 (ensured 𝓤 H A place-at.ended (place-at.clauses 𝓤 H A at-mem run) tt (i, (next, (n, (r, tt)))) tt s) (fact 𝓤 (s ≡ placeAt i next n (recordOf r)))
-  said-place i next n r s = exE 𝓤 _ (λ ws. snd∗ 𝓤 (sem 𝓤 H A (lasts place-at.ended tt (i, (next, (n, (r, tt)))) ws)) (fact 𝓤 (s ≡ placeAt i next n (recordOf r))))
-
-module _ {M : Type 1} (𝓤 : URA M) (H : Heap 𝓤) (A : Atoms 𝓤) (W : Given 𝓤 H A) (at-mem : Memory → SProp 𝓤) (run : Routine → Fun 𝓤) (κ : Lft) (q : Share) (x : RefT (List Rung)) (p : Place) (index : ℕ)
+module _ {M : Type 1} (𝓤 : URA M) (H : Heap 𝓤) (A : Atoms 𝓤) (W : Given 𝓤 H A) (at-mem : Memory → SProp 𝓤) (run : Routine → Fun 𝓤) (κ : Lft) (q : Share) (x : RefT (List Rung)) (p : RowPlace) (index : ℕ)
     (room : Room T.the-row (length (x .now))) (is-place : Is P.the-row p (LL.val P.the-type P′.the-laws p ∷ [])) (index-fits : index < 2 ^ 64)
-    (asked : (0 < length (x .now)) × (p .index + 1 < 2 ^ 64) × (p .next + p .entered ≤ length (x .now))) where
+    (asked : (p .index + 1 < 2 ^ 64) × (p .next + p .entered ≤ length (x .now))) where
   abbrev ys : List Rung
   ys = x .now
 
@@ -179,7 +166,7 @@ module _ {M : Type 1} (𝓤 : URA M) (H : Heap 𝓤) (A : Atoms 𝓤) (W : Given
   abbrev v₂ : Val
   v₂ = LL.val P.the-type P′.the-laws p
 
-  abbrev passed : RefT (List Rung) × (Place × (ℕ × Unit {0}))
+  abbrev passed : RefT (List Rung) × (RowPlace × (ℕ × Unit {0}))
   passed = (x, (p, (index, tt)))
 
   abbrev at : List Val × (List Val × (List Val × Unit {0}))
@@ -208,10 +195,10 @@ module _ {M : Type 1} (𝓤 : URA M) (H : Heap 𝓤) (A : Atoms 𝓤) (W : Given
   typed-rung : (r : Rung) (w : Val) → Is T.the-row r (w ∷ []) → Holds (hasTy T′.mir w) × WT w
   typed-rung r w is = LL.lawful T.the-type T′.the-laws 𝓤 H A W .typed r _ is .0
 
-  typed-place : (r : Place) (w : Val) → Is P.the-row r (w ∷ []) → Holds (hasTy P′.mir w) × WT w
+  typed-place : (r : RowPlace) (w : Val) → Is P.the-row r (w ∷ []) → Holds (hasTy P′.mir w) × WT w
   typed-place r w is = LL.lawful P.the-type P′.the-laws 𝓤 H A W .typed r _ is .0
 
-  exits : (r : Place) (w : Val) → Is P.the-row r (w ∷ []) → Followed (offsets (recordsOf ys)) p index r → ent 𝓤 (⋆ 𝓤 H A (token ∷ ‵ Own ∷ [])) (Post w)
+  exits : (r : RowPlace) (w : Val) → Is P.the-row r (w ∷ []) → RowFollowed (recordsOf ys) p index r → ent 𝓤 (⋆ 𝓤 H A (token ∷ ‵ Own ∷ [])) (Post w)
   exits r w is e =
       qed W (token ∷ ‵ Own ∷ []) ∵ suffices ! _ (ends-at 𝓤 H A follow.ended stayed (follow.clauses 𝓤 H A at-mem run) W (((κ, tt), (q, tt), tt, passed, at), tt) w r (tt, (tt, (tt, tt))) (tt, (tt, (tt, tt)))) $ says ! e $
       frame ! $ nothing ! $ owned ! usize (Is usize) (uint-makes 𝓤 H A W w64) index _ (refl, index-fits) $ fjoin ! $ owned ! P.the-row (Is P.the-row) (LL.makes P.the-type P′.the-plain 𝓤 H A) p _ is-place $ fjoin ! $ move ! (1 ∷ 0 ∷ []) $ fjoin ! $ frame ! $
@@ -229,7 +216,7 @@ module _ {M : Type 1} (𝓤 : URA M) (H : Heap 𝓤) (A : Atoms 𝓤) (W : Given
 
   goes-seek : ent 𝓤 (emp 𝓤) (SeekFrom 𝓤 H A at-mem run .pre to-seek)
   goes-seek =
-      qed W [] ∵ says ! (asked .1, lt-of-le-of-lt (asked .2) (room .0)) $ nothing ! $ owned ! usize (Is usize) (uint-makes 𝓤 H A W w64) n _ (refl, room .0) $ fjoin ! $ owned ! usize (Is usize) (uint-makes 𝓤 H A W w64) index _ (refl, index-fits) $ fjoin ! $
+      qed W [] ∵ says ! asked $ nothing ! $ owned ! usize (Is usize) (uint-makes 𝓤 H A W w64) n _ (refl, room .0) $ fjoin ! $ owned ! usize (Is usize) (uint-makes 𝓤 H A W w64) index _ (refl, index-fits) $ fjoin ! $
       owned ! P.the-row (Is P.the-row) (LL.makes P.the-type P′.the-plain 𝓤 H A) p _ is-place $ fjoin ! $ nothing ! $ frame ! $ done !
 
   abbrev Upto : Type 0
@@ -249,27 +236,13 @@ module _ {M : Type 1} (𝓤 : URA M) (H : Heap 𝓤) (A : Atoms 𝓤) (W : Given
       qed W (‵ (T.the-row .own (rungAt ys (middleOf (i .s))) (v ∷ [])) ∷ []) ∵ says ! less $ nothing ! $ owned ! usize (Is usize) (uint-makes 𝓤 H A W w64) index _ (refl, index-fits) $ fjoin ! $ move ! (1 ∷ 0 ∷ []) $ fjoin ! $
       owned ! S.the-row (Is S.the-row) (LL.makes S.the-type S′.the-plain 𝓤 H A) (i .s) _ (i .is) $ fjoin ! $ nothing ! $ frame ! $ done !
 
-  low-fits : (i : Upto) → i .s .low < 2 ^ 64
-  low-fits i = typed (i .s) _ (i .is) .1 .0 .fits
+  abbrev to-place : Upto → PlaceAt 𝓤 H A at-mem run .Ghost
+  to-place i = ((tt, tt, tt, (index, (i .s, (n, tt))), (vint w64 index ∷ [], (S′.lowered (i .s) ∷ [], (vint w64 n ∷ [], tt)))), tt)
 
-  abbrev to-clamp : Upto → Clamp 𝓤 H A at-mem run .Ghost
-  to-clamp i = ((tt, tt, tt, (i .s .low, (n, tt)), (vint w64 (i .s .low) ∷ [], (vint w64 n ∷ [], tt))), tt)
-
-  goes-clamp : (i : Upto) → ent 𝓤 (emp 𝓤) (Clamp 𝓤 H A at-mem run .pre (to-clamp i))
-  goes-clamp i =
-      qed W [] ∵ nothing ! $ owned ! usize (Is usize) (uint-makes 𝓤 H A W w64) n _ (refl, room .0) $ fjoin ! $ owned ! usize (Is usize) (uint-makes 𝓤 H A W w64) (i .s .low) _ (refl, low-fits i) $ fjoin ! $ nothing ! $ join ! $ frame ! $ done !
-
-  -- the record at the end, or the last one
-  abbrev last : Upto → ℕ
-  last i = clampTo (i .s .low) n
-
-  abbrev to-place : Upto → Val → PlaceAt 𝓤 H A at-mem run .Ghost
-  to-place i v = ((tt, tt, tt, (index, (i .s .low, (n, (rungAt ys (last i), tt)))), (vint w64 index ∷ [], (vint w64 (i .s .low) ∷ [], (vint w64 n ∷ [], (v ∷ [], tt))))), tt)
-
-  goes-place : (i : Upto) (v : Val) → ent 𝓤 (sem 𝓤 H A (T.the-row .own (rungAt ys (last i)) (v ∷ []))) (PlaceAt 𝓤 H A at-mem run .pre (to-place i v))
-  goes-place i v =
-      qed W (‵ (T.the-row .own (rungAt ys (last i)) (v ∷ [])) ∷ []) ∵ nothing ! $ move ! (1 ∷ 0 ∷ []) $ fjoin ! $ owned ! usize (Is usize) (uint-makes 𝓤 H A W w64) n _ (refl, room .0) $ fjoin ! $
-      owned ! usize (Is usize) (uint-makes 𝓤 H A W w64) (i .s .low) _ (refl, low-fits i) $ fjoin ! $ owned ! usize (Is usize) (uint-makes 𝓤 H A W w64) index _ (refl, index-fits) $ fjoin ! $ nothing ! $ join ! $ frame ! $ done !
+  goes-place : (i : Upto) → ent 𝓤 (emp 𝓤) (PlaceAt 𝓤 H A at-mem run .pre (to-place i))
+  goes-place i =
+      qed W [] ∵ nothing ! $ owned ! usize (Is usize) (uint-makes 𝓤 H A W w64) n _ (refl, room .0) $ fjoin ! $ owned ! S.the-row (Is S.the-row) (LL.makes S.the-type S′.the-plain 𝓤 H A) (i .s) _ (i .is) $ fjoin ! $
+      owned ! usize (Is usize) (uint-makes 𝓤 H A W w64) index _ (refl, index-fits) $ fjoin ! $ nothing ! $ join ! $ frame ! $ done !
 
   abbrev Nearer : Upto → Upto → Type 0
   Nearer j i = j .s .high - j .s .low < i .s .high - i .s .low
@@ -281,8 +254,8 @@ module _ {M : Type 1} (𝓤 : URA M) (H : Heap 𝓤) (A : Atoms 𝓤) (W : Given
   abbrev next : Upto → Seeking
   next i = halved (i .s) (recordOf (rungAt ys (middleOf (i .s)))) index
 
-  abbrev found : Upto → Place
-  found i = placeAt index (i .s .low) n (recordOf (rungAt ys (last i)))
+  abbrev found : Upto → RowPlace
+  found i = placeAt index (i .s) n
 
   turned : (i : Upto) → i .s .low < i .s .high → Seeks (recordsOf ys) p index (next i) × (next i .high - next i .low < i .s .high - i .s .low)
   turned i less = seeks-turn (recordsOf ys) p index (i .s) (i .seeks) less (middleOf (i .s)) refl _ (sym (records-at ys (middleOf (i .s)))) (next i) refl
@@ -293,11 +266,11 @@ module _ {M : Type 1} (𝓤 : URA M) (H : Heap 𝓤) (A : Atoms 𝓤) (W : Given
   after : (i : Upto) → i .s .low < i .s .high → Is S.the-row (next i) (S′.lowered (next i) ∷ []) → Upto
   after i less is = record { s = next i; is = is; seeks = turned i less .0 }
 
-  followed : (i : Upto) → i .s .high ≤ i .s .low → Followed (offsets (recordsOf ys)) p index (found i)
-  followed i over = seeks-end (recordsOf ys) p index (i .s) (i .seeks) over n (sym (records-length ys)) (last i) refl _ (sym (records-at ys (last i))) (found i) refl
+  followed : (i : Upto) → i .s .high ≤ i .s .low → RowFollowed (recordsOf ys) p index (found i)
+  followed i over = seeks-end (recordsOf ys) p index (i .s) (i .seeks) over n (sym (records-length ys)) (found i) refl
 
   module _ (𝓣 : Tables 𝓤 H) (known-at : Triple 𝓤 (𝓣 .C #rows·rung-at) (RungAt 𝓤 H A at-mem run)) (known-seek : Triple 𝓤 (𝓣 .C #list-rows·seek-from) (SeekFrom 𝓤 H A at-mem run)) (known-middle : Triple 𝓤 (𝓣 .C #list-rows·middle) (Middle 𝓤 H A at-mem run))
-      (known-halve : Triple 𝓤 (𝓣 .C #list-rows·halve) (Halve 𝓤 H A at-mem run)) (known-clamp : Triple 𝓤 (𝓣 .C #list-rows·clamp) (Clamp 𝓤 H A at-mem run)) (known-place : Triple 𝓤 (𝓣 .C #list-rows·place-at) (PlaceAt 𝓤 H A at-mem run)) where
+      (known-halve : Triple 𝓤 (𝓣 .C #list-rows·halve) (Halve 𝓤 H A at-mem run)) (known-place : Triple 𝓤 (𝓣 .C #list-rows·place-at) (PlaceAt 𝓤 H A at-mem run)) where
     abbrev C : Calls 𝓤 H
     C = 𝓣 .C
 
@@ -307,49 +280,32 @@ module _ {M : Type 1} (𝓤 : URA M) (H : Heap 𝓤) (A : Atoms 𝓤) (W : Given
     fm : FmC 𝓤 H (W .laws) C
     fm = fmOf 𝓤 H (W .laws) 𝓣
 
-    module _ (l₀ l₁ l₂ l₃ l₄ l₅ l₆ l₇ l₈ l₉ l₁₀ l₁₁ : ℕ) where
+    module _ (l₀ l₁ l₂ l₃ l₄ l₅ l₆ l₇ l₈ : ℕ) where
       abbrev En : Env 𝓤 H
-      En = (place-ty, l₀) ∷ (slice, l₁) ∷ (place-ty, l₂) ∷ (word, l₃) ∷ (seeking-ty, l₄) ∷ (word, l₅) ∷ (bool-ty, l₆) ∷ (rung-ty, l₇) ∷ (word, l₈) ∷ (rung-ty, l₉) ∷ (word, l₁₀) ∷ (word, l₁₁) ∷ []
+      En = (place-ty, l₀) ∷ (slice, l₁) ∷ (place-ty, l₂) ∷ (word, l₃) ∷ (seeking-ty, l₄) ∷ (word, l₅) ∷ (bool-ty, l₆) ∷ (rung-ty, l₇) ∷ (word, l₈) ∷ []
 
       abbrev At : Upto → List (Item 𝓤)
-      At i = ‵ (froom word l₁₁ 0) ∷ ‵ (fdies word l₁₁) ∷ ‵ (froom word l₁₀ 0) ∷ ‵ (fdies word l₁₀) ∷ ‵ (froom rung-ty l₉ 0) ∷ ‵ (fdies rung-ty l₉) ∷ ‵ (froom word l₈ 0) ∷ ‵ (fdies word l₈) ∷ ‵ (froom rung-ty l₇ 0) ∷ ‵ (fdies rung-ty l₇) ∷ ‵ (froom bool-ty l₆ 0) ∷ ‵ (fdies bool-ty l₆)
+      At i = ‵ (froom word l₈ 0) ∷ ‵ (fdies word l₈) ∷ ‵ (froom rung-ty l₇ 0) ∷ ‵ (fdies rung-ty l₇) ∷ ‵ (froom bool-ty l₆ 0) ∷ ‵ (fdies bool-ty l₆)
           ∷ ‵ (fat fullShare word l₅ 0 (vint w64 n)) ∷ ‵ (fdies word l₅) ∷ ‵ (fat fullShare seeking-ty l₄ 0 (S′.lowered (i .s))) ∷ ‵ (fdies seeking-ty l₄) ∷ ‵ (fat fullShare word l₃ 0 (vint w64 index)) ∷ ‵ (fdies word l₃) ∷ ‵ (fat fullShare place-ty l₂ 0 v₂) ∷ ‵ (fdies place-ty l₂)
           ∷ ‵ (fat fullShare slice l₁ 0 v₁) ∷ ‵ (fdies slice l₁) ∷ ‵ (froom place-ty l₀ 0) ∷ ‵ (fdies place-ty l₀) ∷ token ∷ ‵ Own ∷ []
 
       -- the rest of the body, after the loop
       ends : (i : Upto) → i .s .high ≤ i .s .low → ent 𝓤 (⋆ 𝓤 H A (At i)) (Wp 𝓤 H C Λ En parts.t-4 (atReturn 𝓤 H En Post))
       ends i over =
-          -- [room for _11; …; room for _10; …; room for _9; …; room for _8; …; room for _7; …; room for _6; …; _5; …; _4; …; _3; …; _2; …; _1; …; room for _0; …; the token; what the row owns]
+          -- [room for _8; …; room for _7; …; room for _6; …; _5; …; _4; …; _3; …; _2; …; _1; …; room for _0; …; the token; what the row owns]
           qed W (At i) ∵ exec ! C Λ En parts.t-4 (atRet En Post) $
-          assigns ! (of-opd ! (load ! (from ! (fld ! refl (stop !))) (look-in ! 20 (sub ! 1 refl (whole !))))) (from ! (stop !)) (store ! 12 refl (tt, record { fits = room .0 })) $
-          assigns ! (of-opd ! (load ! (from ! (fld ! refl (stop !))) (look-in ! 20 (sub ! 1 refl (whole !))))) (from ! (stop !)) (init ! 0 refl (tt, record { fits = room .0 })) $
-          -- `clamp`
-          use0 W (raw (Clamp 𝓤 H A at-mem run .pre (to-clamp i))) (goes-clamp i) $
-          calls-at ! fm (Clamp 𝓤 H A at-mem run) known-clamp (to-clamp i) (and-then ! (load ! (from ! (fld ! refl (stop !))) (look-in ! 15 (sub ! 0 refl (whole !)))) (and-then ! (load ! (from ! (stop !)) (look ! 1 refl)) (no-more !))) (λ v₀.
-          use1 W (later (some (λ (m : ℕ). (‵ ftrue ⊛ ‵ (usize .own m (v₀ ∷ []))) ⊛ raw (ensured 𝓤 H A clamp.ended (clamp.clauses 𝓤 H A at-mem run) tt (i .s .low, (n, tt)) tt m)))) (id⊢ 𝓤 _) $ await ! tt $ pick ! (λ m.
-          split ! $ move ! (1 ∷ []) $ use1 W (raw (fact 𝓤 (m ≡ last i))) (said-clamp 𝓤 H A at-mem run (i .s .low) n m) $ heard ! (m ≡ last i) (λ e₀. split ! $ drop ! $
-          rewrite ! 0 (λ (z : ℕ). ‵ (usize .own z (v₀ ∷ []))) e₀ refl $ facts ! usize (Is usize) (shows 𝓤 H A usize) (last i) (v₀ ∷ []) (λ is₀.
-          land ! (from ! (stop !)) (init ! 2 refl (uint-lawful 𝓤 H A W w64 .typed (last i) _ is₀ .0)) $ rewrite ! 2 (λ (z : Val). ‵ (fat fullShare word l₁₀ 0 z)) (ap only (is₀ .0)) refl $
-          -- `rung_at`
-          move ! (25 ∷ []) $ use1 W (‵ Own ⊛ ‵ Own) (shr-slice-copy 𝓤 H A W (named 0) κ T.the-row .twice x (v₁ ∷ [])) $ split ! $ move ! (26 ∷ 0 ∷ []) $ use2 W (raw (RungAt 𝓤 H A at-mem run .pre (to-at (last i)))) (goes-at (last i) (clamp-within (i .s .low) n (asked .0))) $
-          calls-at ! fm (RungAt 𝓤 H A at-mem run) known-at (to-at (last i)) (and-then ! (load ! (from ! (stop !)) (look ! 22 refl)) (and-then ! (load ! (from ! (stop !)) (look ! 4 refl)) (no-more !))) (λ v.
-          use1 W (later (some (λ (r : Rung). (token ⊛ ‵ (T.the-row .own r (v ∷ []))) ⊛ raw (ensured 𝓤 H A rung-at.ended (rung-at.clauses 𝓤 H A at-mem run) (κ, tt) (x, (last i, tt)) tt r)))) (id⊢ 𝓤 _) $ await ! tt $ pick ! (λ r.
-          split ! $ move ! (1 ∷ []) $ use1 W (raw (fact 𝓤 (recordOf r ≡ recordAt (recordsOf ys) (last i)))) (said-at 𝓤 H A at-mem run κ x (last i) r) $ heard ! (recordOf r ≡ recordAt (recordsOf ys) (last i)) (λ e. split ! $ move ! (1 ∷ []) $
-          rewrite ! 0 (λ (z : Rung). ‵ (T.the-row .own z (v ∷ []))) (same-rung r (rungAt ys (last i)) (e ∙ records-at ys (last i))) refl $ peeks ! T.the-row (Is T.the-row) (shows 𝓤 H A T.the-row) (rungAt ys (last i)) (v ∷ []) (λ is.
-          -- [the record; the token; what the row owns; _11; …; _10; …; _9; …; _8; …; _7; …; _6; …; _5; …; _4; …; _3; …; _2; …; _1; …; room for _0; …]
-          land ! (from ! (stop !)) (init ! 7 refl (typed-rung (rungAt ys (last i)) v is)) $
+          assigns ! (of-opd ! (load ! (from ! (fld ! refl (stop !))) (look-in ! 14 (sub ! 1 refl (whole !))))) (from ! (stop !)) (store ! 6 refl (tt, record { fits = room .0 })) $
           -- `place_at`
-          use1 W (raw (PlaceAt 𝓤 H A at-mem run .pre (to-place i v))) (goes-place i v) $
-          calls-at ! fm (PlaceAt 𝓤 H A at-mem run) known-place (to-place i v) (and-then ! (load ! (from ! (stop !)) (look ! 19 refl)) (and-then ! (load ! (from ! (fld ! refl (stop !))) (look-in ! 17 (sub ! 0 refl (whole !)))) (and-then ! (load ! (from ! (stop !)) (look ! 15 refl)) (and-then ! (load ! (from ! (stop !)) (look ! 7 refl)) (no-more !))))) (λ u.
-          use1 W (later (some (λ (s : Place). (‵ ftrue ⊛ ‵ (P.the-row .own s (u ∷ []))) ⊛ raw (ensured 𝓤 H A place-at.ended (place-at.clauses 𝓤 H A at-mem run) tt (index, (i .s .low, (n, (rungAt ys (last i), tt)))) tt s)))) (id⊢ 𝓤 _) $ await ! tt $ pick ! (λ s.
-          split ! $ move ! (1 ∷ []) $ use1 W (raw (fact 𝓤 (s ≡ found i))) (said-place 𝓤 H A at-mem run index (i .s .low) n (rungAt ys (last i)) s) $ heard ! (s ≡ found i) (λ e′. split ! $ drop ! $
-          rewrite ! 0 (λ (z : Place). ‵ (P.the-row .own z (u ∷ []))) e′ refl $ facts ! P.the-row (Is P.the-row) (shows 𝓤 H A P.the-row) (found i) (u ∷ []) (λ is′.
-          -- [the token; what the row owns; _11; …; _10; …; _9; …; room for _8; …; room for _7; …; room for _6; …; _5; …; _4; …; _3; …; _2; …; _1; …; room for _0; …]
-          land ! (from ! (stop !)) (init ! 24 refl (typed-place (found i) u is′)) $
-          returns ! (look ! 24 refl) $ forget ! 2 refl $ forget ! 4 refl $ forget ! 6 refl $ forget ! 14 refl $ forget ! 16 refl $ forget ! 18 refl $ forget ! 20 refl $ forget ! 22 refl $ forget ! 24 refl $
-          move ! (24 ∷ 25 ∷ []) $ free1 ! $ move ! (22 ∷ 23 ∷ []) $ free1 ! $ move ! (20 ∷ 21 ∷ []) $ free1 ! $ move ! (18 ∷ 19 ∷ []) $ free1 ! $ move ! (16 ∷ 17 ∷ []) $ free1 ! $ move ! (14 ∷ 15 ∷ []) $ free1 ! $
-          move ! (12 ∷ 13 ∷ []) $ free1 ! $ move ! (10 ∷ 11 ∷ []) $ free1 ! $ move ! (8 ∷ 9 ∷ []) $ free1 ! $ move ! (6 ∷ 7 ∷ []) $ free1 ! $ move ! (4 ∷ 5 ∷ []) $ free1 ! $ move ! (2 ∷ 3 ∷ []) $ free1 ! $ free0 ! $
-          by ! (exits (found i) u is′ (followed i over))))))))))))))
+          use0 W (raw (PlaceAt 𝓤 H A at-mem run .pre (to-place i))) (goes-place i) $
+          calls-at ! fm (PlaceAt 𝓤 H A at-mem run) known-place (to-place i) (and-then ! (load ! (from ! (stop !)) (look ! 11 refl)) (and-then ! (load ! (from ! (stop !)) (look ! 9 refl)) (and-then ! (load ! (from ! (stop !)) (look ! 7 refl)) (no-more !)))) (λ u.
+          use1 W (later (some (λ (r : RowPlace). (‵ ftrue ⊛ ‵ (P.the-row .own r (u ∷ []))) ⊛ raw (ensured 𝓤 H A place-at.ended (place-at.clauses 𝓤 H A at-mem run) tt (index, (i .s, (n, tt))) tt r)))) (id⊢ 𝓤 _) $ await ! tt $ pick ! (λ r.
+          split ! $ move ! (1 ∷ []) $ use1 W (raw (fact 𝓤 (r ≡ found i))) (said-place 𝓤 H A at-mem run index (i .s) n r) $ heard ! (r ≡ found i) (λ e. split ! $ drop ! $
+          rewrite ! 0 (λ (z : RowPlace). ‵ (P.the-row .own z (u ∷ []))) e refl $ facts ! P.the-row (Is P.the-row) (shows 𝓤 H A P.the-row) (found i) (u ∷ []) (λ is.
+          land ! (from ! (stop !)) (init ! 16 refl (typed-place (found i) u is)) $
+          returns ! (look ! 16 refl) $ forget ! 6 refl $ forget ! 8 refl $ forget ! 10 refl $ forget ! 12 refl $ forget ! 14 refl $ forget ! 16 refl $
+          move ! (16 ∷ 17 ∷ []) $ free1 ! $ move ! (14 ∷ 15 ∷ []) $ free1 ! $ move ! (12 ∷ 13 ∷ []) $ free1 ! $ move ! (10 ∷ 11 ∷ []) $ free1 ! $ move ! (8 ∷ 9 ∷ []) $ free1 ! $ move ! (6 ∷ 7 ∷ []) $ free1 ! $
+          move ! (4 ∷ 5 ∷ []) $ free1 ! $ move ! (2 ∷ 3 ∷ []) $ free1 ! $ free1 ! $ free0 ! $
+          by ! (exits (found i) u is (followed i over))))))
 
       abbrev Turned : Upto → Out → SProp 𝓤
       Turned i = afterTurn 𝓤 H (Below 𝓤 H A Nearer At i) (afterBlock 𝓤 H (afterSeq 𝓤 H (Wp 𝓤 H C Λ En parts.t-4 (atReturn 𝓤 H En Post)) (atReturn 𝓤 H En Post)))
@@ -357,67 +313,67 @@ module _ {M : Type 1} (𝓤 : URA M) (H : Heap 𝓤) (A : Atoms 𝓤) (W : Given
       turns : (i : Upto) → Sq W (At i) (runs C Λ En parts.turn-1 (anyQ (Turned i)))
       unfolding afterTurn after
       turns i =
-          -- [room for _11; …; room for _10; …; room for _9; …; room for _8; …; room for _7; …; room for _6; …; _5; …; _4; …; _3; …; _2; …; _1; …; room for _0; …; the token; what the row owns]
-          assigns ! (bin ! (load ! (from ! (fld ! refl (stop !))) (look-in ! 14 (sub ! 0 refl (whole !)))) (load ! (from ! (fld ! refl (stop !))) (look-in ! 14 (sub ! 1 refl (whole !)))) tt) (from ! (stop !)) (init ! 10 refl (tt, tt)) $
-          first ! $ branches ! (load ! (from ! (stop !)) (look ! 10 refl))
+          -- [room for _8; …; room for _7; …; room for _6; …; _5; …; _4; …; _3; …; _2; …; _1; …; room for _0; …; the token; what the row owns]
+          assigns ! (bin ! (load ! (from ! (fld ! refl (stop !))) (look-in ! 8 (sub ! 0 refl (whole !)))) (load ! (from ! (fld ! refl (stop !))) (look-in ! 8 (sub ! 1 refl (whole !)))) tt) (from ! (stop !)) (init ! 4 refl (tt, tt)) $
+          first ! $ branches ! (load ! (from ! (stop !)) (look ! 4 refl))
           (λ yes. skips ! $ exec ! C Λ En more (anyQ (Turned i)) $
           -- `middle`
           use0 W (raw (Middle 𝓤 H A at-mem run .pre (to-middle i))) (goes-middle i (less yes)) $
-          calls-at ! fm (Middle 𝓤 H A at-mem run) known-middle (to-middle i) (and-then ! (load ! (from ! (stop !)) (look ! 15 refl)) (no-more !)) (λ v₀.
+          calls-at ! fm (Middle 𝓤 H A at-mem run) known-middle (to-middle i) (and-then ! (load ! (from ! (stop !)) (look ! 9 refl)) (no-more !)) (λ v₀.
           use1 W (later (some (λ (m : ℕ). (‵ ftrue ⊛ ‵ (usize .own m (v₀ ∷ []))) ⊛ raw (ensured 𝓤 H A middle.ended (middle.clauses 𝓤 H A at-mem run) tt (i .s, tt) tt m)))) (id⊢ 𝓤 _) $ await ! tt $ pick ! (λ m.
           split ! $ move ! (1 ∷ []) $ use1 W (raw (fact 𝓤 (m ≡ middleOf (i .s)))) (said-middle 𝓤 H A at-mem run (i .s) m) $ heard ! (m ≡ middleOf (i .s)) (λ e₀. split ! $ drop ! $
           rewrite ! 0 (λ (z : ℕ). ‵ (usize .own z (v₀ ∷ []))) e₀ refl $ facts ! usize (Is usize) (shows 𝓤 H A usize) (middleOf (i .s)) (v₀ ∷ []) (λ is₀.
-          land ! (from ! (stop !)) (init ! 6 refl (uint-lawful 𝓤 H A W w64 .typed (middleOf (i .s)) _ is₀ .0)) $ rewrite ! 6 (λ (z : Val). ‵ (fat fullShare word l₈ 0 z)) (ap only (is₀ .0)) refl $
+          land ! (from ! (stop !)) (init ! 0 refl (uint-lawful 𝓤 H A W w64 .typed (middleOf (i .s)) _ is₀ .0)) $ rewrite ! 0 (λ (z : Val). ‵ (fat fullShare word l₈ 0 z)) (ap only (is₀ .0)) refl $
           -- `rung_at`
-          move ! (25 ∷ []) $ use1 W (‵ Own ⊛ ‵ Own) (shr-slice-copy 𝓤 H A W (named 0) κ T.the-row .twice x (v₁ ∷ [])) $ split ! $ move ! (26 ∷ 0 ∷ []) $ use2 W (raw (RungAt 𝓤 H A at-mem run .pre (to-at (middleOf (i .s))))) (goes-at (middleOf (i .s)) (within i (less yes))) $
-          calls-at ! fm (RungAt 𝓤 H A at-mem run) known-at (to-at (middleOf (i .s))) (and-then ! (load ! (from ! (stop !)) (look ! 22 refl)) (and-then ! (load ! (from ! (stop !)) (look ! 8 refl)) (no-more !))) (λ v.
+          move ! (19 ∷ []) $ use1 W (‵ Own ⊛ ‵ Own) (shr-slice-copy 𝓤 H A W (named 0) κ T.the-row .twice x (v₁ ∷ [])) $ split ! $ move ! (20 ∷ 0 ∷ []) $ use2 W (raw (RungAt 𝓤 H A at-mem run .pre (to-at (middleOf (i .s))))) (goes-at (middleOf (i .s)) (within i (less yes))) $
+          calls-at ! fm (RungAt 𝓤 H A at-mem run) known-at (to-at (middleOf (i .s))) (and-then ! (load ! (from ! (stop !)) (look ! 16 refl)) (and-then ! (load ! (from ! (stop !)) (look ! 2 refl)) (no-more !))) (λ v.
           use1 W (later (some (λ (r : Rung). (token ⊛ ‵ (T.the-row .own r (v ∷ []))) ⊛ raw (ensured 𝓤 H A rung-at.ended (rung-at.clauses 𝓤 H A at-mem run) (κ, tt) (x, (middleOf (i .s), tt)) tt r)))) (id⊢ 𝓤 _) $ await ! tt $ pick ! (λ r.
           split ! $ move ! (1 ∷ []) $ use1 W (raw (fact 𝓤 (recordOf r ≡ recordAt (recordsOf ys) (middleOf (i .s))))) (said-at 𝓤 H A at-mem run κ x (middleOf (i .s)) r) $ heard ! (recordOf r ≡ recordAt (recordsOf ys) (middleOf (i .s))) (λ e. split ! $ move ! (1 ∷ []) $
           rewrite ! 0 (λ (z : Rung). ‵ (T.the-row .own z (v ∷ []))) (same-rung r (rungAt ys (middleOf (i .s))) (e ∙ records-at ys (middleOf (i .s)))) refl $ peeks ! T.the-row (Is T.the-row) (shows 𝓤 H A T.the-row) (rungAt ys (middleOf (i .s))) (v ∷ []) (λ is.
-          -- [the record; the token; what the row owns; _11; …; _10; …; _9; …; _8; …; _7; …; _6; …; _5; …; _4; …; _3; …; _2; …; _1; …; room for _0; …]
-          land ! (from ! (stop !)) (init ! 11 refl (typed-rung (rungAt ys (middleOf (i .s))) v is)) $
+          -- [the record; the token; what the row owns; _8; …; _7; …; _6; …; _5; …; _4; …; _3; …; _2; …; _1; …; room for _0; …]
+          land ! (from ! (stop !)) (init ! 5 refl (typed-rung (rungAt ys (middleOf (i .s))) v is)) $
           -- `halve`, the turn's last statement
           use1 W (raw (Halve 𝓤 H A at-mem run .pre (to-halve i v))) (goes-halve i v (less yes)) $
-          calls-at-last ! fm (Halve 𝓤 H A at-mem run) known-halve (to-halve i v) (and-then ! (load ! (from ! (stop !)) (look ! 17 refl)) (and-then ! (load ! (from ! (stop !)) (look ! 11 refl)) (and-then ! (load ! (from ! (stop !)) (look ! 19 refl)) (no-more !)))) (λ u.
+          calls-at-last ! fm (Halve 𝓤 H A at-mem run) known-halve (to-halve i v) (and-then ! (load ! (from ! (stop !)) (look ! 11 refl)) (and-then ! (load ! (from ! (stop !)) (look ! 5 refl)) (and-then ! (load ! (from ! (stop !)) (look ! 13 refl)) (no-more !)))) (λ u.
           use1 W (later (some (λ (s : Seeking). (‵ ftrue ⊛ ‵ (S.the-row .own s (u ∷ []))) ⊛ raw (ensured 𝓤 H A halve.ended (halve.clauses 𝓤 H A at-mem run) tt (i .s, (rungAt ys (middleOf (i .s)), (index, tt))) tt s)))) (id⊢ 𝓤 _) $ await ! tt $ pick ! (λ s.
           split ! $ move ! (1 ∷ []) $ use1 W (raw (fact 𝓤 (s ≡ next i))) (said-halve 𝓤 H A at-mem run (i .s) (rungAt ys (middleOf (i .s))) index s) $ heard ! (s ≡ next i) (λ e′. split ! $ drop ! $
           rewrite ! 0 (λ (z : Seeking). ‵ (S.the-row .own z (u ∷ []))) e′ refl $ facts ! S.the-row (Is S.the-row) (shows 𝓤 H A S.the-row) (next i) (u ∷ []) (λ is′.
-          -- [the token; what the row owns; _11; …; _10; …; _9; …; _8; …; _7; …; _6; …; _5; …; _4; …; _3; …; _2; …; _1; …; room for _0; …]
-          land-last ! (from ! (stop !)) (store ! 16 refl (typed (next i) u is′)) $ rewrite ! 16 (λ (z : Val). ‵ (fat fullShare seeking-ty l₄ 0 z)) (spelled (next i) u is′) refl $
-          forget ! 8 refl $ forget ! 10 refl $ forget ! 12 refl $
-          keep ! (2 ∷ 3 ∷ 4 ∷ 5 ∷ 6 ∷ 7 ∷ 8 ∷ 9 ∷ 10 ∷ 11 ∷ 12 ∷ 13 ∷ 14 ∷ 15 ∷ 16 ∷ 17 ∷ 18 ∷ 19 ∷ 20 ∷ 21 ∷ 22 ∷ 23 ∷ 24 ∷ 25 ∷ 0 ∷ 1 ∷ []) $
+          -- [the token; what the row owns; _8; …; _7; …; _6; …; _5; …; _4; …; _3; …; _2; …; _1; …; room for _0; …]
+          land-last ! (from ! (stop !)) (store ! 10 refl (typed (next i) u is′)) $ rewrite ! 10 (λ (z : Val). ‵ (fat fullShare seeking-ty l₄ 0 z)) (spelled (next i) u is′) refl $
+          forget ! 2 refl $ forget ! 4 refl $ forget ! 6 refl $
+          keep ! (2 ∷ 3 ∷ 4 ∷ 5 ∷ 6 ∷ 7 ∷ 8 ∷ 9 ∷ 10 ∷ 11 ∷ 12 ∷ 13 ∷ 14 ∷ 15 ∷ 16 ∷ 17 ∷ 18 ∷ 19 ∷ 0 ∷ 1 ∷ []) $
           again ! Nearer At i (after i (less yes) (good (next i) u is′)) (turned i (less yes) .1))))))))))))))
-          (λ no. jumps ! $ exec ! C Λ En parts.t-4 (atRet En Post) $ forget ! 10 refl $ by ! (ends i (nltb→le (i .s .low) (i .s .high) no)))
+          (λ no. jumps ! $ exec ! C Λ En parts.t-4 (atRet En Post) $ forget ! 4 refl $ by ! (ends i (nltb→le (i .s .low) (i .s .high) no)))
         where
           less : Holds (ltb (i .s .low) (i .s .high)) → i .s .low < i .s .high
           less yes = ltb→lt (i .s .low) (i .s .high) yes
 
     begin : Is S.the-row (seekFrom p index n) (S′.lowered (seekFrom p index n) ∷ []) → Upto
-    begin is = record { s = seekFrom p index n; is = is; seeks = seeks-start (recordsOf ys) p index n (seekFrom p index n) (sym (records-length ys)) refl }
+    begin is = record { s = seekFrom p index n; is = is; seeks = seeks-start (recordsOf ys) p index n (seekFrom p index n) (sym (records-length ys)) (asked .1) refl }
 
     walk : ent 𝓤 (onEntry 𝓤 H A follow.signature (κ, tt) (q, tt) passed at) (WpFn 𝓤 H C Λ code.function (v₁ ∷ v₂ ∷ vint w64 index ∷ []) Post)
     unfolding begin
     walk =
         qed W (token ∷ ‵ (owns (ShrSlice (named 0) κ T.the-row ∷ P.the-row ∷ usize ∷ []) passed at) ∷ []) ∵ enter ! C Λ code.function (v₁ ∷ v₂ ∷ vint w64 index ∷ []) _ $
-        alloc1 ! (λ l₀. alloc1 ! (λ l₁. alloc1 ! (λ l₂. alloc1 ! (λ l₃. alloc1 ! (λ l₄. alloc1 ! (λ l₅. alloc1 ! (λ l₆. alloc1 ! (λ l₇. alloc1 ! (λ l₈. alloc1 ! (λ l₉. alloc1 ! (λ l₁₀. alloc1 ! (λ l₁₁. alloc0 ! $ params1 ! $
-        pass1 ! (init ! 20 refl (tt, (tt, (record { fits = room .0 }, tt)))) $ pass1 ! (init ! 18 refl (typed-place p _ is-place)) $ pass1 ! (init ! 16 refl (tt, record { fits = index-fits })) $ pass0 ! $
-        -- [room for _11; …; room for _10; …; room for _9; …; room for _8; …; room for _7; …; room for _6; …; room for _5; …; room for _4; …; _3; …; _2; …; _1; …; room for _0; …; the token; what row, place and index own]
-        assigns ! (of-opd ! (load ! (from ! (fld ! refl (stop !))) (look-in ! 20 (sub ! 1 refl (whole !))))) (from ! (stop !)) (init ! 12 refl (tt, record { fits = room .0 })) $
-        use0 W (raw (SeekFrom 𝓤 H A at-mem run .pre to-seek)) goes-seek $ calls-at ! fm (SeekFrom 𝓤 H A at-mem run) known-seek to-seek (and-then ! (load ! (from ! (stop !)) (look ! 19 refl)) (and-then ! (load ! (from ! (stop !)) (look ! 17 refl)) (and-then ! (load ! (from ! (stop !)) (look ! 13 refl)) (no-more !)))) (λ v.
+        alloc1 ! (λ l₀. alloc1 ! (λ l₁. alloc1 ! (λ l₂. alloc1 ! (λ l₃. alloc1 ! (λ l₄. alloc1 ! (λ l₅. alloc1 ! (λ l₆. alloc1 ! (λ l₇. alloc1 ! (λ l₈. alloc0 ! $ params1 ! $
+        pass1 ! (init ! 14 refl (tt, (tt, (record { fits = room .0 }, tt)))) $ pass1 ! (init ! 12 refl (typed-place p _ is-place)) $ pass1 ! (init ! 10 refl (tt, record { fits = index-fits })) $ pass0 ! $
+        -- [room for _8; …; room for _7; …; room for _6; …; room for _5; …; room for _4; …; _3; …; _2; …; _1; …; room for _0; …; the token; what row, place and index own]
+        assigns ! (of-opd ! (load ! (from ! (fld ! refl (stop !))) (look-in ! 14 (sub ! 1 refl (whole !))))) (from ! (stop !)) (init ! 6 refl (tt, record { fits = room .0 })) $
+        use0 W (raw (SeekFrom 𝓤 H A at-mem run .pre to-seek)) goes-seek $ calls-at ! fm (SeekFrom 𝓤 H A at-mem run) known-seek to-seek (and-then ! (load ! (from ! (stop !)) (look ! 13 refl)) (and-then ! (load ! (from ! (stop !)) (look ! 11 refl)) (and-then ! (load ! (from ! (stop !)) (look ! 7 refl)) (no-more !)))) (λ v.
         use1 W (later (some (λ (s : Seeking). (‵ ftrue ⊛ ‵ (S.the-row .own s (v ∷ []))) ⊛ raw (ensured 𝓤 H A seek-from.ended (seek-from.clauses 𝓤 H A at-mem run) tt (p, (index, (n, tt))) tt s)))) (id⊢ 𝓤 _) $ await ! tt $ pick ! (λ s.
         split ! $ move ! (1 ∷ []) $ use1 W (raw (fact 𝓤 (s ≡ seekFrom p index n))) (said-seek 𝓤 H A at-mem run p index n s) $ heard ! (s ≡ seekFrom p index n) (λ e. split ! $ drop ! $
         rewrite ! 0 (λ (z : Seeking). ‵ (S.the-row .own z (v ∷ []))) e refl $ facts ! S.the-row (Is S.the-row) (shows 𝓤 H A S.the-row) (seekFrom p index n) (v ∷ []) (λ is.
-        land ! (from ! (stop !)) (init ! 14 refl (typed (seekFrom p index n) v is)) $ rewrite ! 14 (λ (z : Val). ‵ (fat fullShare seeking-ty l₄ 0 z)) (spelled (seekFrom p index n) v is) refl $
-        move ! (25 ∷ []) $ fsplit ! $ keep ! (2 ∷ 3 ∷ 4 ∷ 5 ∷ 6 ∷ 7 ∷ 8 ∷ 9 ∷ 10 ∷ 11 ∷ 12 ∷ 13 ∷ 14 ∷ 15 ∷ 16 ∷ 17 ∷ 18 ∷ 19 ∷ 20 ∷ 21 ∷ 22 ∷ 23 ∷ 24 ∷ 25 ∷ 26 ∷ 0 ∷ []) $
-        first ! $ blocks ! $ loops ! 𝓣 Nearer Nearer-wf (At l₀ l₁ l₂ l₃ l₄ l₅ l₆ l₇ l₈ l₉ l₁₀ l₁₁) (turns l₀ l₁ l₂ l₃ l₄ l₅ l₆ l₇ l₈ l₉ l₁₀ l₁₁) (begin (good (seekFrom p index n) v is))))))))))))))))))
+        land ! (from ! (stop !)) (init ! 8 refl (typed (seekFrom p index n) v is)) $ rewrite ! 8 (λ (z : Val). ‵ (fat fullShare seeking-ty l₄ 0 z)) (spelled (seekFrom p index n) v is) refl $
+        move ! (19 ∷ []) $ fsplit ! $ keep ! (2 ∷ 3 ∷ 4 ∷ 5 ∷ 6 ∷ 7 ∷ 8 ∷ 9 ∷ 10 ∷ 11 ∷ 12 ∷ 13 ∷ 14 ∷ 15 ∷ 16 ∷ 17 ∷ 18 ∷ 19 ∷ 20 ∷ 0 ∷ []) $
+        first ! $ blocks ! $ loops ! 𝓣 Nearer Nearer-wf (At l₀ l₁ l₂ l₃ l₄ l₅ l₆ l₇ l₈) (turns l₀ l₁ l₂ l₃ l₄ l₅ l₆ l₇ l₈) (begin (good (seekFrom p index n) v is)))))))))))))))
 
 module _ {M : Type 1} (𝓤 : URA M) (H : Heap 𝓤) (A : Atoms 𝓤) (W : Given 𝓤 H A) (at-mem : Memory → SProp 𝓤) (run : Routine → Fun 𝓤) (𝓣 : Tables 𝓤 H)
     (known-at : Triple 𝓤 (𝓣 .C #rows·rung-at) (RungAt 𝓤 H A at-mem run)) (known-seek : Triple 𝓤 (𝓣 .C #list-rows·seek-from) (SeekFrom 𝓤 H A at-mem run)) (known-middle : Triple 𝓤 (𝓣 .C #list-rows·middle) (Middle 𝓤 H A at-mem run))
-    (known-halve : Triple 𝓤 (𝓣 .C #list-rows·halve) (Halve 𝓤 H A at-mem run)) (known-clamp : Triple 𝓤 (𝓣 .C #list-rows·clamp) (Clamp 𝓤 H A at-mem run)) (known-place : Triple 𝓤 (𝓣 .C #list-rows·place-at) (PlaceAt 𝓤 H A at-mem run)) where
+    (known-halve : Triple 𝓤 (𝓣 .C #list-rows·halve) (Halve 𝓤 H A at-mem run)) (known-place : Triple 𝓤 (𝓣 .C #list-rows·place-at) (PlaceAt 𝓤 H A at-mem run)) where
   follow-walks : Walks 𝓤 H A follow.ended stayed (WpFn 𝓤 H (𝓣 .C) (𝓣 .Λ) code.function) (follow.clauses 𝓤 H A at-mem run)
   follow-walks = walked 𝓤 H A follow.ended stayed (follow.clauses 𝓤 H A at-mem run) (WpFn 𝓤 H (𝓣 .C) (𝓣 .Λ) code.function) (λ κs. (slice-vals, (LL.vals P.the-type P′.the-laws, (uint-vals w64, tt)))) (λ κs. (shr-slice-tells (named 0) (κs .0) T.the-row, (LL.tells P.the-type P′.the-laws, (uint-tells w64, tt))))
-      (λ κs qs bounds a g are. needs 𝓤 ((0 < length (a .0 .now)) × (a .1 .0 .index + 1 < 2 ^ 64) × (a .1 .0 .next + a .1 .0 .entered ≤ length (a .0 .now))) _ (λ asked.
-      walk 𝓤 H A W at-mem run (κs .0) (qs .0) (a .0) (a .1 .0) (a .1 .1 .0) (are .0 .0 .1) (are .1 .0) (are .1 .1 .0 .1) asked 𝓣 known-at known-seek known-middle known-halve known-clamp known-place))
+      (λ κs qs bounds a g are. needs 𝓤 ((a .1 .0 .index + 1 < 2 ^ 64) × (a .1 .0 .next + a .1 .0 .entered ≤ length (a .0 .now))) _ (λ asked.
+      walk 𝓤 H A W at-mem run (κs .0) (qs .0) (a .0) (a .1 .0) (a .1 .1 .0) (are .0 .0 .1) (are .1 .0) (are .1 .1 .0 .1) asked 𝓣 known-at known-seek known-middle known-halve known-place))
 
   follow-meets : Meets 𝓤 H A follow.signature (WpFn 𝓤 H (𝓣 .C) (𝓣 .Λ) code.function) (follow.spec 𝓤 H A at-mem run)
   follow-meets =
@@ -434,5 +390,4 @@ follow-spec 𝓤 H 𝓜 𝓖 𝓡 =
     (cited 𝓤 H (SeekFrom 𝓤 H (𝓖 .A) (𝓜 .mem) (𝓡 .run)) 𝓜 𝓡 code.env #list-rows·seek-from seek-from-def.routine code.calls-list-rows·seek-from (seek-from-thm.met 𝓤 H 𝓜 𝓖 𝓡))
     (cited 𝓤 H (Middle 𝓤 H (𝓖 .A) (𝓜 .mem) (𝓡 .run)) 𝓜 𝓡 code.env #list-rows·middle middle-def.routine code.calls-list-rows·middle (middle-thm.met 𝓤 H 𝓜 𝓖 𝓡))
     (cited 𝓤 H (Halve 𝓤 H (𝓖 .A) (𝓜 .mem) (𝓡 .run)) 𝓜 𝓡 code.env #list-rows·halve halve-def.routine code.calls-list-rows·halve (halve-thm.met 𝓤 H 𝓜 𝓖 𝓡))
-    (cited 𝓤 H (Clamp 𝓤 H (𝓖 .A) (𝓜 .mem) (𝓡 .run)) 𝓜 𝓡 code.env #list-rows·clamp clamp-def.routine code.calls-list-rows·clamp (clamp-thm.met 𝓤 H 𝓜 𝓖 𝓡))
     (cited 𝓤 H (PlaceAt 𝓤 H (𝓖 .A) (𝓜 .mem) (𝓡 .run)) 𝓜 𝓡 code.env #list-rows·place-at place-at-def.routine code.calls-list-rows·place-at (place-at-thm.met 𝓤 H 𝓜 𝓖 𝓡)))

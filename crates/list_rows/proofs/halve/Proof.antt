@@ -9,8 +9,8 @@ use Rattle.list_rows.proofs.halve.Tie as tie
 middle-requires : tie.Need-middle-requires
 middle-requires c κs = search needs
 
-cast-if1 : tie.Need-cast-if1
-cast-if1 c = search needs
+cast-start : tie.Need-cast-start
+cast-start c = search needs
 
 add-t7 : tie.Need-add-t7
 unfolding middleOf
@@ -25,4 +25,4 @@ unfolding halved
 returns-2 c = rw (c .before .before .middle .ensures, le-ltb _ _ (c .if1 .left), halved)
 
 pub halve-spec : {M : Type 1} → statement M
-halve-spec = tie.close (tie.spec middle-requires cast-if1 add-t7 returns returns-2)
+halve-spec = tie.close (tie.spec middle-requires cast-start add-t7 returns returns-2)

@@ -1,12 +1,8 @@
 -- `list_rows::place_at` meets its contract: the two tests, one after the other. Assumes nothing.
 use borrow.Author.Tests.{lt-ltb, le-ltb, eq-eqb, ne-eqb}
 use Rattle.list_rows.specs.Parts.{placeAt}
-use borrow.Author.Needs.{needs}
 use Rattle.list_rows.proofs.place_at.Statement.{statement}
 use Rattle.list_rows.proofs.place_at.Tie as tie
-
-cast-if2 : tie.Need-cast-if2
-cast-if2 c = search needs
 
 returns : tie.Need-returns
 unfolding placeAt
@@ -21,4 +17,4 @@ unfolding placeAt
 returns-3 c = rw (le-ltb _ _ (c .if1 .left))
 
 pub place-at-spec : {M : Type 1} → statement M
-place-at-spec = tie.close (tie.spec cast-if2 returns returns-2 returns-3)
+place-at-spec = tie.close (tie.spec returns returns-2 returns-3)

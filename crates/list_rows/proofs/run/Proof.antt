@@ -48,16 +48,15 @@ use denote.Triple.Statement.{Contract, Triple}
 use denote.Triple.Table.{entered, cited}
 use denote.Triple.Walked.{says, needs, Stays, stay-none-slice, stay-slice, stay-none, walkOf, goes-none-slice, goes-slice, goes-none, Walks, ends-at, walked, walk-meets}
 use denote.Exit.{yes}
-use Rattle.rungs.specs.Records.{offsets}
 use Rattle.rows.specs.Rows.{recordsOf}
 use Rattle.rows.specs.Laws.Records.{records-length}
 use Rattle.rows.specs.declared.Rung.{Rung}
 use Rattle.questions.specs.declared.Verdict.{Verdict}
-use Rattle.list.specs.Parts.{Stepped, Followed, firstMachine, runsOn}
+use Rattle.list.specs.Parts.{Stepped, firstMachine, runsOn}
 use Rattle.list.specs.declared.ListScanned.{ListScanned}
 use Rattle.list.specs.declared.scan.Machine.{Machine}
-use Rattle.list.specs.declared.scan.Place.{Place}
-use Rattle.list_rows.specs.Parts.{endOf, firstRowPlace, answered, RowReady, RowRan}
+use Rattle.list_rows.specs.Parts.{RowFollowed, endOf, firstRowPlace, answered, RowReady, RowRan}
+use Rattle.list_rows.specs.declared.RowPlace.{RowPlace}
 use Rattle.rungs.proofs.Again.{LentAgain, lends-again, comes-back}
 use Rattle.list_rows.proofs.Runs.{Going, GoingNeeds, going-first, going-needs, going-next, going-less, going-ends}
 use Rattle.rows.proofs.Rung as T
@@ -67,8 +66,8 @@ use Rattle.list.proofs.ListScanned as S
 use Rattle.list.proofs.ListScanned.Laws as S′
 use Rattle.list.proofs.scan.Machine as N
 use Rattle.list.proofs.scan.Machine.Laws as N′
-use Rattle.list.proofs.scan.Place as P
-use Rattle.list.proofs.scan.Place.Laws as P′
+use Rattle.list_rows.proofs.RowPlace as P
+use Rattle.list_rows.proofs.RowPlace.Laws as P′
 use Rattle.list_rows.proofs.end_of as end-of
 use Rattle.list_rows.proofs.end_of.Symbol as end-of-def
 use Rattle.list_rows.proofs.end_of.Symbol.{name as #list-rows·end-of}
@@ -158,7 +157,7 @@ more = seq (assign (place 14 []) (addrOf (place 7 [])))
 -- a place in the loop: the machine, where it stands among the records, the table, and what holds of them
 record Here (v : Verdict) (ws : List ℕ) (row : List Rung) (ts : List ℕ) (w : ℕ) : Type 0 where
   m : Machine
-  place : Place
+  place : RowPlace
   t : List ℕ
   is : Is N.the-row m (N′.lowered m ∷ [])
   is-place : Is P.the-row place (P′.lowered place ∷ [])
@@ -193,14 +192,14 @@ module _ {M : Type 1} (𝓤 : URA M) (H : Heap 𝓤) (A : Atoms 𝓤) (at-mem : 
   said-machine : (r : Machine) → ent 𝓤 (ensured 𝓤 H A first-machine.ended (first-machine.clauses 𝓤 H A at-mem run) tt tt tt r) (fact 𝓤 (r ≡ firstMachine))
   said-machine r = exE 𝓤 _ (λ zs. snd∗ 𝓤 (sem 𝓤 H A (lasts first-machine.ended tt tt zs)) (fact 𝓤 (r ≡ firstMachine)))
 
-  said-place : (r : Place) → ent 𝓤 (ensured 𝓤 H A first-place.ended (first-place.clauses 𝓤 H A at-mem run) tt tt tt r) (fact 𝓤 (r ≡ firstRowPlace))
+  said-place : (r : RowPlace) → ent 𝓤 (ensured 𝓤 H A first-place.ended (first-place.clauses 𝓤 H A at-mem run) tt tt tt r) (fact 𝓤 (r ≡ firstRowPlace))
   said-place r = exE 𝓤 _ (λ zs. snd∗ 𝓤 (sem 𝓤 H A (lasts first-place.ended tt tt zs)) (fact 𝓤 (r ≡ firstRowPlace)))
 
   said-on : (m : Machine) (e w : ℕ) (r : Bool) → ent 𝓤 (ensured 𝓤 H A runs-on.ended (runs-on.clauses 𝓤 H A at-mem run) tt (m, (e, (w, tt))) tt r) (fact 𝓤 (r ≡ runsOn e w m))
   said-on m e w r = exE 𝓤 _ (λ zs. snd∗ 𝓤 (sem 𝓤 H A (lasts runs-on.ended tt (m, (e, (w, tt))) zs)) (fact 𝓤 (r ≡ runsOn e w m)))
 
-  said-follow : (κ : Lft) (x : RefT (List Rung)) (p : Place) (i : ℕ) (r : Place) → ent 𝓤 (ensured 𝓤 H A follow.ended (follow.clauses 𝓤 H A at-mem run) (κ, tt) (x, (p, (i, tt))) tt r) (fact 𝓤 (Followed (offsets (recordsOf (x .now))) p i r))
-  said-follow κ x p i r = exE 𝓤 _ (λ zs. snd∗ 𝓤 (sem 𝓤 H A (lasts follow.ended (κ, tt) (x, (p, (i, tt))) zs)) (fact 𝓤 (Followed (offsets (recordsOf (x .now))) p i r)))
+  said-follow : (κ : Lft) (x : RefT (List Rung)) (p : RowPlace) (i : ℕ) (r : RowPlace) → ent 𝓤 (ensured 𝓤 H A follow.ended (follow.clauses 𝓤 H A at-mem run) (κ, tt) (x, (p, (i, tt))) tt r) (fact 𝓤 (RowFollowed (recordsOf (x .now)) p i r))
+  said-follow κ x p i r = exE 𝓤 _ (λ zs. snd∗ 𝓤 (sem 𝓤 H A (lasts follow.ended (κ, tt) (x, (p, (i, tt))) zs)) (fact 𝓤 (RowFollowed (recordsOf (x .now)) p i r)))
 
   said-answer : (v : Verdict) (m : Machine) (n : ℕ) (r : ListScanned) → ent 𝓤 (ensured 𝓤 H A answer.ended (answer.clauses 𝓤 H A at-mem run) tt (v, (m, (n, tt))) tt r) (fact 𝓤 (r ≡ answered v m n))
   said-answer v m n r = exE 𝓤 _ (λ zs. snd∗ 𝓤 (sem 𝓤 H A (lasts answer.ended tt (v, (m, (n, tt))) zs)) (fact 𝓤 (r ≡ answered v m n)))
@@ -258,13 +257,13 @@ module _ {M : Type 1} (𝓤 : URA M) (H : Heap 𝓤) (A : Atoms 𝓤) (W : Given
   good : (r : Machine) (u : Val) → Is N.the-row r (u ∷ []) → Is N.the-row r (N′.lowered r ∷ [])
   good r u is = subst (λ (z : Val). Is N.the-row r (z ∷ [])) (spelled r u is) is
 
-  typed-place : (r : Place) (u : Val) → Is P.the-row r (u ∷ []) → Holds (hasTy P′.mir u) × WT u
+  typed-place : (r : RowPlace) (u : Val) → Is P.the-row r (u ∷ []) → Holds (hasTy P′.mir u) × WT u
   typed-place r u is = LL.lawful P.the-type P′.the-laws 𝓤 H A W .typed r _ is .0
 
-  spelled-place : (r : Place) (u : Val) → Is P.the-row r (u ∷ []) → u ≡ P′.lowered r
+  spelled-place : (r : RowPlace) (u : Val) → Is P.the-row r (u ∷ []) → u ≡ P′.lowered r
   spelled-place r u is = ap only (P′.lowers .val-is r (u ∷ []) is)
 
-  good-place : (r : Place) (u : Val) → Is P.the-row r (u ∷ []) → Is P.the-row r (P′.lowered r ∷ [])
+  good-place : (r : RowPlace) (u : Val) → Is P.the-row r (u ∷ []) → Is P.the-row r (P′.lowered r ∷ [])
   good-place r u is = subst (λ (z : Val). Is P.the-row r (z ∷ [])) (spelled-place r u is) is
 
   typed-verdict : Holds (hasTy Q′.mir v₁) × WT v₁
@@ -277,7 +276,7 @@ module _ {M : Type 1} (𝓤 : URA M) (H : Heap 𝓤) (A : Atoms 𝓤) (W : Given
   index-fits : (r : Machine) → Is N.the-row r (N′.lowered r ∷ []) → r .index < 2 ^ 64
   index-fits r is = typed r _ is .1 .1 .0 .fits
 
-  entered-fits : (r : Place) → Is P.the-row r (P′.lowered r ∷ []) → r .entered < 2 ^ 32
+  entered-fits : (r : RowPlace) → Is P.the-row r (P′.lowered r ∷ []) → r .entered < 2 ^ 32
   entered-fits r is = typed-place r _ is .1 .1 .1 .0 .fits
 
   abbrev Own-words : Fml
@@ -384,7 +383,7 @@ module _ {M : Type 1} (𝓤 : URA M) (H : Heap 𝓤) (A : Atoms 𝓤) (W : Given
 
     goes-follow : Holds (On i) → ent 𝓤 (⋆ 𝓤 H A (token-row ∷ ‵ Own-row ∷ [])) (Follow 𝓤 H A at-mem run .pre to-follow)
     goes-follow yes =
-        qed W (token-row ∷ ‵ Own-row ∷ []) ∵ says ! (subst (λ (j : ℕ). 0 < j) (records-length ys) (needed i yes .some-record), omega (arith, needed i yes .index-within, room-w .0), subst (λ (j : ℕ). i .place .next + i .place .entered ≤ j) (records-length ys) (needed i yes .next-within)) $ frame ! $
+        qed W (token-row ∷ ‵ Own-row ∷ []) ∵ says ! (omega (arith, needed i yes .index-within, room-w .0), subst (λ (j : ℕ). i .place .next + i .place .entered ≤ j) (records-length ys) (needed i yes .next-within)) $ frame ! $
         nothing ! $ owned ! usize (Is usize) (uint-makes 𝓤 H A W w64) (m′ .index) _ (refl, index-fits m′ is) $ fjoin ! $ owned ! P.the-row (Is P.the-row) (LL.makes P.the-type P′.the-plain 𝓤 H A) (i .place) _ (i .is-place) $ fjoin ! $ move ! (1 ∷ 0 ∷ []) $ fjoin ! $ done !
 
   abbrev Nearer : Upto → Upto → Type 0
@@ -394,7 +393,7 @@ module _ {M : Type 1} (𝓤 : URA M) (H : Heap 𝓤) (A : Atoms 𝓤) (W : Given
   Nearer-wf = InvImage·wf (λ (i : Upto). w - i .m .counts .instructions) (Nat·lt-wfRel .wf)
 
   -- the place after a turn
-  after : (i : Upto) → Holds (On i) → (m′ : Machine) (t′ : List ℕ) → Said i m′ t′ → length t′ ≡ length (i .t) → (p′ : Place) → Followed (offsets (recordsOf ys)) (i .place) (m′ .index) p′
+  after : (i : Upto) → Holds (On i) → (m′ : Machine) (t′ : List ℕ) → Said i m′ t′ → length t′ ≡ length (i .t) → (p′ : RowPlace) → RowFollowed (recordsOf ys) (i .place) (m′ .index) p′
       → Is N.the-row m′ (N′.lowered m′ ∷ []) → Is P.the-row p′ (P′.lowered p′ ∷ []) → Upto
   after i yes m′ t′ s len p′ f is is′ = record {
     m = m′;
@@ -495,8 +494,8 @@ module _ {M : Type 1} (𝓤 : URA M) (H : Heap 𝓤) (A : Atoms 𝓤) (W : Given
           move ! (43 ∷ []) $ use1 W (‵ Own-row ⊛ ‵ Own-row) (shr-slice-copy 𝓤 H A W (named 1) κ₂ T.the-row .twice row (sr ∷ [])) $ split ! $ move ! (44 ∷ 0 ∷ []) $
           use2 W (raw (Follow 𝓤 H A at-mem run .pre (to-follow i (zs .0) (good (zs .0) u is′)))) (goes-follow i (zs .0) (good (zs .0) u is′) yes) $
           calls-at-last ! fm (Follow 𝓤 H A at-mem run) known-follow (to-follow i (zs .0) (good (zs .0) u is′)) (and-then ! (load ! (from ! (stop !)) (look ! 36 refl)) (and-then ! (load ! (from ! (stop !)) (look ! 27 refl)) (and-then ! (load ! (from ! (stop !)) (look ! 9 refl)) (no-more !)))) (λ u₁.
-          use1 W (later (some (λ (s : Place). (token-row ⊛ ‵ (P.the-row .own s (u₁ ∷ []))) ⊛ raw (ensured 𝓤 H A follow.ended (follow.clauses 𝓤 H A at-mem run) (κ₂, tt) (row, (i .place, (zs .0 .index, tt))) tt s)))) (id⊢ 𝓤 _) $ await ! tt $ pick ! (λ s.
-          split ! $ move ! (1 ∷ []) $ use1 W (raw (fact 𝓤 (Followed (offsets (recordsOf ys)) (i .place) (zs .0 .index) s))) (said-follow 𝓤 H A at-mem run κ₂ row (i .place) (zs .0 .index) s) $ heard ! (Followed (offsets (recordsOf ys)) (i .place) (zs .0 .index) s) (λ f. split ! $
+          use1 W (later (some (λ (s : RowPlace). (token-row ⊛ ‵ (P.the-row .own s (u₁ ∷ []))) ⊛ raw (ensured 𝓤 H A follow.ended (follow.clauses 𝓤 H A at-mem run) (κ₂, tt) (row, (i .place, (zs .0 .index, tt))) tt s)))) (id⊢ 𝓤 _) $ await ! tt $ pick ! (λ s.
+          split ! $ move ! (1 ∷ []) $ use1 W (raw (fact 𝓤 (RowFollowed (recordsOf ys) (i .place) (zs .0 .index) s))) (said-follow 𝓤 H A at-mem run κ₂ row (i .place) (zs .0 .index) s) $ heard ! (RowFollowed (recordsOf ys) (i .place) (zs .0 .index) s) (λ f. split ! $
           move ! (1 ∷ []) $ facts ! P.the-row (Is P.the-row) (shows 𝓤 H A P.the-row) s (u₁ ∷ []) (λ is₁.
           -- [the row's token; the row; m's cell; the table; κ₃; true; κ₁; true; the words; _17; …; …; _8; …; …; _6; …; room for _0; …]
           land-last ! (from ! (stop !)) (store ! 27 refl (typed-place s u₁ is₁)) $ rewrite ! 27 (λ (y : Val). ‵ (fat fullShare place-ty l₈ 0 y)) (spelled-place s u₁ is₁) refl $
@@ -537,9 +536,9 @@ module _ {M : Type 1} (𝓤 : URA M) (H : Heap 𝓤) (A : Atoms 𝓤) (W : Given
         assigns ! (of-opd ! (load ! (from ! (stop !)) (look ! 14 refl))) (from ! (stop !)) (init ! 20 refl (typed firstMachine v₃ is₃)) $ rewrite ! 20 (λ (z : Val). ‵ (fat fullShare machine l₇ 0 z)) (spelled firstMachine v₃ is₃) refl $ forget ! 14 refl $
         -- `first_place`
         use0 W (raw (FirstPlace 𝓤 H A at-mem run .pre ((tt, tt, tt, tt, tt), tt))) goes-place $ calls-at ! (fmOf 𝓤 H (W .laws) 𝓣) (FirstPlace 𝓤 H A at-mem run) known-first-place ((tt, tt, tt, tt, tt), tt) (no-more !) (λ v₄.
-        use1 W (later (some (λ (r : Place). (‵ ftrue ⊛ ‵ (P.the-row .own r (v₄ ∷ []))) ⊛ raw (ensured 𝓤 H A first-place.ended (first-place.clauses 𝓤 H A at-mem run) tt tt tt r)))) (id⊢ 𝓤 _) $ await ! tt $ pick ! (λ r₄.
+        use1 W (later (some (λ (r : RowPlace). (‵ ftrue ⊛ ‵ (P.the-row .own r (v₄ ∷ []))) ⊛ raw (ensured 𝓤 H A first-place.ended (first-place.clauses 𝓤 H A at-mem run) tt tt tt r)))) (id⊢ 𝓤 _) $ await ! tt $ pick ! (λ r₄.
         split ! $ move ! (1 ∷ []) $ use1 W (raw (fact 𝓤 (r₄ ≡ firstRowPlace))) (said-place 𝓤 H A at-mem run r₄) $ heard ! (r₄ ≡ firstRowPlace) (λ e₄. split ! $ drop ! $
-        rewrite ! 0 (λ (z : Place). ‵ (P.the-row .own z (v₄ ∷ []))) e₄ refl $ facts ! P.the-row (Is P.the-row) (shows 𝓤 H A P.the-row) firstRowPlace (v₄ ∷ []) (λ is₄.
+        rewrite ! 0 (λ (z : RowPlace). ‵ (P.the-row .own z (v₄ ∷ []))) e₄ refl $ facts ! P.the-row (Is P.the-row) (shows 𝓤 H A P.the-row) firstRowPlace (v₄ ∷ []) (λ is₄.
         land ! (from ! (stop !)) (init ! 18 refl (typed-place firstRowPlace v₄ is₄)) $ rewrite ! 18 (λ (z : Val). ‵ (fat fullShare place-ty l₈ 0 z)) (spelled-place firstRowPlace v₄ is₄) refl $
         keep ! (0 ∷ 1 ∷ 2 ∷ 3 ∷ 4 ∷ 5 ∷ 6 ∷ 7 ∷ 8 ∷ 9 ∷ 10 ∷ 11 ∷ 12 ∷ 13 ∷ 14 ∷ 15 ∷ 16 ∷ 17 ∷ 18 ∷ 19 ∷ 20 ∷ 21 ∷ 22 ∷ 23 ∷ 24 ∷ 25 ∷ 26 ∷ 27 ∷ 28 ∷ 29 ∷ 30 ∷ 31 ∷ 32 ∷ 33 ∷ 34 ∷ 35 ∷ 36 ∷ 37 ∷ 38 ∷ 39 ∷ 40 ∷ 41 ∷ []) $
         first ! $ blocks ! $ loops ! 𝓣 Nearer Nearer-wf (At (is₂ .1) 𝓣 known-end-of known-first-machine known-first-place known-runs-on known-step known-follow known-answer l₀ l₁ l₂ l₃ l₄ l₅ l₆ l₇ l₈ l₉ l₁₀ l₁₁ l₁₂ l₁₃ l₁₄ l₁₅ l₁₆ l₁₇) (turns (is₂ .1) 𝓣 known-end-of known-first-machine known-first-place known-runs-on known-step known-follow known-answer l₀ l₁ l₂ l₃ l₄ l₅ l₆ l₇ l₈ l₉ l₁₀ l₁₁ l₁₂ l₁₃ l₁₄ l₁₅ l₁₆ l₁₇) (begin (is₂ .1) 𝓣 known-end-of known-first-machine known-first-place known-runs-on known-step known-follow known-answer (good firstMachine v₃ is₃) (good-place firstRowPlace v₄ is₄))))))))))))))))))))))))))))))))

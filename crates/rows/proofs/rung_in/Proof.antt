@@ -4,26 +4,26 @@ use borrow.Author.Needs.{needs}
 use Rattle.rows.proofs.rung_in.Statement.{statement}
 use Rattle.rows.proofs.rung_in.Tie as tie
 
-mul-t4 : tie.Need-mul-t4
-mul-t4 c = search needs
+mul-t5 : tie.Need-mul-t5
+mul-t5 c = search needs
 
-element-copy-out-t7 : tie.Need-element-copy-out-t7
-element-copy-out-t7 c = search needs
+element-copy-out-t8 : tie.Need-element-copy-out-t8
+element-copy-out-t8 c = search needs
 
-mul-t8 : tie.Need-mul-t8
-mul-t8 c = search needs
+mul-t9 : tie.Need-mul-t9
+mul-t9 c = search needs
 
-element-copy-out-t11 : tie.Need-element-copy-out-t11
-element-copy-out-t11 c = search needs
+element-copy-out-t12 : tie.Need-element-copy-out-t12
+element-copy-out-t12 c = search needs
 
-mul-t12 : tie.Need-mul-t12
-mul-t12 c = search needs
+mul-t13 : tie.Need-mul-t13
+mul-t13 c = search needs
 
-element-copy-out-t15 : tie.Need-element-copy-out-t15
-element-copy-out-t15 c = search needs
+element-copy-out-t16 : tie.Need-element-copy-out-t16
+element-copy-out-t16 c = search needs
 
 returns : tie.Need-returns
 returns c = refl
 
 pub rung-in-spec : {M : Type 1} → statement M
-rung-in-spec = tie.close (tie.spec mul-t4 element-copy-out-t7 mul-t8 element-copy-out-t11 mul-t12 element-copy-out-t15 returns)
+rung-in-spec = tie.close (tie.spec mul-t5 element-copy-out-t8 mul-t9 element-copy-out-t12 mul-t13 element-copy-out-t16 returns)

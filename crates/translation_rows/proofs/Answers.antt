@@ -1,0 +1,206 @@
+-- Laws of Translate over rows: a copy of a row's fields is asked what the row is, has room where the row has, and gets what is written. Assumes nothing.
+use Prim.Native.Nat.{ℕ, _≤_, _<_, min}
+use native.Mathlib.Omega.{arith}
+use mathlib.Core.Path.{_≡_, refl, sym, ap, subst, _∙_}
+use mathlib.Core.Bool.{Bool}
+use mathlib.Core.Option.{none, some}
+use mathlib.Core.List.{List, [], _∷_, map}
+use lib.Dec.{leb, leb→le}
+use mir.Facts.{and-yes}
+use lib.ListN.{length, take, length-map}
+use Rattle.questions.specs.Questions.{Answer, Refusal, firstNo, question13}
+use Rattle.questions.specs.Laws.Answers.{ask-passed}
+use Rattle.questions.specs.Refusals.{refusalOf}
+use Rattle.questions.specs.declared.Refusal.{Refusal as RefusalCase}
+use Rattle.rungs.specs.Records.{RungRecord, rowOf}
+use Rattle.rungs.specs.Buffers.{Buffers, buffers, asBuffers, needs, writtenOver}
+use Rattle.rungs.specs.Laws.Layout.{lay-length}
+use Rattle.rows.specs.Rows.{mostRungs, gathered, scattered}
+use Rattle.rows.specs.Laws.Gathered.{gathered-whole}
+use Rattle.rows.specs.Laws.Written.{same-asked, few-written, within-written, fields, same-refused, same-written, scattered-none}
+use Rattle.rows.specs.declared.Rows.{Rows}
+use Rattle.ladder.specs.Kept.{Kept}
+use Rattle.ladder.specs.Questions.{ladderOf, sizesInRange, question5, ladderAnswer}
+use Rattle.ladder.specs.Laws.Accepting.{accepted}
+use Rattle.list.specs.Instruction.{instrWord}
+use Rattle.list.specs.Machine.{InstructionList}
+use Rattle.translation.specs.Translate.{listRecords, translate}
+use Rattle.translation.specs.TranslateKept.{Counts, countsOf, listBuffers, TranslateAnswer, translated, refused, translateKept, TranslateDone}
+use Rattle.translation.specs.TranslateKept.{answerOf as translatedOf}
+use Rattle.translation.specs.declared.Counts.{Counts as CountsStruct}
+use Rattle.translation.specs.declared.Translated.{Translated}
+use Rattle.translation.specs.declared.Translated.the-variants.{Written as WrittenCase, Refused as RefusedCase}
+use Rattle.ladder_rows.specs.Parts.{longHolds, LongRefused}
+use Rattle.translation_rows.specs.Parts.{refusedFields, FieldsTranslated}
+use Rattle.translation_rows.specs.declared.TranslatedFields.{TranslatedFields}
+
+pub room-few : (room lent : ℕ) → room ≡ min mostRungs lent → room ≤ mostRungs
+room-few room lent e = omega (arith, e)
+
+not-both : (c : Counts) (r : Refusal) → _≡_ {A = TranslateAnswer} (translated c) (refused r) → ⊥
+not-both c r e = let z : _≡_ {A = ℕ} 0 1 = cc in omega arith
+
+same-count : {c d : Counts} → _≡_ {A = TranslateAnswer} (translated c) (translated d) → c .rungs ≡ d .rungs
+same-count e = cc
+
+module _ (vars : ℕ) (k : Kept) where
+  abbrev list : InstructionList
+  list = translate vars (ladderOf k)
+
+  abbrev ks : List RungRecord
+  ks = list .records
+
+  abbrev nw : List ℕ
+  nw = map instrWord (list .code)
+
+  abbrev asked : Buffers → Answer
+  asked lent = firstNo (ladderAnswer vars k ∷ question13 (needs (listBuffers list) lent) ∷ [])
+
+  rungs-laid : length ks ≡ length (ladderOf k)
+  unfolding translate listRecords
+  rungs-laid = lay-length _ _ 0 (ladderOf k)
+
+  pub few-rungs : ladderAnswer vars k ≡ none → length ks ≤ mostRungs
+  unfolding question5 sizesInRange
+  few-rungs e =
+      let n = rungs-laid in
+      let l = leb→le (length (ladderOf k)) mostRungs (and-yes (leb (length (ladderOf k)) mostRungs) _ (ask-passed 5 _ (accepted vars k e .1 .sizes)) .0) in
+      omega arith
+
+  call-refused : (lent : Buffers) (r : Refusal) → asked lent ≡ some r → translateKept vars k lent ≡ record { answer = refused r; buffers = lent }
+  unfolding translateKept
+  call-refused lent r e = rw (e, translateKept)
+
+  call-written : (lent : Buffers) → asked lent ≡ none → translateKept vars k lent ≡ record { answer = translated (countsOf list); buffers = writtenOver (listBuffers list) lent }
+  unfolding translateKept
+  call-written lent e = rw (e, translateKept)
+
+  -- Translate, done on a copy of as many fields as a row of `lent` records has room for
+  module _ (words : List ℕ) (lent : ℕ) (zl zo zn : List ℕ) (el : length zl ≡ min mostRungs lent) (eo : length zo ≡ min mostRungs lent) (en : length zn ≡ min mostRungs lent)
+      (r : Translated) (words′ ls os ns : List ℕ) (done : TranslateDone (translateKept vars k (buffers words zl zo zn)) r (buffers words′ ls os ns)) (rest : List ℕ) where
+    abbrev lends : Buffers
+    lends = buffers words zl zo zn
+
+    abbrev fieldsWritten : ℕ → Rows
+    fieldsWritten m = fields (ladderAnswer vars k) nw ks few-rungs words lent zl zo zn el eo en words′ ls os ns rest m
+
+    pub record RowDone (answer : Translated) (m : ℕ) : Type 0 where
+      pub same : (rs : List RungRecord) → length rs ≡ lent → TranslateDone (translateKept vars k (asBuffers words rs)) answer (asBuffers words′ (scattered m (fieldsWritten m) rs))
+      pub few : m ≤ mostRungs
+      pub within : m ≤ lent
+
+    still-asked : (rs : List RungRecord) → length rs ≡ lent → asked lends ≡ asked (asBuffers words rs)
+    still-asked = same-asked (ladderAnswer vars k) nw ks few-rungs words lent zl zo zn el eo en
+
+    module _ (x : RefusalCase) (is : r ≡ RefusedCase x) where
+      refused-done : (rs : List RungRecord) → length rs ≡ lent → TranslateDone (translateKept vars k (asBuffers words rs)) r (asBuffers words′ (scattered 0 (fieldsWritten 0) rs))
+      unfolding translatedOf
+      refused-done rs e = go (asked lends) refl
+        where
+          go : (a : Answer) → asked lends ≡ a → TranslateDone (translateKept vars k (asBuffers words rs)) r (asBuffers words′ (scattered 0 (fieldsWritten 0) rs))
+          go (some y) q =
+              let small = call-refused lends y q in
+              let whole = call-refused (asBuffers words rs) y (sym (still-asked rs e) ∙ q) in
+              record {
+                answer = done .answer ∙ ap (λ c. c .answer) small ∙ sym (ap (λ c. c .answer) whole);
+                same-buffers = same-refused (ladderAnswer vars k) nw ks few-rungs words lent zl zo zn el eo en words′ ls os ns rest (done .same-buffers ∙ ap (λ c. c .buffers) small) rs
+                    ∙ sym (ap (λ c. c .buffers) whole);
+              }
+          go none q = absurd (not-both _ (refusalOf x) (sym (ap (λ c. c .answer) (call-written lends q)) ∙ sym (done .answer) ∙ ap translatedOf is))
+
+      pub row-refused : RowDone r 0
+      row-refused = record { same = refused-done; few = omega arith; within = omega arith }
+
+    module _ (c : CountsStruct) (is : r ≡ WrittenCase c) (same-l : length ls ≡ length zl) (same-o : length os ≡ length zo) (same-n : length ns ≡ length zn) where
+      was-written : asked lends ≡ none
+      unfolding translatedOf
+      was-written = go (asked lends) refl
+        where
+          go : (a : Answer) → asked lends ≡ a → asked lends ≡ none
+          go none q = q
+          go (some y) q = absurd (not-both _ y (sym (ap translatedOf is) ∙ done .answer ∙ ap (λ c. c .answer) (call-refused lends y q)))
+
+      rungs-are : c .rungs ≡ length ks
+      unfolding translatedOf countsOf
+      rungs-are = same-count (sym (ap translatedOf is) ∙ done .answer ∙ ap (λ c. c .answer) (call-written lends was-written))
+
+      written-done : (rs : List RungRecord) → length rs ≡ lent → TranslateDone (translateKept vars k (asBuffers words rs)) (WrittenCase c) (asBuffers words′ (scattered (length ks) (fieldsWritten (length ks)) rs))
+      written-done rs e =
+          let small = call-written lends was-written in
+          let whole = call-written (asBuffers words rs) (sym (still-asked rs e) ∙ was-written) in
+          record {
+            answer = ap translatedOf (sym is) ∙ done .answer ∙ ap (λ c. c .answer) small ∙ sym (ap (λ c. c .answer) whole);
+            same-buffers = same-written (ladderAnswer vars k) nw ks few-rungs words lent zl zo zn el eo en words′ ls os ns rest (done .same-buffers ∙ ap (λ c. c .buffers) small) same-l same-o same-n rs
+                ∙ sym (ap (λ c. c .buffers) whole);
+          }
+
+      pub row-written : RowDone (WrittenCase c) (c .rungs)
+      row-written = subst (λ (m : ℕ). RowDone (WrittenCase c) m) (sym rungs-are) (record {
+        same = written-done;
+        few = few-written (ladderAnswer vars k) nw ks few-rungs words lent zl zo zn el eo en was-written;
+        within = within-written (ladderAnswer vars k) nw ks few-rungs words lent zl zo zn el eo en was-written;
+      })
+
+-- ---- from a copy of a row's fields
+
+rows-n : (ks : List RungRecord) → gathered ks .n ≡ length ks
+unfolding gathered
+rows-n ks = refl
+
+rows-kept : (ks : List RungRecord) → length ks ≤ mostRungs → gathered ks .n ≡ gathered ks .kept
+unfolding gathered
+rows-kept ks h = omega arith
+
+first-no : (a b : Answer) (r : Refusal) → a ≡ some r → firstNo (a ∷ b ∷ []) ≡ some r
+unfolding firstNo
+first-no a b r e = rw (e, firstNo)
+
+module _ (vars : ℕ) (ws : List ℕ) (rows : Rows) (long : Bool) (code : List ℕ) (lent : ℕ) where
+  -- more records than are copied
+  pub long-refused : mostRungs < rows .n → (x : RefusalCase) → LongRefused vars long x → FieldsTranslated vars ws rows long code lent (refusedFields x rows) code
+  unfolding refusedFields translatedOf
+  long-refused h x refused-by = record {
+    same = λ ks e held rs n.
+        let a = refused-by .same ws ks (rw (← rows-n ks, ← e) h) held in
+        let q = first-no (ladderAnswer vars (record { words = ws; records = ks })) (question13 (needs (listBuffers (translate vars (ladderOf (record { words = ws; records = ks })))) (asBuffers code rs))) (refusalOf x) a in
+        let whole = call-refused vars (record { words = ws; records = ks }) (asBuffers code rs) (refusalOf x) q in
+        record { answer = sym (ap (λ c. c .answer) whole); same-buffers = ap (asBuffers code) (scattered-none _ rs) ∙ sym (ap (λ c. c .buffers) whole) };
+    few = omega arith;
+    within = omega arith;
+  }
+
+  -- all of them are copied
+  module _ (h : rows .n ≤ mostRungs) (zl zo zn : List ℕ) (el : length zl ≡ min mostRungs lent) (eo : length zo ≡ min mostRungs lent) (en : length zn ≡ min mostRungs lent)
+      (r : Translated) (code′ ls os ns rest : List ℕ)
+      (done : TranslateDone (translateKept vars (record { words = ws; records = rowOf (take (rows .n) (rows .labels)) (take (rows .n) (rows .offsets)) (take (rows .n) (rows .lengths)) }) (buffers code zl zo zn)) r (buffers code′ ls os ns)) where
+    abbrev copied : List RungRecord
+    copied = rowOf (take (rows .n) (rows .labels)) (take (rows .n) (rows .offsets)) (take (rows .n) (rows .lengths))
+
+    copied-row : (ks : List RungRecord) → rows ≡ gathered ks → copied ≡ ks
+    copied-row ks e = (λ i. rowOf (take (n-is i) (e i .labels)) (take (n-is i) (e i .offsets)) (take (n-is i) (e i .lengths))) ∙ gathered-whole ks few
+      where
+        few : length ks ≤ mostRungs
+        few = rw (← rows-n ks, ← e) h
+
+        n-is : rows .n ≡ gathered ks .kept
+        n-is = ap (λ x. x .n) e ∙ rows-kept ks few
+
+    abbrev keptCopy : Kept
+    keptCopy = record { words = ws; records = copied }
+
+    from-copy : (answer : Translated) (m : ℕ) → RowDone vars keptCopy code lent zl zo zn el eo en r code′ ls os ns done rest answer m
+        → FieldsTranslated vars ws rows long code lent (record { answer = answer; rows = fieldsWritten vars keptCopy code lent zl zo zn el eo en r code′ ls os ns done rest m }) code′
+    from-copy answer m d = record {
+      same = λ ks e held rs n. subst (λ (l : List RungRecord). TranslateDone (translateKept vars (record { words = ws; records = l }) (asBuffers code rs)) answer
+          (asBuffers code′ (scattered m (fieldsWritten vars keptCopy code lent zl zo zn el eo en r code′ ls os ns done rest m) rs))) (copied-row ks e) (d .same rs n);
+      few = d .few;
+      within = d .within;
+    }
+
+    pub fields-refused : (x : RefusalCase) → r ≡ RefusedCase x
+        → FieldsTranslated vars ws rows long code lent (record { answer = r; rows = fieldsWritten vars keptCopy code lent zl zo zn el eo en r code′ ls os ns done rest 0 }) code′
+    fields-refused x is = from-copy r 0 (row-refused vars keptCopy code lent zl zo zn el eo en r code′ ls os ns done rest x is)
+
+    pub fields-written : (c : CountsStruct) → r ≡ WrittenCase c → length ls ≡ length zl → length os ≡ length zo → length ns ≡ length zn
+        → FieldsTranslated vars ws rows long code lent (record { answer = WrittenCase c; rows = fieldsWritten vars keptCopy code lent zl zo zn el eo en r code′ ls os ns done rest (c .rungs) }) code′
+    fields-written c is a b d = from-copy (WrittenCase c) (c .rungs) (row-written vars keptCopy code lent zl zo zn el eo en r code′ ls os ns done rest c is a b d)
