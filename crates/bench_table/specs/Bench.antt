@@ -13,7 +13,7 @@ use Rattle.table.specs.State.{scratchBytes, valueAt, value, writtenAt, write}
 use Rattle.table.specs.Halt.{Halt, Ended, Stopped}
 use Rattle.table.specs.Questions.{tableInRange, question11}
 use Rattle.rungs.specs.Records.{RungRecord, laid, lay, search, present, startOf, isStart, longest, rowOf}
-use Rattle.rungs.specs.Buffers.{Buffers, buffers, asBuffers, needs, written, writtenOver}
+use Rattle.rungs.specs.Buffers.{Buffers, buffers, asBuffers, needs, written, writtenOver, writtenWords, writtenRecords}
 use Rattle.ladder.specs.Tree.{frontAll, rearAll, rungAll}
 use Rattle.ladder.specs.Meaning.{scanLadder, scanFrom, runRung, runRear, runOutput, workFront, workInput, jumpIf, unlessJumped, from, follow, left}
 use Rattle.ladder.specs.Kept.{Kept, inputWord, outputWord, frontWords, rearWords, rungWords, encode, putInput, putFront, putOutput, putRearAnd, putRearOr, kinds, decodeWords, oneRung, decodeRung, decodeFrom, decode}
@@ -22,7 +22,7 @@ use Rattle.ladder.specs.LadderScan.{ladderScan, scanned, refused}
 use Rattle.ladder.specs.LadderScan.{scanEnds as ladderScanEnds, scanAnswer as ladderScanAnswer}
 use Rattle.grammar.specs.Reader.{mapP, bind, followed, digitOf, digitsFrom, numberOf, chain, termBy, frontBy, factorBy, factorOf, termOf, frontOf, opensFactor, branchBy, rearBy, endBy, endOf, rearOf, lineOf, linesOf, textOf}
 use Rattle.grammar.specs.Questions.{question3}
-use Rattle.text.specs.Read.{readText, kept}
+use Rattle.text.specs.Read.{readText, kept, writtenKept}
 use Rattle.text.specs.Read.{ladderOf as ladderOfText, refused as readRefused}
 use Rattle.list.specs.Instruction.{LD, LDN, ST, AND, ANDN, OR, JMPC, operand, opOf, operandNumber, onlyNot, ops, instrWord, decodeInstr, decodeCode, codeOf}
 use Rattle.list.specs.Machine.{scanList, scanMachine, begin, step, count, does, halted}
@@ -95,14 +95,6 @@ start r = r .before ++ replicate scratchBytes 0
 room : Buffers
 room = buffers (replicate 20 0) (replicate 3 0) (replicate 3 0) (replicate 3 0)
 
-record InBuffers : Type 0 where
-  words : List ℕ
-  records : List RungRecord
-
--- the words and records that a call wrote
-wrote : Buffers → ℕ → ℕ → InBuffers
-wrote b words rungs = record { words = take words (b .words); records = rowOf (take rungs (b .labels)) (take rungs (b .offsets)) (take rungs (b .lengths)) }
-
 -- the instruction watchdog of demand 3
 watchdog : Halt → ℕ → ℕ → ℕ
 watchdog Ended rungs most = rungs * most
@@ -112,12 +104,12 @@ variablesOf : Row → List ℕ → List ℕ
 variablesOf r bytes = take (length (r .before)) bytes
 
 -- List scan, after Ladder scan gave x and Translate wrote a list with its counts
-byListScan : Row → Scan → Counts → InBuffers → Outcome
-byListScan r x counts list =
-    let c = listScan (length (r .before)) (list .words) (list .records) (start r) (watchdog (x .halt) (x .rungs) (counts .longest)) in
+byListScan : Row → Scan → Counts → List ℕ → List RungRecord → Outcome
+byListScan r x counts words records =
+    let c = listScan (length (r .before)) words records (start r) (watchdog (x .halt) (x .rungs) (counts .longest)) in
     elim (c .answer) [
       | listRefused refusal ↦ refusedAt (refusal .number) (refusal .place)
-      | listScanned halt n ↦ scans x (record { halt = halt; rungs = n .rungs; variables = variablesOf r (c .table) }) (some (list .words))
+      | listScanned halt n ↦ scans x (record { halt = halt; rungs = n .rungs; variables = variablesOf r (c .table) }) (some words)
     ]
 
 -- Translate, after Ladder scan gave x
@@ -126,7 +118,7 @@ byTranslate r x k =
     let c = translateKept (length (r .before)) k room in
     elim (c .answer) [
       | translateRefused refusal ↦ refusedAt (refusal .number) (refusal .place)
-      | translated counts ↦ byListScan r x counts (wrote (c .buffers) (counts .instructions) (counts .rungs))
+      | translated counts ↦ byListScan r x counts (writtenWords (c .buffers) (counts .instructions)) (writtenRecords (c .buffers) (counts .rungs))
     ]
 
 -- Ladder scan, after Read wrote a kept ladder
@@ -143,7 +135,7 @@ run r =
     let c = readText (length (r .before)) (r .text) room in
     elim (c .answer) [
       | readRefused refusal ↦ refusedAt (refusal .number) (refusal .place)
-      | kept words rungs ↦ let b = wrote (c .buffers) words rungs in byLadderScan r (record { words = b .words; records = b .records })
+      | kept words rungs ↦ byLadderScan r (writtenKept (c .buffers) words rungs)
     ]
 
 -- the list only where document 01 prints one
@@ -155,13 +147,13 @@ asFar (scans x y list) (scans x′ y′ (some l)) = scans x y list
 
 -- Every row comes out as document 01 says.
 bench : map (λ r. asFar (run r) (r .outcome)) table ≡ map (λ (r : Row). r .outcome) table
-unfolding table listA outcomeA run asFar start room wrote watchdog variablesOf byListScan byTranslate byLadderScan bytes
+unfolding table listA outcomeA run asFar start room watchdog variablesOf byListScan byTranslate byLadderScan bytes
     all firstFailed ask askEach firstNo varsInRange question1 question2 question3 question4 question5 question6 question7 question8 question9 question10 question11 question12 question13 longEnough
-    valueAt value writtenAt write tableInRange laid lay search present startOf isStart longest rowOf asBuffers needs written writtenOver zipWith flatMap
+    valueAt value writtenAt write tableInRange laid lay search present startOf isStart longest rowOf asBuffers needs written writtenOver writtenWords writtenRecords zipWith flatMap
     frontAll rearAll rungAll scanLadder scanFrom runRung runRear runOutput workFront workInput jumpIf unlessJumped from follow left
     inputWord outputWord frontWords rearWords rungWords encode putInput putFront putOutput putRearAnd putRearOr kinds decodeWords oneRung decodeRung decodeFrom decode
     ladderOf holdsLadder sizesInRange inputBelow outputBelow newLabels outputLeads joinScratch frontScratch rearScratch rungScratch scratchInRange ladderAnswer ladderScan ladderScanAnswer ladderScanEnds
     mapP bind followed digitOf digitsFrom numberOf chain termBy frontBy factorBy factorOf termOf frontOf opensFactor branchBy rearBy endBy endOf rearOf lineOf linesOf textOf
-    readText ladderOfText operand opOf operandNumber onlyNot ops instrWord decodeInstr decodeCode codeOf scanList scanMachine begin step count does halted
+    readText writtenKept ladderOfText operand opOf operandNumber onlyNot ops instrWord decodeInstr decodeCode codeOf scanList scanMachine begin step count does halted
     operandInRange wordInRange recordsLaid listInRange listOf listScan listScanAnswer listScanEnds F R join outputCode rungCode listRecords translate countsOf translateKept
 bench = refl

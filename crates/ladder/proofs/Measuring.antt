@@ -6,18 +6,16 @@ use mathlib.Core.Path.{_≡_, refl, sym, ap, _∙_}
 use mathlib.Core.Bool.{Bool, true, false}
 use mathlib.Core.List.{List, [], _∷_}
 use lib.Dec.{leb}
-use lib.ListN.{length, getD, drop, length-map, drop-of-length-le}
+use lib.ListN.{length, getD, drop, drop-of-length-le}
 use borrow.Author.Tests.{le-leb, lt-leb}
 use Rattle.questions.specs.Tests.{all}
 use Rattle.table.specs.State.{scratchBytes}
-use Rattle.rungs.specs.Laws.Layout.{lay-length}
 use Rattle.ladder.specs.Tree.{Rung, Ladder}
-use Rattle.ladder.specs.Kept.{rungWords, encode}
 use Rattle.ladder.specs.Questions.{rungScratch, scratchInRange}
 use Rattle.ladder.specs.Walking.{RungMeasured}
 use Rattle.ladder.specs.Held.{LadderHeld}
 use Rattle.ladder.specs.Scanned.{ScratchAsked}
-use Rattle.ladder.specs.Laws.Held.{apart, rung-at}
+use Rattle.ladder.specs.Laws.Held.{apart, as-many, rung-at}
 
 abbrev few : Rung → Bool
 few g = leb (rungScratch g) scratchBytes
@@ -29,10 +27,6 @@ pub record Measuring (ws os : List ℕ) (k : ℕ) : Type 0 where
 pub measuring-first : (ws os : List ℕ) → Measuring ws os 0
 unfolding scratchInRange
 measuring-first ws os = record { same = λ ls gs held. refl }
-
-as-many : (ws ls os : List ℕ) (gs : Ladder) → LadderHeld ws ls os gs → length os ≡ length gs
-unfolding encode
-as-many ws ls os gs held = ap length (held .same-offsets) ∙ length-map (encode gs .records) (λ r. r .offset) ∙ lay-length (λ g. g .label) (λ g. length (rungWords g)) 0 gs
 
 few-left : (g : Rung) (rest : Ladder) (b : Bool) → few g ≡ b → all few (g ∷ rest) ≡ elim b [ true ↦ all few rest | false ↦ false ]
 unfolding all

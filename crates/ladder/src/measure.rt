@@ -1,6 +1,4 @@
 // The scratch that a rung's code takes, along the prefix order of its kept words: question 9.
-ghost use mathlib.Core.Path.{_≡_};
-ghost use Prim.Native.Nat.{max};
 ghost use Rattle.ladder.specs.Walking.{JoinMeasured, FrontMeasured, RearMeasured, RungMeasured};
 ghost use Rattle.ladder.specs.Scanned.{ScratchAsked};
 
@@ -34,7 +32,7 @@ pub fn front_scratch(words: &[u32], at: usize) -> Taken
             let second = front_scratch(words, first.next);
             let joined = join_scratch(words, first.next, second.bytes + 1);
             Taken {
-                bytes: larger(first.bytes, joined),
+                bytes: rungs::larger(first.bytes, joined),
                 next: second.next,
             }
         }
@@ -56,7 +54,7 @@ pub fn rear_scratch(words: &[u32], at: usize) -> Taken
             let joined = join_scratch(words, at + 1, front.bytes + 1);
             let rear = rear_scratch(words, front.next);
             Taken {
-                bytes: larger(joined, rear.bytes),
+                bytes: rungs::larger(joined, rear.bytes),
                 next: rear.next,
             }
         }
@@ -64,7 +62,7 @@ pub fn rear_scratch(words: &[u32], at: usize) -> Taken
             let first = rear_scratch(words, at + 1);
             let second = rear_scratch(words, first.next);
             Taken {
-                bytes: larger(first.bytes + 1, second.bytes),
+                bytes: rungs::larger(first.bytes + 1, second.bytes),
                 next: second.next,
             }
         }
@@ -78,13 +76,7 @@ pub fn rung_scratch(words: &[u32], at: usize) -> usize
 {
     let front = front_scratch(words, at);
     let rear = rear_scratch(words, front.next);
-    larger(front.bytes, rear.bytes)
-}
-
-pub fn larger(a: usize, b: usize) -> usize
-    ensures { λ r. ⌜ r ≡ max a b ⌝ }
-{
-    if a < b { b } else { a }
+    rungs::larger(front.bytes, rear.bytes)
 }
 
 // Question 9.

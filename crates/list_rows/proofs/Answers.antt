@@ -83,7 +83,6 @@ module _ (vars : ℕ) (ws : List ℕ) (rows : Rows) (t : List ℕ) (w : ℕ) whe
     pub row-ready : RowReady v rs
     row-ready = record {
       ascends = λ q. let a = scan-in-range vars ws rs t w (verdict-accepted (asked .same rs e) q) in laid-ascend 0 (length ws) rs (a .lies) (a .some-length);
-      some-record = λ q. first-starts vars ws rs t w (verdict-accepted (asked .same rs e) q) .0;
       first-starts = λ q. first-starts vars ws rs t w (verdict-accepted (asked .same rs e) q) .1;
     }
 

@@ -136,7 +136,7 @@ middle-high s h = omega arith
 
 module _ (rs : List RungRecord) (p : RowPlace) (index : ℕ) (s : Seeking) (inv : Seeks rs p index s) where
   -- a turn is no straight run that enters no record
-  pub seeks-on : s .low < s .high → Carries p index → ⊥
+  seeks-on : s .low < s .high → Carries p index → ⊥
   seeks-on h q = let e = inv .carried q in let low = e .0 in let high = e .1 in omega arith
 
   module _ (h : s .low < s .high) where
@@ -177,7 +177,7 @@ module _ (rs : List RungRecord) (p : RowPlace) (index : ℕ) (s : Seeking) (inv 
   -- ---- the return
 
   module _ (h : s .high ≤ s .low) where
-    pub last-within : placeAt index s (length rs) .next + placeAt index s (length rs) .entered ≤ length rs
+    last-within : placeAt index s (length rs) .next + placeAt index s (length rs) .entered ≤ length rs
     unfolding placeAt
     last-within = go (ltb (s .low) (length rs)) refl (eqb (s .start) index)
       where

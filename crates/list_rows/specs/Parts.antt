@@ -81,10 +81,9 @@ unfoldable pub answered : Verdict → Machine → ℕ → ListScanned
 answered (Refused x) m n = RefusedScan x
 answered Accepted m n = haltedAt n m
 
--- where no question got a "no", the records ascend, there is one, and the first begins at index 0
+-- where no question got a "no", the records ascend, and the first begins at index 0
 pub record RowReady (v : Verdict) (rs : List RungRecord) : Type 0 where
   pub ascends : v ≡ Accepted → ascending 0 (offsets rs)
-  pub some-record : v ≡ Accepted → 0 < length rs
   pub first-starts : v ≡ Accepted → startsHere (offsets rs) 0 0 ≡ 1
 
 pub record RowRan (v : Verdict) (ws : List ℕ) (rs : List RungRecord) (t : List ℕ) (w : ℕ) (r : ListScanned) (u : List ℕ) : Type 0 where

@@ -3,50 +3,40 @@ use Prim.Native.Nat.{ℕ, _≤_}
 use native.Mathlib.Omega.{arith}
 use mathlib.Core.Path.{_≡_, refl, sym, ap, subst, _∙_}
 use mathlib.Core.Option.{none, some}
-use mathlib.Core.List.{List, [], _∷_, map}
+use mathlib.Core.List.{List, [], _∷_}
 use lib.Dec.{leb, leb→le}
 use mir.Facts.{and-yes}
-use lib.ListN.{length, take, replicate, length-map, length-replicate}
+use lib.ListN.{length, take, replicate, length-replicate}
 use lib.Seq.{length-take-le}
 use Rattle.questions.specs.Tests.{all}
-use Rattle.questions.specs.Questions.{Answer, Refusal, firstNo, longEnough, question1, question2, question13}
+use Rattle.questions.specs.Questions.{Answer, Refusal, firstNo, longEnough, question1, question13}
 use Rattle.questions.specs.Laws.Answers.{ask-passed, first-yes, later-yes}
 use Rattle.questions.specs.Refusals.{refusalOf}
 use Rattle.questions.specs.declared.Refusal.{Refusal as RefusalCase}
 use Rattle.rungs.specs.Records.{RungRecord, rowOf}
-use Rattle.rungs.specs.Buffers.{Buffers, asBuffers, needs}
-use Rattle.rungs.specs.Laws.Filling.{labels-count, roomy}
-use Rattle.rungs.specs.Laws.Layout.{lay-length}
-use Rattle.ladder.specs.Tree.{Ladder}
-use Rattle.ladder.specs.Kept.{Kept, encode, rungWords}
-use Rattle.ladder.specs.Questions.{ladderAnswer, question5, question6, question7, question8}
-use Rattle.ladder.specs.Questions.{ladderOf as ladderKept}
-use Rattle.grammar.specs.Questions.{question3}
-use Rattle.list.specs.Instruction.{instrWord}
-use Rattle.list.specs.Machine.{InstructionList}
+use Rattle.rungs.specs.Buffers.{Buffers, writtenWords, writtenRecords}
+use Rattle.ladder.specs.Kept.{Kept}
 use Rattle.list.specs.Questions.{question10}
 use Rattle.list.specs.ListScan.{listOf}
 use Rattle.list.specs.Listing.{ListingAnswer, written, listing, listingText, fixedNames, ListingDone}
 use Rattle.list.specs.Listing.{refused as listingRefused, answerOf as listedOf}
 use Rattle.list.specs.declared.Listed.{Listed}
 use Rattle.list.specs.declared.Listed.the-variants.{Written as ListedCase, Refused as ListedRefused}
-use Rattle.translation.specs.Translate.{translate}
-use Rattle.translation.specs.TranslateKept.{Counts, countsOf, listBuffers, TranslateAnswer, translated, translateKept, TranslateDone}
+use Rattle.translation.specs.TranslateKept.{Counts, translated, translateKept, countsIn, TranslateDone}
 use Rattle.translation.specs.TranslateKept.{refused as translateRefused, answerOf as translatedOf}
-use Rattle.translation.specs.Calls.{writtenWords, writtenRecords}
+use Rattle.translation.specs.Laws.Answers.{written-room}
 use Rattle.translation.specs.declared.Counts.{Counts as CountsStruct}
 use Rattle.translation.specs.declared.Translated.{Translated}
 use Rattle.translation.specs.declared.Translated.the-variants.{Written as TranslatedCase, Refused as TranslatedRefused}
-use Rattle.text.specs.Read.{ladderOf, keptBuffers, ReadAnswer, kept, readText, ReadDone}
+use Rattle.text.specs.Read.{kept, readText, writtenKept, ReadDone}
 use Rattle.text.specs.Read.{refused as readRefused, answerOf as readOf}
-use Rattle.text.specs.Theorems.{writtenKept}
+use Rattle.text.specs.Laws.Reads.{written-room as kept-room-of}
 use Rattle.text.specs.declared.Counts.{Counts as KeptStruct}
 use Rattle.text.specs.declared.TextRead.{TextRead}
 use Rattle.text.specs.declared.TextRead.the-variants.{Kept as KeptCase, Refused as ReadRefusedCase}
 use Rattle.printing.specs.Put.{Put}
 use Rattle.printing.specs.Laws.Puts.{put-then}
 use Rattle.printout.specs.Printout.{refusalLine, countLine, blank, printedList, printedKept, printed}
-use Rattle.printout.specs.Parts.{countsIn}
 
 room-of : (n size x : ℕ) → n ≤ length (replicate size x) → n ≤ size
 room-of n size x h = subst (λ k. n ≤ k) (length-replicate size x) h
@@ -117,41 +107,6 @@ module _ (vars : ℕ) (words : List ℕ) (rs : List RungRecord) {r : Listed} {bu
 
 -- ---- Translate
 
-not-translated : (c : Counts) (x : Refusal) → _≡_ {A = TranslateAnswer} (translated c) (translateRefused x) → ⊥
-not-translated c x e = let z : _≡_ {A = ℕ} 0 1 = cc in omega arith
-
-same-counts : {c d : Counts} → _≡_ {A = TranslateAnswer} (translated c) (translated d) → c ≡ d
-same-counts e = cc
-
-module _ (vars : ℕ) (k : Kept) (lent : Buffers) where
-  abbrev list : InstructionList
-  list = translate vars (ladderKept k)
-
-  abbrev askedKept : Answer
-  askedKept = firstNo (ladderAnswer vars k ∷ question13 (needs (listBuffers list) lent) ∷ [])
-
-  kept-refused-by : (x : Refusal) → askedKept ≡ some x → translateKept vars k lent .answer ≡ translateRefused x
-  unfolding translateKept
-  kept-refused-by x e = rw (e, translateKept)
-
-  kept-written-by : askedKept ≡ none → translateKept vars k lent .answer ≡ translated (countsOf list)
-  unfolding translateKept
-  kept-written-by e = rw (e, translateKept)
-
-  translated-room : (c : Counts) → translateKept vars k lent .answer ≡ translated c → (c .instructions ≤ length (lent .words)) × (c .rungs ≤ length (lent .labels))
-  unfolding countsOf asBuffers translate
-  translated-room c e = go askedKept refl
-    where
-      go : (a : Answer) → askedKept ≡ a → (c .instructions ≤ length (lent .words)) × (c .rungs ≤ length (lent .labels))
-      go (some y) q = absurd (not-translated c y (sym e ∙ kept-refused-by y q))
-      go none q =
-          let s : countsOf list ≡ c = same-counts (sym (kept-written-by q) ∙ e) in
-          let r = roomy (listBuffers list) lent (first-yes _ _ (later-yes (ladderAnswer vars k) _ q)) in
-          let i = ap (λ d. d .instructions) s in
-          let g = ap (λ d. d .rungs) s in
-          let m = length-map (list .code) instrWord in
-          (omega (arith, r .words), omega (arith, r .labels, labels-count (map instrWord (list .code)) (list .records)))
-
 module _ (vars : ℕ) (k : Kept) {r : Translated} {after : Buffers} (done : TranslateDone (translateKept vars k (blank 16384 256)) r after) where
   module _ (x : RefusalCase) (e : r ≡ TranslatedRefused x) where
     kept-refusal : translateKept vars k (blank 16384 256) .answer ≡ translateRefused (refusalOf x)
@@ -169,7 +124,7 @@ module _ (vars : ℕ) (k : Kept) {r : Translated} {after : Buffers} (done : Tran
 
     pub kept-room : (c .instructions ≤ 16384) × (c .rungs ≤ 256)
     kept-room =
-        let h = translated-room vars k (blank 16384 256) (countsIn c) kept-answer in
+        let h = written-room vars k (blank 16384 256) (countsIn c) kept-answer in
         (room-of (c .instructions) 16384 0 (h .0), room-of (c .rungs) 256 0 (h .1))
 
     pub kept-listed : {l : List ℕ} {i p : ℕ} {y : List ℕ}
@@ -180,45 +135,6 @@ module _ (vars : ℕ) (k : Kept) {r : Translated} {after : Buffers} (done : Tran
     kept-listed p = rw (kept-answer, printedKept, ← (done .same-buffers)) p
 
 -- ---- Read
-
-not-kept : (n m : ℕ) (x : Refusal) → _≡_ {A = ReadAnswer} (kept n m) (readRefused x) → ⊥
-not-kept n m x e = let z : _≡_ {A = ℕ} 0 1 = cc in omega arith
-
-same-words : {n m n′ m′ : ℕ} → _≡_ {A = ReadAnswer} (kept n m) (kept n′ m′) → n ≡ n′
-same-words e = cc
-
-same-rungs : {n m n′ m′ : ℕ} → _≡_ {A = ReadAnswer} (kept n m) (kept n′ m′) → m ≡ m′
-same-rungs e = cc
-
-module _ (vars : ℕ) (s : List ℕ) (lent : Buffers) where
-  abbrev gs : Ladder
-  gs = ladderOf s
-
-  abbrev asked : Answer
-  asked = firstNo (question1 vars ∷ question2 (length s) ∷ question3 s ∷ question5 gs ∷ question6 vars gs ∷ question7 gs ∷ question8 gs
-      ∷ question13 (needs (keptBuffers gs) lent) ∷ [])
-
-  read-refused-by : (x : Refusal) → asked ≡ some x → readText vars s lent .answer ≡ readRefused x
-  unfolding readText
-  read-refused-by x e = rw (e, readText)
-
-  read-written-by : asked ≡ none → readText vars s lent .answer ≡ kept (length (keptBuffers gs .words)) (length gs)
-  unfolding readText
-  read-written-by e = rw (e, readText)
-
-  rungs-read : length (keptBuffers gs .labels) ≡ length gs
-  unfolding asBuffers encode
-  rungs-read = labels-count (encode gs .words) (encode gs .records) ∙ lay-length (λ g. g .label) (λ g. length (rungWords g)) 0 gs
-
-  kept-fits : (n m : ℕ) → readText vars s lent .answer ≡ kept n m → (n ≤ length (lent .words)) × (m ≤ length (lent .labels))
-  kept-fits n m e = go asked refl
-    where
-      go : (a : Answer) → asked ≡ a → (n ≤ length (lent .words)) × (m ≤ length (lent .labels))
-      go (some y) q = absurd (not-kept n m y (sym e ∙ read-refused-by y q))
-      go none q =
-          let h = sym (read-written-by q) ∙ e in
-          let r = roomy (keptBuffers gs) lent (first-yes _ _ (later-yes _ _ (later-yes _ _ (later-yes _ _ (later-yes _ _ (later-yes _ _ (later-yes _ _ (later-yes _ _ q)))))))) in
-          (subst (λ x. x ≤ length (lent .words)) (same-words h) (r .words), subst (λ x. x ≤ length (lent .labels)) (rungs-read ∙ same-rungs h) (r .labels))
 
 module _ (vars : ℕ) (s : List ℕ) {r : TextRead} {after : Buffers} (done : ReadDone (readText vars s (blank 8192 256)) r after) where
   module _ (x : RefusalCase) (e : r ≡ ReadRefusedCase x) where
@@ -237,7 +153,7 @@ module _ (vars : ℕ) (s : List ℕ) {r : TextRead} {after : Buffers} (done : Re
 
     pub read-room : (c .words ≤ 8192) × (c .rungs ≤ 256)
     read-room =
-        let h = kept-fits vars s (blank 8192 256) (c .words) (c .rungs) read-answer in
+        let h = kept-room-of vars s (blank 8192 256) (c .words) (c .rungs) read-answer in
         (room-of (c .words) 8192 0 (h .0), room-of (c .rungs) 256 0 (h .1))
 
     pub read-kept : {l : List ℕ} {i p : ℕ} {y : List ℕ}
@@ -246,5 +162,5 @@ module _ (vars : ℕ) (s : List ℕ) {r : TextRead} {after : Buffers} (done : Re
           records = rowOf (take (c .rungs) (after .labels)) (take (c .rungs) (after .offsets)) (take (c .rungs) (after .lengths));
         })) p y
         → Put l i (printed vars s) p y
-    unfolding printed writtenKept
+    unfolding printed writtenKept writtenWords writtenRecords
     read-kept p = rw (read-answer, printed, ← (done .same-buffers)) p

@@ -5,8 +5,6 @@ use mathlib.Core.List.{List, [], _∷_}
 use lib.Dec.{eqb, leb, ltb}
 use lib.ListN.{length, drop}
 use Rattle.grammar.specs.Reader.{pick, digitOf}
-use Rattle.translation.specs.TranslateKept.{Counts}
-use Rattle.translation.specs.declared.Counts.{Counts as CountsStruct}
 use Rattle.printout.specs.Printout.{firstLine, textAfter, variablesOf}
 use Rattle.printout.specs.declared.Begun.{Begun}
 use Rattle.printout.specs.declared.FirstLine.{FirstLine}
@@ -29,9 +27,6 @@ valueOf Empty = 0
 valueOf Zero = 0
 valueOf (Number v) = v
 valueOf Bad = 0
-
-abbrev pub countsIn : CountsStruct → Counts
-countsIn c = record { instructions = c .instructions; rungs = c .rungs; longest = c .longest }
 
 -- V by the first line, and the text from `at` on
 pub record LineTaken (input : List ℕ) (r : Begun) : Type 0 where

@@ -7,17 +7,15 @@ use lib.ListN.{length, take, replicate}
 use Rattle.questions.specs.Bytes.{byte, bytes, decimal}
 use Rattle.questions.specs.Questions.{Refusal}
 use Rattle.rungs.specs.Records.{RungRecord}
-use Rattle.rungs.specs.Buffers.{Buffers, buffers}
+use Rattle.rungs.specs.Buffers.{Buffers, buffers, writtenWords, writtenRecords}
 use Rattle.ladder.specs.Kept.{Kept}
 use Rattle.grammar.specs.Reader.{read, stuck, numberOf}
-use Rattle.text.specs.Read.{readText, kept}
+use Rattle.text.specs.Read.{readText, kept, writtenKept}
 use Rattle.text.specs.Read.{refused as readRefused}
-use Rattle.text.specs.Theorems.{writtenKept}
 use Rattle.list.specs.Listing.{fixedNames, listing, written}
 use Rattle.list.specs.Listing.{refused as listingRefused}
 use Rattle.translation.specs.TranslateKept.{Counts, translateKept, translated}
 use Rattle.translation.specs.TranslateKept.{refused as translateRefused}
-use Rattle.translation.specs.Calls.{writtenWords, writtenRecords}
 
 -- "The first line is what stands before the first LF, or all of the input where none is; the text is what follows."
 unfoldable pub firstLine : List ℕ → List ℕ
@@ -56,7 +54,7 @@ printedKept vars k =
     let t = translateKept vars k (blank 16384 256) in
     elim (t .answer) [
       | translateRefused refusal ↦ refusalLine refusal
-      | translated counts ↦ printedList vars (writtenWords (t .buffers) counts) (writtenRecords (t .buffers) counts) counts
+      | translated counts ↦ printedList vars (writtenWords (t .buffers) (counts .instructions)) (writtenRecords (t .buffers) (counts .rungs)) counts
     ]
 
 -- V and a text: "prints the listing and a count line, or "refused N place P""

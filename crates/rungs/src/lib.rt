@@ -1,5 +1,7 @@
-// Words and labels of ladders and lists: read, put and searched. Past the end of a slice there is nothing, and nothing is written.
+// Words and labels of ladders and lists: read, put and searched; and the larger of two numbers. Past the end of a slice there is
+// nothing, and nothing is written.
 ghost use mathlib.Core.Path.{_≡_};
+ghost use Prim.Native.Nat.{max};
 ghost use lib.ListN.{getD, set};
 ghost use Rattle.rungs.specs.Records.{search};
 
@@ -40,4 +42,11 @@ pub fn search_label(labels: &[u16], label: u32) -> usize
         i += 1;
     }
     i
+}
+
+// The larger of two.
+pub fn larger(a: usize, b: usize) -> usize
+    ensures { λ r. ⌜ r ≡ max a b ⌝ }
+{
+    if a < b { b } else { a }
 }

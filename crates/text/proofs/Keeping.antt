@@ -1,16 +1,16 @@
 -- Laws of rungs that are kept in buffers one after the other, and of what they take. Assumes nothing.
 use mathlib.Core.Path.{_≡_, refl, sym, ap, subst, _∙_}
 use mathlib.Core.Logic.{_⊎_, inl, inr}
-use mathlib.Core.List.{List, [], _∷_, _++_, map, flatMap, map-append, append-assoc, append-nil}
+use mathlib.Core.List.{List, [], _∷_, _++_, map, flatMap, map-append, append-assoc}
 use Prim.Native.Nat.{ℕ, zero, suc, _+_, _≤_, _<_, max}
-use native.Mathlib.Nat.{add-zero, zero-add}
+use native.Mathlib.Nat.{zero-add}
 use native.Mathlib.Omega.{arith}
 use borrow.Author.Tests.{eq-eqb, ne-eqb}
 use lib.Dec.{eqb}
 use lib.ListN.{length, take, set, length-append, length-map}
 use lib.Seq.{sets}
 use Rattle.rungs.specs.Records.{RungRecord, labels, offsets, lay, longest}
-use Rattle.rungs.specs.Laws.Layout.{sizes, pieces-length, lay-length}
+use Rattle.rungs.specs.Laws.Layout.{pieces-length, lay-length, flatMap-snoc, lay-snoc, longest-snoc}
 use Rattle.ladder.specs.Tree.{Rung, Ladder}
 use Rattle.ladder.specs.Kept.{rungWords, encode}
 use Rattle.grammar.specs.Reader.{pick, Parse, read, stuck, mapP, bind, lineOf, linesOf, textOf}
@@ -98,25 +98,6 @@ module _ (p : Parse Rung) (s : List ℕ) (at : ℕ) (r : LineParsed) (e x : List
         }
 
 -- ---- records and words of a ladder with one rung more
-
-flatMap-snoc : {A B : Type 0} (f : A → List B) (xs : List A) (y : A) → flatMap f (xs ++ y ∷ []) ≡ flatMap f xs ++ f y
-unfolding flatMap
-flatMap-snoc f [] y = append-nil (f y)
-flatMap-snoc f (x ∷ xs) y = rw (flatMap-snoc f xs y) (sym (append-assoc (f x) (flatMap f xs) (f y)))
-
-module _ {A : Type 0} (label size : A → ℕ) where
-  lay-snoc : (start : ℕ) (gs : List A) (g : A)
-      → lay label size start (gs ++ g ∷ []) ≡ lay label size start gs ++ record { label = label g; offset = start + sizes size gs; length = size g } ∷ []
-  unfolding lay sizes
-  lay-snoc start [] g = rw add-zero refl
-  lay-snoc start (h ∷ gs) g =
-      let e : start + size h + sizes size gs ≡ start + (size h + sizes size gs) = omega arith in
-      ap (λ rs. record { label = label h; offset = start; length = size h } ∷ rs) (lay-snoc (start + size h) gs g ∙ rw e refl)
-
-longest-snoc : (rs : List RungRecord) (r : RungRecord) → longest (rs ++ r ∷ []) ≡ max (longest rs) (r .length)
-unfolding longest
-longest-snoc [] r = omega arith
-longest-snoc (q ∷ rs) r = rw (longest-snoc rs r) (omega arith)
 
 module _ (done : Ladder) (g : Rung) where
   last-record : RungRecord

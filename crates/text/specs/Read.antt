@@ -6,9 +6,9 @@ use mathlib.Core.List.{List, [], _∷_}
 use lib.ListN.{length}
 use Rattle.questions.specs.Questions.{Refusal, firstNo, question1, question2, question13}
 use Rattle.questions.specs.Refusals.{refusalOf}
-use Rattle.rungs.specs.Buffers.{Buffers, asBuffers, needs, writtenOver}
+use Rattle.rungs.specs.Buffers.{Buffers, asBuffers, needs, writtenOver, writtenWords, writtenRecords}
 use Rattle.ladder.specs.Tree.{Ladder}
-use Rattle.ladder.specs.Kept.{encode}
+use Rattle.ladder.specs.Kept.{Kept, encode}
 use Rattle.ladder.specs.Questions.{question5, question6, question7, question8}
 use Rattle.grammar.specs.Reader.{read, stuck, textOf}
 use Rattle.grammar.specs.Questions.{question3}
@@ -41,6 +41,10 @@ readText vars text lent =
       | some refusal ↦ record { answer = refused refusal; buffers = lent }
       | none ↦ record { answer = kept (length (new .words)) (length gs); buffers = writtenOver new lent }
     ]
+
+-- the words and records that Read wrote, by its counts
+unfoldable pub writtenKept : Buffers → ℕ → ℕ → Kept
+writtenKept b words rungs = record { words = writtenWords b words; records = writtenRecords b rungs }
 
 -- document 01's values for each case of the enum TextRead
 unfoldable pub answerOf : TextRead → ReadAnswer

@@ -3,20 +3,14 @@ use Prim.Native.Nat.{ℕ}
 use mathlib.Core.Path.{_≡_}
 use mathlib.Core.Option.{none}
 use mathlib.Core.List.{List}
-use lib.ListN.{take}
 use Rattle.questions.specs.Questions.{Refusal}
-use Rattle.rungs.specs.Records.{rowOf}
 use Rattle.rungs.specs.Buffers.{Buffers}
-use Rattle.ladder.specs.Kept.{Kept, encode}
+use Rattle.ladder.specs.Kept.{encode}
 use Rattle.ladder.specs.Questions.{question4, question9, ladderAnswer}
 use Rattle.grammar.specs.Grammar.{IsText}
 use Rattle.grammar.specs.Theorems.{scratch-always, kept-always}
-use Rattle.text.specs.Read.{ladderOf, kept, refused, readText}
+use Rattle.text.specs.Read.{ladderOf, kept, refused, readText, writtenKept}
 use Rattle.text.specs.Laws.Reads.{refused-same, first-encoded, in-grammar, encoded-accepted}
-
--- the words and records that Read wrote, by its counts
-unfoldable pub writtenKept : Buffers → ℕ → ℕ → Kept
-writtenKept b words rungs = record { words = take words (b .words); records = rowOf (take rungs (b .labels)) (take rungs (b .offsets)) (take rungs (b .lengths)) }
 
 -- where Read took the text, with these counts
 module _ (vars : ℕ) (text : List ℕ) (lent : Buffers) (words rungs : ℕ) (taken : readText vars text lent .answer ≡ kept words rungs) where
@@ -26,7 +20,6 @@ module _ (vars : ℕ) (text : List ℕ) (lent : Buffers) (words rungs : ℕ) (ta
 
   -- What Read writes are the words and records of that ladder.
   pub written-exactly : writtenKept (readText vars text lent .buffers) words rungs ≡ encode (ladderOf text)
-  unfolding writtenKept
   written-exactly = first-encoded vars text lent words rungs taken
 
   -- What Read writes gets a "yes" to question 4.

@@ -3,48 +3,31 @@ use Prim.Native.Nat.{ℕ, _≤_, min}
 use native.Mathlib.Omega.{arith}
 use mathlib.Core.Path.{_≡_, refl, sym, ap, subst, _∙_}
 use mathlib.Core.Option.{none, some}
-use mathlib.Core.List.{List, [], _∷_}
+use mathlib.Core.List.{List}
 use lib.Dec.{leb, leb→le}
 use mir.Facts.{and-yes}
 use lib.ListN.{length}
-use Rattle.questions.specs.Questions.{Answer, Refusal, firstNo, question1, question2, question13}
+use Rattle.questions.specs.Questions.{Answer, question1, question2}
 use Rattle.questions.specs.Laws.Answers.{first-yes, later-yes, ask-passed}
 use Rattle.questions.specs.Refusals.{refusalOf}
 use Rattle.questions.specs.declared.Refusal.{Refusal as RefusalCase}
 use Rattle.rungs.specs.Records.{RungRecord}
-use Rattle.rungs.specs.Buffers.{Buffers, buffers, asBuffers, needs, writtenOver}
+use Rattle.rungs.specs.Buffers.{Buffers, buffers, asBuffers}
 use Rattle.rungs.specs.Laws.Layout.{lay-length}
 use Rattle.rows.specs.Rows.{mostRungs, scattered}
 use Rattle.rows.specs.Laws.Written.{same-asked, few-written, within-written, fields, same-refused, same-written}
 use Rattle.ladder.specs.Tree.{Ladder}
 use Rattle.ladder.specs.Kept.{rungWords, encode}
-use Rattle.ladder.specs.Questions.{sizesInRange, question5, question6, question7, question8}
+use Rattle.ladder.specs.Questions.{sizesInRange, question5}
 use Rattle.grammar.specs.Questions.{question3}
-use Rattle.text.specs.Read.{ladderOf, keptBuffers, ReadAnswer, kept, refused, readText, ReadDone}
+use Rattle.text.specs.Read.{ladderOf, kept, readText, ReadDone}
 use Rattle.text.specs.Read.{answerOf as readOf}
+use Rattle.text.specs.Laws.Reads.{not-both, before, asked, call-refused, call-kept, all-yes, rungs-count}
 use Rattle.text.specs.declared.Counts.{Counts}
 use Rattle.text.specs.declared.TextRead.{TextRead}
 use Rattle.text.specs.declared.TextRead.the-variants.{Kept as KeptCase, Refused as RefusedCase}
 use Rattle.text_rows.specs.Parts.{FieldsRead}
 use Rattle.text_rows.specs.declared.ReadFields.{ReadFields}
-
-pub room-few : (room lent : ℕ) → room ≡ min mostRungs lent → room ≤ mostRungs
-room-few room lent e = omega (arith, e)
-
--- the questions before 13 as one
-first-join : (a b c d e f g h : Answer) → firstNo (a ∷ b ∷ c ∷ d ∷ e ∷ f ∷ g ∷ h ∷ []) ≡ firstNo (firstNo (a ∷ b ∷ c ∷ d ∷ e ∷ f ∷ g ∷ []) ∷ h ∷ [])
-unfolding firstNo
-first-join (some x) b c d e f g h = refl
-first-join none (some x) c d e f g h = refl
-first-join none none (some x) d e f g h = refl
-first-join none none none (some x) e f g h = refl
-first-join none none none none (some x) f g h = refl
-first-join none none none none none (some x) g h = refl
-first-join none none none none none none (some x) h = refl
-first-join none none none none none none none h = refl
-
-not-both : (words rungs : ℕ) (r : Refusal) → kept words rungs ≡ refused r → ⊥
-not-both words rungs r e = let z : _≡_ {A = ℕ} 0 1 = cc in omega arith
 
 module _ (vars : ℕ) (text : List ℕ) where
   abbrev gs : Ladder
@@ -56,31 +39,17 @@ module _ (vars : ℕ) (text : List ℕ) where
   abbrev nw : List ℕ
   nw = encode gs .words
 
-  abbrev before : Answer
-  before = firstNo (question1 vars ∷ question2 (length text) ∷ question3 text ∷ question5 gs ∷ question6 vars gs ∷ question7 gs ∷ question8 gs ∷ [])
-
-  abbrev asked : Buffers → Answer
-  asked lent = firstNo (before ∷ question13 (needs (keptBuffers gs) lent) ∷ [])
-
   rungs-laid : length ks ≡ length gs
   unfolding encode
   rungs-laid = lay-length (λ g. g .label) (λ g. length (rungWords g)) 0 gs
 
-  pub few-rungs : before ≡ none → length ks ≤ mostRungs
+  pub few-rungs : before vars text ≡ none → length ks ≤ mostRungs
   unfolding question5 sizesInRange
   few-rungs e =
       let five = first-yes (question5 gs) _ (later-yes (question3 text) _ (later-yes (question2 (length text)) _ (later-yes (question1 vars) _ e))) in
       let n = rungs-laid in
       let l = leb→le (length gs) mostRungs (and-yes (leb (length gs) mostRungs) _ (ask-passed 5 _ five) .0) in
       omega arith
-
-  call-refused : (lent : Buffers) (r : Refusal) → asked lent ≡ some r → readText vars text lent ≡ record { answer = refused r; buffers = lent }
-  unfolding readText
-  call-refused lent r e = rw (first-join (question1 vars) (question2 (length text)) (question3 text) (question5 gs) (question6 vars gs) (question7 gs) (question8 gs) (question13 (needs (keptBuffers gs) lent)), e, readText)
-
-  call-kept : (lent : Buffers) → asked lent ≡ none → readText vars text lent ≡ record { answer = kept (length (keptBuffers gs .words)) (length gs); buffers = writtenOver (keptBuffers gs) lent }
-  unfolding readText
-  call-kept lent e = rw (first-join (question1 vars) (question2 (length text)) (question3 text) (question5 gs) (question6 vars gs) (question7 gs) (question8 gs) (question13 (needs (keptBuffers gs) lent)), e, readText)
 
   -- Read, done on a copy of as many fields as a row of `lent` records has room for
   module _ (words : List ℕ) (lent : ℕ) (zl zo zn : List ℕ) (el : length zl ≡ min mostRungs lent) (eo : length zo ≡ min mostRungs lent) (en : length zn ≡ min mostRungs lent)
@@ -89,62 +58,57 @@ module _ (vars : ℕ) (text : List ℕ) where
     lends = buffers words zl zo zn
 
     abbrev fieldsRead : TextRead → ℕ → ReadFields
-    fieldsRead answer k = record { answer = answer; rows = fields before nw ks few-rungs words lent zl zo zn el eo en words′ ls os ns rest k }
+    fieldsRead answer k = record { answer = answer; rows = fields (before vars text) nw ks few-rungs words lent zl zo zn el eo en words′ ls os ns rest k }
 
     abbrev RowDone : ReadFields → Type 0
     RowDone x = (rs : List RungRecord) → length rs ≡ lent → ReadDone (readText vars text (asBuffers words rs)) (x .answer) (asBuffers words′ (scattered (x .rows .kept) (x .rows) rs))
 
-    still-asked : (rs : List RungRecord) → length rs ≡ lent → asked lends ≡ asked (asBuffers words rs)
-    still-asked = same-asked before nw ks few-rungs words lent zl zo zn el eo en
+    still-asked : (rs : List RungRecord) → length rs ≡ lent → asked vars text lends ≡ asked vars text (asBuffers words rs)
+    still-asked = same-asked (before vars text) nw ks few-rungs words lent zl zo zn el eo en
 
     module _ (x : RefusalCase) (is : r ≡ RefusedCase x) where
       refused-done : RowDone (fieldsRead r 0)
       unfolding readOf
-      refused-done rs e = go (asked lends) refl
+      refused-done rs e = go (asked vars text lends) refl
         where
-          go : (a : Answer) → asked lends ≡ a → ReadDone (readText vars text (asBuffers words rs)) r (asBuffers words′ (scattered 0 (fieldsRead r 0 .rows) rs))
+          go : (a : Answer) → asked vars text lends ≡ a → ReadDone (readText vars text (asBuffers words rs)) r (asBuffers words′ (scattered 0 (fieldsRead r 0 .rows) rs))
           go (some y) q =
-              let small = call-refused lends y q in
-              let whole = call-refused (asBuffers words rs) y (sym (still-asked rs e) ∙ q) in
+              let small = call-refused vars text lends y q in
+              let whole = call-refused vars text (asBuffers words rs) y (sym (still-asked rs e) ∙ q) in
               record {
                 answer = done .answer ∙ ap (λ k. k .answer) small ∙ sym (ap (λ k. k .answer) whole);
-                same-buffers = same-refused before nw ks few-rungs words lent zl zo zn el eo en words′ ls os ns rest (done .same-buffers ∙ ap (λ k. k .buffers) small) rs
+                same-buffers = same-refused (before vars text) nw ks few-rungs words lent zl zo zn el eo en words′ ls os ns rest (done .same-buffers ∙ ap (λ k. k .buffers) small) rs
                     ∙ sym (ap (λ k. k .buffers) whole);
               }
-          go none q = absurd (not-both _ _ (refusalOf x) (sym (ap (λ k. k .answer) (call-kept lends q)) ∙ sym (done .answer) ∙ ap readOf is))
+          go none q = absurd (not-both _ _ (refusalOf x) (sym (ap (λ k. k .answer) (call-kept vars text lends q)) ∙ sym (done .answer) ∙ ap readOf is))
 
       pub read-refused : FieldsRead vars text words lent (fieldsRead r 0) words′
       read-refused = record { same = refused-done; few = omega arith; within = omega arith }
 
     module _ (c : Counts) (is : r ≡ KeptCase c) (same-l : length ls ≡ length zl) (same-o : length os ≡ length zo) (same-n : length ns ≡ length zn) where
-      was-kept : asked lends ≡ none
+      answer-is : readText vars text lends .answer ≡ kept (c .words) (c .rungs)
       unfolding readOf
-      was-kept = go (asked lends) refl
-        where
-          go : (a : Answer) → asked lends ≡ a → asked lends ≡ none
-          go none q = q
-          go (some y) q = absurd (not-both _ _ y (sym (ap readOf is) ∙ done .answer ∙ ap (λ k. k .answer) (call-refused lends y q)))
+      answer-is = sym (done .answer) ∙ ap readOf is
 
-      same-count : {a b a′ b′ : ℕ} → kept a b ≡ kept a′ b′ → b ≡ b′
-      same-count e = cc
+      was-kept : asked vars text lends ≡ none
+      was-kept = all-yes vars text lends (c .words) (c .rungs) answer-is
 
       rungs-are : c .rungs ≡ length ks
-      unfolding readOf
-      rungs-are = same-count (sym (ap readOf is) ∙ done .answer ∙ ap (λ k. k .answer) (call-kept lends was-kept)) ∙ sym rungs-laid
+      rungs-are = rungs-count vars text lends (c .words) (c .rungs) answer-is ∙ sym rungs-laid
 
       kept-done : RowDone (fieldsRead (KeptCase c) (length ks))
       kept-done rs e =
-          let small = call-kept lends was-kept in
-          let whole = call-kept (asBuffers words rs) (sym (still-asked rs e) ∙ was-kept) in
+          let small = call-kept vars text lends was-kept in
+          let whole = call-kept vars text (asBuffers words rs) (sym (still-asked rs e) ∙ was-kept) in
           record {
             answer = ap readOf (sym is) ∙ done .answer ∙ ap (λ k. k .answer) small ∙ sym (ap (λ k. k .answer) whole);
-            same-buffers = same-written before nw ks few-rungs words lent zl zo zn el eo en words′ ls os ns rest (done .same-buffers ∙ ap (λ k. k .buffers) small) same-l same-o same-n rs
+            same-buffers = same-written (before vars text) nw ks few-rungs words lent zl zo zn el eo en words′ ls os ns rest (done .same-buffers ∙ ap (λ k. k .buffers) small) same-l same-o same-n rs
                 ∙ sym (ap (λ k. k .buffers) whole);
           }
 
       pub read-kept : FieldsRead vars text words lent (fieldsRead (KeptCase c) (c .rungs)) words′
       read-kept = subst (λ (k : ℕ). FieldsRead vars text words lent (fieldsRead (KeptCase c) k) words′) (sym rungs-are) (record {
         same = kept-done;
-        few = few-written before nw ks few-rungs words lent zl zo zn el eo en was-kept;
-        within = within-written before nw ks few-rungs words lent zl zo zn el eo en was-kept;
+        few = few-written (before vars text) nw ks few-rungs words lent zl zo zn el eo en was-kept;
+        within = within-written (before vars text) nw ks few-rungs words lent zl zo zn el eo en was-kept;
       })

@@ -17,11 +17,11 @@ use Rattle.rungs.specs.Buffers.{Buffers, asBuffers, needs, written}
 use Rattle.rungs.specs.Laws.Layout.{lay-length}
 use Rattle.rungs.specs.Laws.Filling.{written-sets, labels-count, offsets-count, lengths-count, short-words, short-labels, short-offsets, short-lengths, enough, put-written}
 use Rattle.ladder.specs.Tree.{Ladder}
-use Rattle.ladder.specs.Kept.{Kept, rungWords, encode}
+use Rattle.ladder.specs.Kept.{Kept}
 use Rattle.ladder.specs.Questions.{ladderOf, ladderAnswer}
 use Rattle.ladder.specs.Held.{LadderHeld}
 use Rattle.ladder.specs.Laws.Accepting.{accepted}
-use Rattle.ladder.specs.Laws.Held.{held}
+use Rattle.ladder.specs.Laws.Held.{held, as-many}
 use Rattle.list.specs.Instruction.{instrWord}
 use Rattle.translation.specs.Translate.{rungCode, listRecords, translate}
 use Rattle.translation.specs.TranslateKept.{listBuffers, countsOf, translateKept, answerOf, TranslateDone}
@@ -84,8 +84,7 @@ module _ (vars : ℕ) (ws ls os ns : List ℕ) (lent : Buffers) where
     the-held = is-held vars ws ls os ns ok
 
     rungs-many : length os ≡ length gs
-    unfolding encode
-    rungs-many = ap length (the-held .same-offsets) ∙ length-map (encode gs .records) (λ r. r .offset) ∙ lay-length (λ g. g .label) (λ g. length (rungWords g)) 0 gs
+    rungs-many = as-many ws ls os gs the-held
 
     -- as many records as rungs
     records-many : length (translate vars gs .records) ≡ length os

@@ -2,18 +2,18 @@
 use mathlib.Core.Path.{_≡_, refl, sym, ap, subst, _∙_}
 use mathlib.Core.List.{List, [], _∷_, _++_, map, flatMap, map-append}
 use Prim.Native.Nat.{ℕ, zero, suc, _+_, _-_, _*_, _≤_, _<_, _^_, max}
-use native.Mathlib.Nat.{add-zero, zero-add}
+use native.Mathlib.Nat.{zero-add}
 use native.Mathlib.Numerals.{add-one}
 use native.Mathlib.Omega.{arith}
 use lib.ListN.{length, getD, take, set, length-map, length-set}
 use lib.Seq.{sets, length-take-le, take-all}
 use Rattle.questions.specs.Laws.Answers.{vars-in-range}
 use Rattle.rungs.specs.Records.{RungRecord, offsets, lay, startOf, longest}
-use Rattle.rungs.specs.Laws.Layout.{sizes, sizes-snoc, pieces-length, lay-length}
+use Rattle.rungs.specs.Laws.Layout.{sizes, sizes-snoc, pieces-length, lay-length, lay-snoc, longest-snoc}
 use Rattle.ladder.specs.Tree.{Rung, Ladder}
 use Rattle.ladder.specs.Kept.{rungWords, encode}
 use Rattle.ladder.specs.Held.{RungAt, LadderHeld}
-use Rattle.ladder.specs.Laws.Held.{Apart, rung-at}
+use Rattle.ladder.specs.Laws.Held.{Apart, as-many, rung-at}
 use Rattle.translation.specs.Translate.{rungCode, listRecords, translate}
 use Rattle.translation.specs.Parts.{CodePut, RungPut, LadderReady, LaidOut, startIn}
 use Rattle.translation.specs.Laws.Parts.{same-length}
@@ -45,19 +45,6 @@ sizeOf vars g = length (rungCode vars (λ l. 0) g)
 -- the records of the list's first k rungs
 abbrev pub firsts : ℕ → Ladder → ℕ → List RungRecord
 firsts vars gs k = lay (λ g. g .label) (sizeOf vars) 0 (take k gs)
-
-lay-snoc : {A : Type 0} (label size : A → ℕ) (start : ℕ) (gs : List A) (g : A)
-    → lay label size start (gs ++ g ∷ []) ≡ lay label size start gs ++ record { label = label g; offset = start + sizes size gs; length = size g } ∷ []
-unfolding lay sizes
-lay-snoc label size start [] g = rw add-zero refl
-lay-snoc label size start (h ∷ gs) g =
-    let e : start + size h + sizes size gs ≡ start + (size h + sizes size gs) = omega arith in
-    ap (λ rs. record { label = label h; offset = start; length = size h } ∷ rs) (lay-snoc label size (start + size h) gs g ∙ rw e refl)
-
-longest-snoc : (rs : List RungRecord) (r : RungRecord) → longest (rs ++ r ∷ []) ≡ max (longest rs) (r .length)
-unfolding longest
-longest-snoc [] r = omega arith
-longest-snoc (q ∷ rs) r = rw (longest-snoc rs r) (omega arith)
 
 sizes-some : {A : Type 0} (size : A → ℕ) (k : ℕ) (gs : List A) → sizes size (take k gs) ≤ sizes size gs
 unfolding sizes
@@ -112,10 +99,6 @@ module _ (vars : ℕ) (gs : Ladder) (k : ℕ) (n : Next gs k) where
   stored-length h b x v p q = stored h (λ r. r .length) b x v p q
 
 -- ---- what is known of a ready ladder
-
-pub as-many : (ws ls os : List ℕ) (gs : Ladder) → LadderHeld ws ls os gs → length os ≡ length gs
-unfolding encode
-as-many ws ls os gs held = ap length (held .same-offsets) ∙ length-map (encode gs .records) (λ r. r .offset) ∙ lay-length (λ g. g .label) (λ g. length (rungWords g)) 0 gs
 
 pub all-words : (ws ls os : List ℕ) (gs : Ladder) → LadderHeld ws ls os gs → length ws ≡ sizes wordsOf gs
 unfolding encode

@@ -1,6 +1,6 @@
 -- Laws of the loop that writes a ladder's list, rung by rung. Assumes nothing.
 use mathlib.Core.Path.{_≡_, refl, sym, ap, _∙_}
-use mathlib.Core.List.{List, [], _∷_, _++_, map, flatMap, map-append, append-assoc, append-nil}
+use mathlib.Core.List.{List, _++_, map, flatMap, map-append}
 use Prim.Native.Nat.{ℕ, _+_, _-_, _≤_, _<_}
 use native.Mathlib.Nat.{zero-add}
 use native.Mathlib.Omega.{arith}
@@ -9,27 +9,22 @@ use lib.Seq.{sets, length-sets}
 use Rattle.rungs.specs.Records.{RungRecord, lay, search, startOf}
 use Rattle.rungs.specs.Records.{labels as labelsOf, offsets as offsetsOf}
 use Rattle.rungs.specs.Buffers.{Buffers, asBuffers, putAll}
-use Rattle.rungs.specs.Laws.Layout.{sizes, lay-labels}
+use Rattle.rungs.specs.Laws.Layout.{sizes, lay-labels, flatMap-snoc}
 use Rattle.ladder.specs.Tree.{Ladder}
 use Rattle.ladder.specs.Held.{LadderHeld}
-use Rattle.ladder.specs.Laws.Held.{many}
+use Rattle.ladder.specs.Laws.Held.{many, as-many}
 use Rattle.list.specs.Instruction.{instrWord}
 use Rattle.translation.specs.Translate.{rungCode, listRecords, translate}
 use Rattle.translation.specs.TranslateKept.{listBuffers}
 use Rattle.translation.specs.Parts.{RungPut, LadderReady, ListPut, startIn}
 use Rattle.translation.specs.declared.code.Stands.{Stands}
 use Rattle.questions.specs.Laws.Stores.{sets-append}
-use Rattle.translation.proofs.Laying.{sizeOf, firsts, Next, upto-one, stored-label, stored-offset, stored-length, as-many, in-ladder, nextOf, few-rungs}
+use Rattle.translation.proofs.Laying.{sizeOf, firsts, Next, upto-one, stored-label, stored-offset, stored-length, in-ladder, nextOf, few-rungs}
 use Rattle.translation.proofs.Laying.{Before, before-first, few-put, one-put, one-size, before-more, all-taken, all-firsts, code-length}
 
 -- the words of the list's first k rungs, whose jumps lead where `start` says
 abbrev pub firstWords : ℕ → (ℕ → ℕ) → Ladder → ℕ → List ℕ
 firstWords vars start gs k = map instrWord (flatMap (rungCode vars start) (take k gs))
-
-flatMap-snoc : {A B : Type 0} (f : A → List B) (xs : List A) (y : A) → flatMap f (xs ++ y ∷ []) ≡ flatMap f xs ++ f y
-unfolding flatMap
-flatMap-snoc f [] y = append-nil (f y)
-flatMap-snoc f (x ∷ xs) y = rw (flatMap-snoc f xs y) (sym (append-assoc (f x) (flatMap f xs) (f y)))
 
 module _ (vars : ℕ) (start : ℕ → ℕ) (gs : Ladder) (k : ℕ) where
   words-long : length (firstWords vars start gs k) ≡ sizes (sizeOf vars) (take k gs)

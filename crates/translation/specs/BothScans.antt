@@ -6,14 +6,13 @@ use mathlib.Core.List.{List, _++_}
 use lib.ListN.{length, take, drop}
 use Rattle.questions.specs.Questions.{Refusal}
 use Rattle.questions.specs.Refusals.{refusalOf}
-use Rattle.rungs.specs.Buffers.{Buffers}
+use Rattle.rungs.specs.Buffers.{Buffers, writtenWords, writtenRecords}
 use Rattle.ladder.specs.Kept.{Kept}
 use Rattle.ladder.specs.LadderScan.{ladderScan}
 use Rattle.ladder.specs.LadderScan.{ScanAnswer as LadderAnswer, answerOf as ladderAnswerOf}
 use Rattle.list.specs.ListScan.{listScan}
 use Rattle.list.specs.ListScan.{ScanAnswer as ListAnswer, answerOf as listAnswerOf}
 use Rattle.translation.specs.TranslateKept.{Counts, translateKept, translated, refused}
-use Rattle.translation.specs.Calls.{writtenWords, writtenRecords}
 use Rattle.translation.specs.declared.BothScanned.{BothScanned}
 use Rattle.translation.specs.declared.BothScanned.the-variants.{Scanned as ScannedCase, Refused as RefusedCase}
 
@@ -43,7 +42,7 @@ pub record BothCall : Type 0 where
 unfoldable pub scanBoth : ℕ → Kept → List ℕ → Lent → ℕ → ℕ → Buffers → Counts → BothCall
 scanBoth vars k table lent n w written counts =
     let ladder = ladderScan vars k (copied table (lent .ladderTable)) n in
-    let list = listScan vars (writtenWords written counts) (writtenRecords written counts) (copied table (lent .listTable)) w in
+    let list = listScan vars (writtenWords written (counts .instructions)) (writtenRecords written (counts .rungs)) (copied table (lent .listTable)) w in
     record { answer = both (ladder .answer) (list .answer); lent = record { ladderTable = ladder .table; listTable = list .table; buffers = written } }
 
 -- Translate, then Ladder scan under the rung watchdog n and List scan under the instruction watchdog w. A refusal of Translate leaves all that was lent.

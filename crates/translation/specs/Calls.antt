@@ -8,8 +8,8 @@ use lib.ListN.{take}
 use Rattle.questions.specs.Questions.{question12, question13, mostRungWatchdog, mostInstructionWatchdog}
 use Rattle.table.specs.Halt.{Halt, Ended, Stopped}
 use Rattle.table.specs.Questions.{question11}
-use Rattle.rungs.specs.Records.{RungRecord, rowOf}
-use Rattle.rungs.specs.Buffers.{Buffers, needs}
+use Rattle.rungs.specs.Records.{RungRecord}
+use Rattle.rungs.specs.Buffers.{Buffers, needs, writtenWords, writtenRecords}
 use Rattle.ladder.specs.Kept.{Kept}
 use Rattle.ladder.specs.Questions.{ladderOf, ladderAnswer}
 use Rattle.ladder.specs.LadderScan.{ladderScan}
@@ -27,13 +27,6 @@ pub record Given (vars : ℕ) (k : Kept) (lent : Buffers) (table : List ℕ) (n 
   pub room : question13 (needs (listBuffers (translate vars (ladderOf k))) lent) ≡ none
   pub legal : question11 (record { vars = vars; bytes = table }) ≡ none
   pub watchdog : question12 mostRungWatchdog n ≡ none
-
--- "In demand 3 a ladder's list is what Translate writes for it, records included."
-unfoldable pub writtenWords : Buffers → Counts → List ℕ
-writtenWords b counts = take (counts .instructions) (b .words)
-
-unfoldable pub writtenRecords : Buffers → Counts → List RungRecord
-writtenRecords b counts = rowOf (take (counts .rungs) (b .labels)) (take (counts .rungs) (b .offsets)) (take (counts .rungs) (b .lengths))
 
 -- The ladder scan answers Ended with k rungs entered: "the list scan answers Ended too". "Then the V variables are equal in the two copies, byte for byte,
 -- the list scan's rungs entered are the same k, and its instructions carried out are at least 2 × k and at most k × L".
@@ -65,5 +58,6 @@ pub record ScansAgree (vars : ℕ) (k : Kept) (words : List ℕ) (records : List
 pub record CallsAgree (vars : ℕ) (k : Kept) (lent : Buffers) (table : List ℕ) (n : ℕ) : Type 0 where
   pub counts : Counts
   pub translated : translateKept vars k lent .answer ≡ translated counts
-  pub scans : ScansAgree vars k (writtenWords (translateKept vars k lent .buffers) counts) (writtenRecords (translateKept vars k lent .buffers) counts)
+  -- "In demand 3 a ladder's list is what Translate writes for it, records included."
+  pub scans : ScansAgree vars k (writtenWords (translateKept vars k lent .buffers) (counts .instructions)) (writtenRecords (translateKept vars k lent .buffers) (counts .rungs))
       (counts .longest) table n

@@ -6,6 +6,7 @@ pub mod Scans
 pub mod Lists
 pub mod Legal
 pub mod Exact
+pub mod Answers
 pub mod Calls
 pub mod Boths
 pub mod Many

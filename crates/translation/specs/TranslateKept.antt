@@ -13,6 +13,7 @@ use Rattle.ladder.specs.Questions.{ladderOf, ladderAnswer}
 use Rattle.list.specs.Instruction.{instrWord}
 use Rattle.list.specs.Machine.{InstructionList}
 use Rattle.translation.specs.Translate.{translate}
+use Rattle.translation.specs.declared.Counts.{Counts as CountsStruct}
 use Rattle.translation.specs.declared.Translated.{Translated}
 use Rattle.translation.specs.declared.Translated.the-variants.{Written as WrittenCase, Refused as RefusedCase}
 
@@ -47,9 +48,13 @@ translateKept vars k lent =
       | none ↦ record { answer = translated (countsOf list); buffers = writtenOver new lent }
     ]
 
+-- the counts in the struct Counts
+abbrev pub countsIn : CountsStruct → Counts
+countsIn c = record { instructions = c .instructions; rungs = c .rungs; longest = c .longest }
+
 -- document 01's values for each case of the enum Translated
 unfoldable pub answerOf : Translated → TranslateAnswer
-answerOf (WrittenCase c) = translated (record { instructions = c .instructions; rungs = c .rungs; longest = c .longest })
+answerOf (WrittenCase c) = translated (countsIn c)
 answerOf (RefusedCase refusal) = refused (refusalOf refusal)
 
 -- the promise of translate: answer and buffers are those of the definition

@@ -1,6 +1,4 @@
 // A ladder's list, rung by rung: first laid out, then written.
-ghost use mathlib.Core.Path.{_≡_};
-ghost use Prim.Native.Nat.{max};
 ghost use Rattle.rungs.specs.Buffers.{buffers};
 ghost use Rattle.translation.specs.Parts.{LadderReady, LaidOut, ListPut};
 use crate::code;
@@ -31,7 +29,7 @@ pub fn lay_out(
         starts[rung] = instructions as u16;
         let at = offsets[rung] as usize;
         let stands = code::rung_code(vars, words, at, labels, starts, &mut none, instructions);
-        longest = larger(longest, stands.put - instructions);
+        longest = rungs::larger(longest, stands.put - instructions);
         instructions = stands.put;
         rung += 1;
     }
@@ -39,12 +37,6 @@ pub fn lay_out(
         instructions,
         longest,
     }
-}
-
-fn larger(a: usize, b: usize) -> usize
-    ensures { λ r. ⌜ r ≡ max a b ⌝ }
-{
-    if a < b { b } else { a }
 }
 
 // The list's instructions and records.

@@ -13,7 +13,7 @@ use Rattle.questions.specs.Laws.Answers.{ask-passed}
 use Rattle.questions.specs.Refusals.{refusalOf}
 use Rattle.questions.specs.declared.Refusal.{Refusal as RefusalCase}
 use Rattle.rungs.specs.Records.{RungRecord, rowOf}
-use Rattle.rungs.specs.Buffers.{Buffers, buffers, asBuffers, needs, writtenOver}
+use Rattle.rungs.specs.Buffers.{Buffers, buffers, asBuffers, needs}
 use Rattle.rungs.specs.Laws.Layout.{lay-length}
 use Rattle.rows.specs.Rows.{mostRungs, gathered, scattered}
 use Rattle.rows.specs.Laws.Gathered.{gathered-whole}
@@ -25,23 +25,15 @@ use Rattle.ladder.specs.Laws.Accepting.{accepted}
 use Rattle.list.specs.Instruction.{instrWord}
 use Rattle.list.specs.Machine.{InstructionList}
 use Rattle.translation.specs.Translate.{listRecords, translate}
-use Rattle.translation.specs.TranslateKept.{Counts, countsOf, listBuffers, TranslateAnswer, translated, refused, translateKept, TranslateDone}
+use Rattle.translation.specs.TranslateKept.{countsOf, listBuffers, translated, translateKept, countsIn, TranslateDone}
 use Rattle.translation.specs.TranslateKept.{answerOf as translatedOf}
+use Rattle.translation.specs.Laws.Answers.{not-both, asked, call-refused, call-written, all-yes, counts-are}
 use Rattle.translation.specs.declared.Counts.{Counts as CountsStruct}
 use Rattle.translation.specs.declared.Translated.{Translated}
 use Rattle.translation.specs.declared.Translated.the-variants.{Written as WrittenCase, Refused as RefusedCase}
 use Rattle.ladder_rows.specs.Parts.{longHolds, LongRefused}
 use Rattle.translation_rows.specs.Parts.{refusedFields, FieldsTranslated}
 use Rattle.translation_rows.specs.declared.TranslatedFields.{TranslatedFields}
-
-pub room-few : (room lent : ℕ) → room ≡ min mostRungs lent → room ≤ mostRungs
-room-few room lent e = omega (arith, e)
-
-not-both : (c : Counts) (r : Refusal) → _≡_ {A = TranslateAnswer} (translated c) (refused r) → ⊥
-not-both c r e = let z : _≡_ {A = ℕ} 0 1 = cc in omega arith
-
-same-count : {c d : Counts} → _≡_ {A = TranslateAnswer} (translated c) (translated d) → c .rungs ≡ d .rungs
-same-count e = cc
 
 module _ (vars : ℕ) (k : Kept) where
   abbrev list : InstructionList
@@ -53,9 +45,6 @@ module _ (vars : ℕ) (k : Kept) where
   abbrev nw : List ℕ
   nw = map instrWord (list .code)
 
-  abbrev asked : Buffers → Answer
-  asked lent = firstNo (ladderAnswer vars k ∷ question13 (needs (listBuffers list) lent) ∷ [])
-
   rungs-laid : length ks ≡ length (ladderOf k)
   unfolding translate listRecords
   rungs-laid = lay-length _ _ 0 (ladderOf k)
@@ -66,14 +55,6 @@ module _ (vars : ℕ) (k : Kept) where
       let n = rungs-laid in
       let l = leb→le (length (ladderOf k)) mostRungs (and-yes (leb (length (ladderOf k)) mostRungs) _ (ask-passed 5 _ (accepted vars k e .1 .sizes)) .0) in
       omega arith
-
-  call-refused : (lent : Buffers) (r : Refusal) → asked lent ≡ some r → translateKept vars k lent ≡ record { answer = refused r; buffers = lent }
-  unfolding translateKept
-  call-refused lent r e = rw (e, translateKept)
-
-  call-written : (lent : Buffers) → asked lent ≡ none → translateKept vars k lent ≡ record { answer = translated (countsOf list); buffers = writtenOver (listBuffers list) lent }
-  unfolding translateKept
-  call-written lent e = rw (e, translateKept)
 
   -- Translate, done on a copy of as many fields as a row of `lent` records has room for
   module _ (words : List ℕ) (lent : ℕ) (zl zo zn : List ℕ) (el : length zl ≡ min mostRungs lent) (eo : length zo ≡ min mostRungs lent) (en : length zn ≡ min mostRungs lent)
@@ -89,45 +70,44 @@ module _ (vars : ℕ) (k : Kept) where
       pub few : m ≤ mostRungs
       pub within : m ≤ lent
 
-    still-asked : (rs : List RungRecord) → length rs ≡ lent → asked lends ≡ asked (asBuffers words rs)
+    still-asked : (rs : List RungRecord) → length rs ≡ lent → asked vars k lends ≡ asked vars k (asBuffers words rs)
     still-asked = same-asked (ladderAnswer vars k) nw ks few-rungs words lent zl zo zn el eo en
 
     module _ (x : RefusalCase) (is : r ≡ RefusedCase x) where
       refused-done : (rs : List RungRecord) → length rs ≡ lent → TranslateDone (translateKept vars k (asBuffers words rs)) r (asBuffers words′ (scattered 0 (fieldsWritten 0) rs))
       unfolding translatedOf
-      refused-done rs e = go (asked lends) refl
+      refused-done rs e = go (asked vars k lends) refl
         where
-          go : (a : Answer) → asked lends ≡ a → TranslateDone (translateKept vars k (asBuffers words rs)) r (asBuffers words′ (scattered 0 (fieldsWritten 0) rs))
+          go : (a : Answer) → asked vars k lends ≡ a → TranslateDone (translateKept vars k (asBuffers words rs)) r (asBuffers words′ (scattered 0 (fieldsWritten 0) rs))
           go (some y) q =
-              let small = call-refused lends y q in
-              let whole = call-refused (asBuffers words rs) y (sym (still-asked rs e) ∙ q) in
+              let small = call-refused vars k lends y q in
+              let whole = call-refused vars k (asBuffers words rs) y (sym (still-asked rs e) ∙ q) in
               record {
                 answer = done .answer ∙ ap (λ c. c .answer) small ∙ sym (ap (λ c. c .answer) whole);
                 same-buffers = same-refused (ladderAnswer vars k) nw ks few-rungs words lent zl zo zn el eo en words′ ls os ns rest (done .same-buffers ∙ ap (λ c. c .buffers) small) rs
                     ∙ sym (ap (λ c. c .buffers) whole);
               }
-          go none q = absurd (not-both _ (refusalOf x) (sym (ap (λ c. c .answer) (call-written lends q)) ∙ sym (done .answer) ∙ ap translatedOf is))
+          go none q = absurd (not-both _ (refusalOf x) (sym (ap (λ c. c .answer) (call-written vars k lends q)) ∙ sym (done .answer) ∙ ap translatedOf is))
 
       pub row-refused : RowDone r 0
       row-refused = record { same = refused-done; few = omega arith; within = omega arith }
 
     module _ (c : CountsStruct) (is : r ≡ WrittenCase c) (same-l : length ls ≡ length zl) (same-o : length os ≡ length zo) (same-n : length ns ≡ length zn) where
-      was-written : asked lends ≡ none
+      answer-is : translateKept vars k lends .answer ≡ translated (countsIn c)
       unfolding translatedOf
-      was-written = go (asked lends) refl
-        where
-          go : (a : Answer) → asked lends ≡ a → asked lends ≡ none
-          go none q = q
-          go (some y) q = absurd (not-both _ y (sym (ap translatedOf is) ∙ done .answer ∙ ap (λ c. c .answer) (call-refused lends y q)))
+      answer-is = sym (done .answer) ∙ ap translatedOf is
+
+      was-written : asked vars k lends ≡ none
+      was-written = all-yes vars k lends (countsIn c) answer-is
 
       rungs-are : c .rungs ≡ length ks
-      unfolding translatedOf countsOf
-      rungs-are = same-count (sym (ap translatedOf is) ∙ done .answer ∙ ap (λ c. c .answer) (call-written lends was-written))
+      unfolding countsOf
+      rungs-are = ap (λ d. d .rungs) (counts-are vars k lends (countsIn c) answer-is)
 
       written-done : (rs : List RungRecord) → length rs ≡ lent → TranslateDone (translateKept vars k (asBuffers words rs)) (WrittenCase c) (asBuffers words′ (scattered (length ks) (fieldsWritten (length ks)) rs))
       written-done rs e =
-          let small = call-written lends was-written in
-          let whole = call-written (asBuffers words rs) (sym (still-asked rs e) ∙ was-written) in
+          let small = call-written vars k lends was-written in
+          let whole = call-written vars k (asBuffers words rs) (sym (still-asked rs e) ∙ was-written) in
           record {
             answer = ap translatedOf (sym is) ∙ done .answer ∙ ap (λ c. c .answer) small ∙ sym (ap (λ c. c .answer) whole);
             same-buffers = same-written (ladderAnswer vars k) nw ks few-rungs words lent zl zo zn el eo en words′ ls os ns rest (done .same-buffers ∙ ap (λ c. c .buffers) small) same-l same-o same-n rs

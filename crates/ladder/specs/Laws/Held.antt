@@ -62,6 +62,10 @@ module _ (ws ls os : List ℕ) (gs : Ladder) (held : LadderHeld ws ls os gs) whe
   pub many : length ls ≡ length gs
   many = ap length (held .same-labels) ∙ length-map gs (λ g. g .label)
 
+  pub as-many : length os ≡ length gs
+  unfolding encode
+  as-many = ap length (held .same-offsets) ∙ length-map (encode gs .records) (λ r. r .offset) ∙ lay-length (λ g. g .label) (λ g. length (rungWords g)) 0 gs
+
   -- the words of the rung at place k stand from its offset on
   pub rung-at : (k : ℕ) → k < length gs → (a : Apart gs k) → RungAt ws (getD os k 0) (a .rung)
   unfolding encode flatMap

@@ -95,6 +95,10 @@ written-row nw ws ks rs i = record {
   lengths = written-field (λ (r : RungRecord). r .length) ks rs i;
 }
 
+-- a copy of the fields has room for no more than are copied
+pub room-few : (room lent : ℕ) → room ≡ min mostRungs lent → room ≤ mostRungs
+room-few room lent e = omega (arith, e)
+
 -- ---- a call whose last question is 13, and which writes words and records, done on a copy of the fields of a row of `lent` records
 
 module _ (before : Answer) (nw : List ℕ) (ks : List RungRecord) (few : before ≡ none → length ks ≤ mostRungs) (words : List ℕ) (lent : ℕ) (zl zo zn : List ℕ)

@@ -1,7 +1,8 @@
 -- `text_rows::read_fields` meets its contract: Read's promise on a copy of the fields is the promise on the row. Assumes nothing.
 use mathlib.Core.Path.{sym, _∙_}
 use lib.Seq.{length-take-le}
-use Rattle.text_rows.proofs.Answers.{room-few, read-refused, read-kept}
+use Rattle.rows.specs.Laws.Written.{room-few}
+use Rattle.text_rows.proofs.Answers.{read-refused, read-kept}
 use borrow.Author.Needs.{needs}
 use Rattle.text_rows.proofs.read_fields.Statement.{statement}
 use Rattle.text_rows.proofs.read_fields.Tie as tie

@@ -5,12 +5,13 @@ use mathlib.Core.Path.{_≡_, refl, ap, _∙_}
 use mathlib.Core.List.{List, append-nil}
 use lib.ListN.{length, drop-of-length-le}
 use lib.Seq.{take-all}
+use Rattle.rungs.specs.Buffers.{writtenWords, writtenRecords}
 use Rattle.ladder.specs.Kept.{Kept}
 use Rattle.ladder.specs.LadderScan.{ladderScan}
 use Rattle.list.specs.ListScan.{listScan}
 use Rattle.list.specs.ListScan.{ScanCall as ListScanCall}
 use Rattle.translation.specs.TranslateKept.{translateKept}
-use Rattle.translation.specs.Calls.{CallsAgree, writtenWords, writtenRecords}
+use Rattle.translation.specs.Calls.{CallsAgree}
 use Rattle.translation.specs.BothScans.{copied, Lent, BothCall, both, scanBoth, bothScans}
 use Rattle.translation.specs.BothAgree.{BothGiven, BothAgree}
 use Rattle.translation.specs.Laws.Calls.{calls-alike}
@@ -26,12 +27,12 @@ module _ (vars : ℕ) (k : Kept) (table : List ℕ) (lent : Lent) (n : ℕ) (giv
   agree = calls-alike vars k (lent .buffers) table n (given .given)
 
   abbrev words : List ℕ
-  words = writtenWords (translateKept vars k (lent .buffers) .buffers) (agree .counts)
+  words = writtenWords (translateKept vars k (lent .buffers) .buffers) (agree .counts .instructions)
 
   abbrev call : BothCall
   call =
       let ladder = ladderScan vars k table n in
-      let list = listScan vars words (writtenRecords (translateKept vars k (lent .buffers) .buffers) (agree .counts)) table w in
+      let list = listScan vars words (writtenRecords (translateKept vars k (lent .buffers) .buffers) (agree .counts .rungs)) table w in
       record {
         answer = both (ladder .answer) (list .answer);
         lent = record { ladderTable = ladder .table; listTable = list .table; buffers = translateKept vars k (lent .buffers) .buffers };
@@ -43,7 +44,7 @@ module _ (vars : ℕ) (k : Kept) (table : List ℕ) (lent : Lent) (n : ℕ) (giv
       rw (agree .translated, bothScans, copied-whole table (lent .ladderTable) (given .ladder-copy), copied-whole table (lent .listTable) (given .list-copy)) refl
 
   abbrev listCall : ListScanCall
-  listCall = listScan vars words (writtenRecords (translateKept vars k (lent .buffers) .buffers) (agree .counts)) table w
+  listCall = listScan vars words (writtenRecords (translateKept vars k (lent .buffers) .buffers) (agree .counts .rungs)) table w
 
   pub both-alike : BothAgree vars k table lent n w
   both-alike =

@@ -13,7 +13,7 @@ use Rattle.table.specs.Halt.{Halt, Ended, Stopped}
 use Rattle.table.specs.Questions.{question11}
 use Rattle.table.specs.Laws.Alike.{alike-self}
 use Rattle.rungs.specs.Records.{longest}
-use Rattle.rungs.specs.Buffers.{Buffers, asBuffers, needs, written, writtenOver}
+use Rattle.rungs.specs.Buffers.{Buffers, asBuffers, needs, written, writtenOver, writtenWords, writtenRecords}
 use Rattle.rungs.specs.Laws.Filling.{written-first, row-of-buffers, labels-count, offsets-count, lengths-count}
 use Rattle.ladder.specs.Tree.{Ladder}
 use Rattle.ladder.specs.Meaning.{LadderScan, scanLadder}
@@ -33,7 +33,8 @@ use Rattle.list.specs.Laws.Watchdog.{scan-end, scan-stop, scan-step}
 use Rattle.translation.specs.Translate.{translate}
 use Rattle.translation.specs.TranslateKept.{countsOf, listBuffers, translated, translateKept}
 use Rattle.translation.specs.Agreement.{EndedAlike}
-use Rattle.translation.specs.Calls.{Given, writtenWords, writtenRecords, EndedCalls, ScansAgree, CallsAgree}
+use Rattle.translation.specs.Calls.{Given, EndedCalls, ScansAgree, CallsAgree}
+use Rattle.translation.specs.Laws.Answers.{call-written}
 use Rattle.translation.specs.Laws.Lists.{below-all, translated-agrees}
 use Rattle.translation.specs.Laws.Legal.{list-in-range, list-decodes}
 use Rattle.translation.specs.Laws.Legal.{watchdog-in-range as most-in-range}
@@ -174,11 +175,11 @@ module _ (list : InstructionList) (lent : Buffers) where
   abbrev wrote : List ℕ
   wrote = map instrWord (list .code)
 
-  words-out : writtenWords (writtenOver (listBuffers list) lent) (countsOf list) ≡ map instrWord (list .code)
+  words-out : writtenWords (writtenOver (listBuffers list) lent) (countsOf list .instructions) ≡ map instrWord (list .code)
   unfolding writtenWords writtenOver countsOf asBuffers
   words-out = rw (← (length-map (list .code) instrWord)) (written-first wrote (lent .words))
 
-  records-out : writtenRecords (writtenOver (listBuffers list) lent) (countsOf list) ≡ list .records
+  records-out : writtenRecords (writtenOver (listBuffers list) lent) (countsOf list .rungs) ≡ list .records
   unfolding writtenRecords writtenOver countsOf
   records-out =
       let ls : take (length (list .records)) (written (new .labels) (lent .labels)) ≡ new .labels
@@ -191,10 +192,8 @@ module _ (list : InstructionList) (lent : Buffers) where
 
 translate-call : (vars : ℕ) (k : Kept) (lent : Buffers) → ladderAnswer vars k ≡ none → question13 (needs (listBuffers (translate vars (ladderOf k))) lent) ≡ none
     → translateKept vars k lent ≡ record { answer = translated (countsOf (translate vars (ladderOf k))); buffers = writtenOver (listBuffers (translate vars (ladderOf k))) lent }
-unfolding translateKept firstNo
-translate-call vars k lent ok room =
-    let q : firstNo (ladderAnswer vars k ∷ question13 (needs (listBuffers (translate vars (ladderOf k))) lent) ∷ []) ≡ none = rw (ok, room) in
-    rw (q, translateKept)
+unfolding firstNo
+translate-call vars k lent ok room = call-written vars k lent (rw (ok, room))
 
 pub calls-alike : (vars : ℕ) (k : Kept) (lent : Buffers) (table : List ℕ) (n : ℕ) → Given vars k lent table n → CallsAgree vars k lent table n
 unfolding countsOf

@@ -2,7 +2,8 @@
 use mathlib.Core.Path.{sym, _∙_}
 use lib.Seq.{length-take-le}
 use Rattle.rows.proofs.Fields.{within}
-use Rattle.translation_rows.proofs.Answers.{room-few, long-refused, fields-refused, fields-written}
+use Rattle.rows.specs.Laws.Written.{room-few}
+use Rattle.translation_rows.proofs.Answers.{long-refused, fields-refused, fields-written}
 use borrow.Author.Needs.{needs}
 use Rattle.translation_rows.proofs.translate_fields.Statement.{statement}
 use Rattle.translation_rows.proofs.translate_fields.Tie as tie

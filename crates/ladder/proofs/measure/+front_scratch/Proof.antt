@@ -11,7 +11,7 @@ use Rattle.ladder.proofs.measure.front_scratch.Reads as front-scratch
 use Rattle.ladder.proofs.measure.front_scratch.Kinds as front-scratch-kinds
 use Rattle.ladder.proofs.measure.+front_scratch.Lts-front_scratch as front-scratch-lts
 use Rattle.ladder.proofs.measure.join_scratch.Reads as join-scratch-reads
-use Rattle.ladder.proofs.measure.larger.Reads as larger-reads
+use Rattle.rungs.proofs.larger.Reads as larger-reads
 use Rattle.rungs.proofs.word_at.Reads as word-at-reads
 use Rattle.ladder.proofs.measure.+front_scratch.{statement}
 use Rattle.ladder.proofs.measure.+front_scratch.Tie.{close}

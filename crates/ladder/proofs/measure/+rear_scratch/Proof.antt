@@ -12,7 +12,7 @@ use Rattle.ladder.proofs.measure.rear_scratch.Kinds as rear-scratch-kin
 use Rattle.ladder.proofs.measure.+rear_scratch.Lts-rear_scratch as rear-scratch-lts
 use Rattle.ladder.proofs.measure.front_scratch.Reads as front-scratch-reads
 use Rattle.ladder.proofs.measure.join_scratch.Reads as join-scratch-reads
-use Rattle.ladder.proofs.measure.larger.Reads as larger-reads
+use Rattle.rungs.proofs.larger.Reads as larger-reads
 use Rattle.rungs.proofs.word_at.Reads as word-at-reads
 use Rattle.ladder.proofs.measure.+rear_scratch.{statement}
 use Rattle.ladder.proofs.measure.+rear_scratch.Tie.{close}
