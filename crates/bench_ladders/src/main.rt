@@ -232,7 +232,8 @@ fn scan_written(
     lengths: &[u32],
     table: &mut [u8],
 ) -> Scans
-    requires { ⌜ (16384 ≤ length (now code)) × (256 ≤ length (now labels)) × (256 ≤ length (now offsets)) × (256 ≤ length (now lengths)) ⌝ }
+    requires { ⌜ (16384 ≤ length (now code)) × (256 ≤ length (now labels))
+        × (256 ≤ length (now offsets)) × (256 ≤ length (now lengths)) ⌝ }
 {
     let n = at_most(counts.instructions as u64, 16384) as usize;
     let m = at_most(counts.rungs as u64, 256) as usize;

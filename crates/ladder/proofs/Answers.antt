@@ -143,9 +143,9 @@ module _ (vars : ℕ) (ws ls os ns : List ℕ) where
     unfolding placeOf
     past8 r a e = record { past = p; yes8 = sym (leads r a) ∙ ap placeOf e }
 
-  module _ (p : Past8) (r : Bool) (a : ScratchAsked ws os r) where
+  module _ (p : Past8) (r : Bool) (a : ScratchAsked ws os ns r) where
     scratch : r ≡ scratchInRange gs
-    scratch = a .same ls gs (stands (p .past .past .past .past))
+    scratch = a .same ls gs (stands (p .past .past .past .past)) (inside (p .past .past .past .past) .lengths)
 
     pub refused9 : r ≡ false → answerOf (Refused Scratch) ≡ ladderAnswer vars kept
     unfolding answerOf refusalOf ladderAnswer firstNo question1 question4 question5 question6 question7 question8 question9 ask askEach

@@ -4,7 +4,7 @@ use Prim.Native.Nat.{ℕ, zero, suc, _+_, _-_, _/_, _%_, _≤_, _<_}
 use native.Mathlib.Numerals.{add-one}
 use native.Mathlib.Omega.{arith}
 use mathlib.Core.Path.{_≡_, refl, sym, ap, _∙_}
-use mathlib.Core.Bool.{Bool, true, false, not, _&&_, and-assoc, and-true, and-false}
+use mathlib.Core.Bool.{Bool, true, false, not, _&&_, _||_, and-assoc, and-true, and-false}
 use mathlib.Core.Option.{none, some}
 use mathlib.Core.List.{List, [], _∷_, _++_, map, flatMap, append-assoc, append-nil}
 use lib.Dec.{T, eqb, leb, ltb, ltb→lt}
@@ -14,13 +14,13 @@ use mir.Facts.{and-yes}
 use borrow.Author.Count.{below-more}
 use borrow.Author.Tests.{eq-eqb, ne-eqb, lt-ltb, le-ltb, le-leb, lt-leb}
 use Rattle.questions.specs.Tests.{all, firstFailed}
-use Rattle.questions.specs.Laws.Tests.{all-head, all-tail}
-use Rattle.rungs.specs.Words.{operands, word}
+use Rattle.questions.specs.Laws.Tests.{T→true, all-head, all-tail, all-cons, all-ends, failed-none}
+use Rattle.rungs.specs.Words.{operands, word, operandOf}
 use Rattle.rungs.specs.Records.{search, present}
 use Rattle.ladder.specs.Tree.{Input, contact, contactn, Front, input, frontAnd, frontOr, Output, coil, coiln, jump, jumpn, Rear, output, rearAnd, rearOr, Rung, Ladder, frontAll, rearAll, rungAll}
 use Rattle.ladder.specs.Kept.{inputWord, outputWord, frontWords, rearWords, rungWords, encode, inputFits, outputFits}
 use Rattle.ladder.specs.Questions.{mostRungs, mostWords, sizesInRange, inputBelow, outputBelow, newLabels, outputLeads}
-use Rattle.ladder.specs.Asking.{LadderIn, placeOf, RungEnd, lengthInRange, namesVariable, namesLabel, operandBelow, operandLeads, wordBelow, wordLeads, SizesAsked, LabelsAsked}
+use Rattle.ladder.specs.Asking.{LadderIn, placeOf, RungEnd, lengthInRange, namesVariable, namesLabel, operandBelow, operandLeads, wordBelow, wordStays, wordLeads, SizesAsked, RiseAsked, LabelsAsked}
 use Rattle.ladder.specs.declared.Found.{Found}
 use Rattle.ladder.specs.declared.Found.the-variants.{At, Nothing}
 
@@ -56,7 +56,7 @@ none-failed (false ∷ bs) (suc k) h e = absurd (true-false (sym (h 0 (omega ari
 
 -- ---- lists
 
-getD-map : {A B : Type 0} (f : A → B) (xs : List A) (k : ℕ) (d : A) (e : B) → k < length xs → getD (map f xs) k e ≡ f (getD xs k d)
+pub getD-map : {A B : Type 0} (f : A → B) (xs : List A) (k : ℕ) (d : A) (e : B) → k < length xs → getD (map f xs) k e ≡ f (getD xs k d)
 getD-map f [] k d e h = absurd (omega arith)
 getD-map f (x ∷ xs) zero d e h = refl
 getD-map f (x ∷ xs) (suc k) d e h = getD-map f xs k d e (omega arith)
@@ -71,6 +71,28 @@ module _ {A : Type 0} (test : A → Bool) where
   all-getD [] k d h t = absurd (omega arith)
   all-getD (x ∷ xs) zero d h t = all-head test x xs t
   all-getD (x ∷ xs) (suc k) d h t = all-getD xs k d (omega arith) (all-tail test x xs t)
+
+  all-weaker : (weaker : A → Bool) → ((x : A) → T (test x) → T (weaker x)) → (xs : List A) → T (all test xs) → T (all weaker xs)
+  unfolding all
+  all-weaker weaker f [] t = tt
+  all-weaker weaker f (x ∷ xs) t = all-cons weaker x xs (f x (all-head test x xs t)) (all-weaker weaker f xs (all-tail test x xs t))
+
+  -- a loop that tests every entry: the answer so far, with what is left to test from place i on
+  pub record AskedTo (xs : List A) (b : Bool) (i : ℕ) : Type 0 where
+    pub same : (b && all test (drop i xs)) ≡ all test xs
+
+  pub asked-start : (xs : List A) → AskedTo xs true 0
+  asked-start xs = record { same = refl }
+
+  module _ {xs : List A} {b : Bool} {i : ℕ} (a : AskedTo xs b i) where
+    pub asked-more : (d : A) (r : Bool) → i < length xs → r ≡ test (getD xs i d) → AskedTo xs (b && r) (i + 1)
+    unfolding all
+    asked-more d r h e = record {
+      same = rw (add-one, e) (and-assoc b (test (getD xs i d)) (all test (drop (suc i) xs)) ∙ (rw (drop-cons xs i d h) at (a .same)));
+    }
+
+    pub asked-end : length xs ≤ i → b ≡ all test xs
+    asked-end h = sym (and-true b) ∙ (rw (all-ends test xs i h) at (a .same))
 
 all-map : {A B : Type 0} (test : B → Bool) (f : A → B) (xs : List A) → all test (map f xs) ≡ all (λ x. test (f x)) xs
 unfolding all
@@ -114,6 +136,20 @@ module _ {test : ℕ → Bool} {inputs : Input → Bool} {outputs : Output → B
   rung-tested g h =
       let b = and-yes (frontAll inputFits (g .front)) (rearAll inputFits outputFits (g .rear)) h in
       rw (all-both test (frontWords (g .front)) (rearWords (g .rear)), front-tested (g .front) (b .0), rear-tested (g .rear) (b .1))
+
+  ladder-tested : (gs : Ladder) → T (all (rungAll inputFits outputFits) gs) → all test (flatMap rungWords gs) ≡ all (rungAll inputs outputs) gs
+  unfolding flatMap all
+  ladder-tested [] h = refl
+  ladder-tested (g ∷ gs) h =
+      let fits = rungAll inputFits outputFits in
+      rw (all-both test (rungWords g) (flatMap rungWords gs), rung-tested g (all-head fits g gs h), ladder-tested gs (all-tail fits g gs h))
+
+  -- all words pass: no rung fails
+  pub words-pass : {ws ns : List ℕ} → all test ws ≡ true → (gs : Ladder) → LadderIn ws ns gs → placeOf Nothing ≡ firstFailed (map (rungAll inputs outputs) gs)
+  unfolding placeOf
+  words-pass e gs l =
+      let q = sym (ladder-tested gs (l .fits)) ∙ sym (ap (all test) (l .words)) ∙ e in
+      sym (failed-none (rungAll inputs outputs) gs (rw q tt))
 
 -- the kind and the operand of a word are read back
 kept : (test : ℕ → ℕ → Bool) (k o : ℕ) → T (ltb o operands) → test (word k o / operands) (word k o % operands) ≡ test k o
@@ -166,14 +202,9 @@ leads-tests ls = record {
     outputs (jumpn l) h = kept (operandLeads ls) 8 l h
 
 -- what the code asks of a kind and an operand
-module _ (vars k o : ℕ) where
-  pub below-variable : namesVariable k ≡ true → ltb o vars ≡ operandBelow vars k o
-  unfolding operandBelow
-  below-variable h = rw h
-
-  pub below-other : namesVariable k ≡ false → true ≡ operandBelow vars k o
-  unfolding operandBelow
-  below-other h = rw h
+pub below-operand : (vars k o : ℕ) (r : Bool) → r ≡ namesVariable k → (not r || ltb o vars) ≡ operandBelow vars k o
+unfolding operandBelow
+below-operand vars k o r e = rw e
 
 module _ (ls : List ℕ) (k o : ℕ) where
   pub leads-label : (r : ℕ) → namesLabel k ≡ true → r ≡ search o ls → ltb r (length ls) ≡ operandLeads ls k o
@@ -183,6 +214,16 @@ module _ (ls : List ℕ) (k o : ℕ) where
   pub leads-other : namesLabel k ≡ false → true ≡ operandLeads ls k o
   unfolding operandLeads
   leads-other h = rw h
+
+-- words that name no label pass
+pub stays-leads : (ls ws : List ℕ) → all wordStays ws ≡ true → all (wordLeads ls) ws ≡ true
+unfolding operandLeads
+stays-leads ls ws e =
+    T→true (all (wordLeads ls) ws) (all-weaker wordStays (wordLeads ls) (λ w. either (wordStays w) (present (operandOf w) ls)) ws (rw e tt))
+  where
+    either : (a b : Bool) → T a → T (a || b)
+    either true b t = tt
+    either false b t = absurd t
 
 -- ---- question 5
 
@@ -347,3 +388,44 @@ module _ {ls : List ℕ} {end : ℕ} {found : Found} {j : ℕ} (o : Outer ls end
         let size = length-take-le j ls (omega arith) in
         let p = absent (getD ls j 0) (take j ls) (λ m q e. n .others m (omega arith) (sym (getD-take j ls m 0 (omega arith)) ∙ e)) in
         record { nothing = n .nothing; last = o .last; passed = passed-more (newLabels [] ls) j (o .passed) (new-at [] ls j k ∙ ap not p) }
+
+-- labels that rise: those before i are new, and none of them is above the last
+pub record Rising (ls : List ℕ) (i : ℕ) : Type 0 where
+  pub begun : 1 ≤ i
+  pub passed : Passed (newLabels [] ls) i
+  pub most : (m : ℕ) → m < i → getD ls m 0 ≤ getD ls (i - 1) 0
+
+first-new : (ls : List ℕ) → getD (newLabels [] ls) 0 true ≡ true
+unfolding newLabels
+first-new [] = refl
+first-new (l ∷ ls) = ap not (absent l [] (λ i h e. absurd (omega arith)))
+
+pub rising-start : (ls : List ℕ) → Rising ls 1
+rising-start ls = record {
+  begun = omega arith;
+  passed = passed-more (newLabels [] ls) 0 (none-before (newLabels [] ls)) (first-new ls);
+  most = below-more (λ m. getD ls m 0 ≤ getD ls 0 0) 0 (λ m h. absurd (omega arith)) (omega arith);
+}
+
+module _ {ls : List ℕ} {i : ℕ} (r : Rising ls i) where
+  pub rising-more : i < length ls → getD ls (i - 1) 0 < getD ls i 0 → Rising ls (i + 1)
+  rising-more h u =
+      let size = length-take-le i ls (omega arith) in
+      let below : (m : ℕ) → m < i → getD ls m 0 < getD ls i 0 = λ m k. omega (arith, r .most m k) in
+      let p = absent (getD ls i 0) (take i ls) (λ m q e. let d = below m (omega arith) in let g = sym (getD-take i ls m 0 (omega arith)) ∙ e in absurd (omega arith)) in
+      let last : i + 1 - 1 ≡ i = omega arith in
+      record {
+        begun = omega arith;
+        passed = passed-more (newLabels [] ls) i (r .passed) (new-at [] ls i h ∙ ap not p);
+        most = rw last (below-more (λ m. getD ls m 0 ≤ getD ls i 0) i (λ m k. omega (arith, below m k)) (omega arith));
+      }
+
+  pub rising-end : length ls ≤ i → RiseAsked ls true
+  rising-end h = record { new = λ e. none-failed (newLabels [] ls) i (r .passed) (rw (new-length [] ls) h) }
+
+pub rising-not : (ls : List ℕ) → RiseAsked ls false
+rising-not ls = record { new = λ e. absurd (true-false (sym e)) }
+
+pub risen : {ls : List ℕ} {r : Bool} → RiseAsked ls r → r ≡ true → LabelsAsked ls Nothing
+unfolding placeOf
+risen a e = record { same = a .new e }

@@ -3,5 +3,6 @@ pub mod Holding
 pub mod Asked
 pub mod Walks
 pub mod Measures
+pub mod FewWords
 pub mod Measuring
 pub mod Answers

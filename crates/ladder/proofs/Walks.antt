@@ -1,16 +1,18 @@
 -- Laws of one word of a walk: what working and running a tree gives, from what working and running its parts gives. Assumes nothing.
 use Prim.Native.Nat.{ℕ, _+_, _≤_, _<_}
 use native.Mathlib.Omega.{arith}
-use mathlib.Core.Path.{_≡_, refl, sym}
+use mathlib.Core.Path.{_≡_, refl, sym, subst, _∙_}
 use mathlib.Core.Bool.{Bool, true, false, not, _&&_, _||_}
 use mathlib.Core.List.{List}
+use lib.Dec.{eqb}
 use lib.ListN.{length, length-append, getD}
+use borrow.Author.Tests.{eqb-true, eqb-false, eq-eqb, ne-eqb}
 use Rattle.table.specs.State.{valueAt, value, writtenAt, write}
 use Rattle.rungs.specs.Words.{numberOf, operandOf}
 use Rattle.ladder.specs.Tree.{Rear}
 use Rattle.ladder.specs.Meaning.{workInput, workFront, jumpIf, runOutput, unlessJumped, runRear, runRung}
 use Rattle.ladder.specs.Kept.{frontWords, rearWords, rungWords}
-use Rattle.ladder.specs.Walking.{FrontDone, FrontWorked, runOf, RunDone, RearRun, RungRun}
+use Rattle.ladder.specs.Walking.{FrontDone, FrontWorked, joinedBy, runOf, RunDone, RearRun, RungRun}
 use Rattle.ladder.specs.declared.walk.Worked.{Worked}
 use Rattle.ladder.specs.declared.walk.Ran.{Ran}
 use Rattle.ladder.specs.declared.walk.Ran.the-variants.{Onward, Jumped}
@@ -51,6 +53,28 @@ module _ (ws : List ℕ) (at w : ℕ) (t : List ℕ) (e : w ≡ getD ws at 0) wh
           let y = b .done g (rw (← x .next) at sg) in
           record { same = λ vars. rw (x .same vars, y .same vars); next = simp length-append (omega arith) });
     }
+
+    joined-and : numberOf w ≡ 3 → joinedBy (numberOf w) (first .value) (second .value) ≡ (first .value && second .value)
+    unfolding joinedBy
+    joined-and k = rw (eq-eqb (numberOf w) 3 k, joinedBy) refl
+
+    joined-or : numberOf w ≡ 4 → joinedBy (numberOf w) (first .value) (second .value) ≡ (first .value || second .value)
+    unfolding joinedBy
+    joined-or k = rw (ne-eqb (numberOf w) 3 (λ q. omega (arith, k, q)), joinedBy) refl
+
+    -- either, by the kind
+    pub worked-joined : (v : Bool) → v ≡ joinedBy (numberOf w) (first .value) (second .value) → 3 ≤ numberOf w → numberOf w ≤ 4
+        → FrontWorked ws at t (record { value = v; next = second .next })
+    worked-joined v q l u = go (eqb (numberOf w) 3) refl
+      where
+        go : (x : Bool) → eqb (numberOf w) 3 ≡ x → FrontWorked ws at t (record { value = v; next = second .next })
+        go true h =
+            let k = eqb-true (numberOf w) 3 h in
+            subst (λ (y : Bool). FrontWorked ws at t (record { value = y; next = second .next })) (sym (q ∙ joined-and k)) (worked-and k)
+        go false h =
+            let n = eqb-false (numberOf w) 3 h in
+            let k : numberOf w ≡ 4 = omega (arith, n) in
+            subst (λ (y : Bool). FrontWorked ws at t (record { value = y; next = second .next })) (sym (q ∙ joined-or k)) (worked-or k)
 
   pub worked-none : (1 ≤ numberOf w → numberOf w < 5 → ⊥) → FrontWorked ws at t (record { value = false; next = at })
   worked-none k = record { onward = omega arith; done = no-front ws at w e (FrontDone at t (record { value = false; next = at })) k }

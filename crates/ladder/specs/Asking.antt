@@ -1,7 +1,7 @@
 -- Contracts of the functions behind questions 5 to 8: what they promise each other. Nothing here is a sentence of document 01. Assumes nothing.
 use Prim.Native.Nat.{ℕ, _+_, _≤_}
 use mathlib.Core.Path.{_≡_}
-use mathlib.Core.Bool.{Bool, not, _||_}
+use mathlib.Core.Bool.{Bool, true, not, _||_}
 use mathlib.Core.Option.{Option, none, some}
 use mathlib.Core.List.{List, [], map, flatMap}
 use lib.Dec.{T, eqb, leb, ltb}
@@ -51,6 +51,10 @@ operandLeads ls k o = not (namesLabel k) || present o ls
 abbrev pub wordBelow : ℕ → ℕ → Bool
 wordBelow vars w = operandBelow vars (numberOf w) (operandOf w)
 
+-- whether a word names no label
+abbrev pub wordStays : ℕ → Bool
+wordStays w = not (namesLabel (numberOf w))
+
 abbrev pub wordLeads : List ℕ → ℕ → Bool
 wordLeads ls w = operandLeads ls (numberOf w) (operandOf w)
 
@@ -59,6 +63,10 @@ pub record SizesAsked (ws ns : List ℕ) (r : Bool) : Type 0 where
 
 pub record VariablesAsked (vars : ℕ) (ws ns : List ℕ) (r : Found) : Type 0 where
   pub same : (gs : Ladder) → LadderIn ws ns gs → placeOf r ≡ firstFailed (map (rungBelow vars) gs)
+
+-- labels that rise are all new
+pub record RiseAsked (ls : List ℕ) (r : Bool) : Type 0 where
+  pub new : r ≡ true → none ≡ firstFailed (newLabels [] ls)
 
 pub record LabelsAsked (ls : List ℕ) (r : Found) : Type 0 where
   pub same : placeOf r ≡ firstFailed (newLabels [] ls)

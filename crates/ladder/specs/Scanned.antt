@@ -2,16 +2,24 @@
 use Prim.Native.Nat.{ℕ}
 use mathlib.Core.Path.{_≡_}
 use mathlib.Core.Bool.{Bool}
-use mathlib.Core.List.{List}
-use Rattle.ladder.specs.Tree.{Ladder}
+use mathlib.Core.List.{List, map}
+use lib.Dec.{leb}
+use lib.ListN.{length}
+use Rattle.table.specs.State.{scratchBytes}
+use Rattle.ladder.specs.Tree.{Rung, Ladder}
+use Rattle.ladder.specs.Kept.{rungWords}
 use Rattle.ladder.specs.Meaning.{scanLadder}
-use Rattle.ladder.specs.Held.{LadderHeld}
-use Rattle.ladder.specs.Questions.{scratchInRange}
+use Rattle.ladder.specs.Held.{RungAt, LadderHeld}
+use Rattle.ladder.specs.Questions.{rungScratch, scratchInRange}
 use Rattle.ladder.specs.LadderScan.{scanEnds, LadderScanDone}
 use Rattle.ladder.specs.declared.LadderScanned.{LadderScanned}
 
-pub record ScratchAsked (ws os : List ℕ) (r : Bool) : Type 0 where
-  pub same : (ls : List ℕ) (gs : Ladder) → LadderHeld ws ls os gs → r ≡ scratchInRange gs
+-- the rung whose n words begin at a position
+pub record FewAsked (ws : List ℕ) (at n : ℕ) (r : Bool) : Type 0 where
+  pub same : (g : Rung) → RungAt ws at g → n ≡ length (rungWords g) → r ≡ leb (rungScratch g) scratchBytes
+
+pub record ScratchAsked (ws os ns : List ℕ) (r : Bool) : Type 0 where
+  pub same : (ls : List ℕ) (gs : Ladder) → LadderHeld ws ls os gs → ns ≡ map (λ g. length (rungWords g)) gs → r ≡ scratchInRange gs
 
 pub record Scanned (ws ls os t : List ℕ) (watchdog : ℕ) (r : LadderScanned) (u : List ℕ) : Type 0 where
   pub same : (gs : Ladder) → LadderHeld ws ls os gs → (vars : ℕ) → LadderScanDone (scanEnds (scanLadder gs watchdog (record { vars = vars; bytes = t }))) r u

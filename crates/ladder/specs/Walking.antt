@@ -1,8 +1,9 @@
 -- What the functions that walk a rung's kept words promise to each other. Nothing here is a sentence of document 01. Assumes nothing.
-use Prim.Native.Nat.{ℕ, _+_, _≤_}
+use Prim.Native.Nat.{ℕ, _+_, _≤_, _<_}
 use mathlib.Core.Path.{_≡_}
-use mathlib.Core.Bool.{Bool}
+use mathlib.Core.Bool.{Bool, true, false, _&&_, _||_}
 use mathlib.Core.List.{List}
+use lib.Dec.{eqb}
 use lib.ListN.{length}
 use Rattle.table.specs.State.{State}
 use Rattle.ladder.specs.Tree.{Front, Rear, Rung}
@@ -23,6 +24,14 @@ pub record FrontDone (at : ℕ) (t : List ℕ) (r : Worked) (f : Front) : Type 0
 pub record FrontWorked (ws : List ℕ) (at : ℕ) (t : List ℕ) (r : Worked) : Type 0 where
   pub onward : at ≤ r .next
   pub done : (f : Front) → FrontAt ws at f → FrontDone at t r f
+
+-- a front that is a contact, where the position went on
+pub record ContactWorked (ws : List ℕ) (at : ℕ) (t : List ℕ) (r : Worked) : Type 0 where
+  pub worked : at < r .next → FrontWorked ws at t r
+
+-- a front-and is kind 3, a front-or kind 4
+unfoldable pub joinedBy : ℕ → Bool → Bool → Bool
+joinedBy kind a b = elim (eqb kind 3) [ true ↦ a && b | false ↦ a || b ]
 
 -- the run that an answer tells, with the state that it left
 unfoldable pub runOf : Ran → State → Run

@@ -62,7 +62,7 @@ pub fn ladder_answer(
     if let Found::At(rung) = question::missing_label(labels, words, lengths) {
         return Verdict::Refused(Refusal::Jump { rung });
     }
-    if !measure::scratch_in_range(words, offsets) {
+    if !measure::scratch_in_range(words, offsets, lengths) {
         return Verdict::Refused(Refusal::Scratch);
     }
     Verdict::Accepted

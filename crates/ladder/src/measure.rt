@@ -1,6 +1,9 @@
 // The scratch that a rung's code takes, along the prefix order of its kept words: question 9.
 ghost use Rattle.ladder.specs.Walking.{JoinMeasured, FrontMeasured, RearMeasured, RungMeasured};
-ghost use Rattle.ladder.specs.Scanned.{ScratchAsked};
+ghost use Rattle.ladder.specs.Scanned.{FewAsked, ScratchAsked};
+
+// A scratch byte takes two words: the root of the part that needs it and a part beside it. So 65 words need at most 32.
+const FEW_WORDS: u32 = 65;
 
 // The scratch bytes that a part takes, and the position after its words.
 pub struct Taken {
@@ -79,14 +82,24 @@ pub fn rung_scratch(words: &[u32], at: usize) -> usize
     rungs::larger(front.bytes, rear.bytes)
 }
 
+// Whether the rung whose words begin at a position, as many as its length says, takes at most 32 scratch bytes. A rung of few words does.
+fn few_scratch(words: &[u32], at: usize, length: u32) -> bool
+    ensures { λ r. ⌜ FewAsked (now (words .entry)) at length r ⌝ }
+{
+    if length <= FEW_WORDS {
+        return true;
+    }
+    rung_scratch(words, at) <= table::SCRATCH_BYTES
+}
+
 // Question 9.
-pub fn scratch_in_range(words: &[u32], offsets: &[u32]) -> bool
-    ensures { λ r. ⌜ ScratchAsked (now (words .entry)) (now (offsets .entry)) r ⌝ }
+pub fn scratch_in_range(words: &[u32], offsets: &[u32], lengths: &[u32]) -> bool
+    ensures { λ r. ⌜ ScratchAsked (now (words .entry)) (now (offsets .entry)) (now (lengths .entry)) r ⌝ }
 {
     let mut k: usize = 0;
     while k < offsets.len() {
         let start = offsets[k] as usize;
-        if table::SCRATCH_BYTES < rung_scratch(words, start) {
+        if !few_scratch(words, start, rungs::word_at(lengths, k)) {
             return false;
         }
         k += 1;

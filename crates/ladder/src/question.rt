@@ -1,8 +1,8 @@
 // Questions 5 to 8. The words of a rung are those from the end of the rung before it on, as many as its length says.
 ghost use mathlib.Core.Path.{_≡_};
 ghost use Rattle.questions.specs.Tests.{all};
-ghost use Rattle.ladder.specs.Asking.{RungEnd, lengthInRange, namesVariable, namesLabel, wordBelow, wordLeads};
-ghost use Rattle.ladder.specs.Asking.{SizesAsked, VariablesAsked, LabelsAsked, JumpsAsked};
+ghost use Rattle.ladder.specs.Asking.{RungEnd, lengthInRange, namesVariable, namesLabel, wordBelow, wordStays, wordLeads};
+ghost use Rattle.ladder.specs.Asking.{SizesAsked, VariablesAsked, RiseAsked, LabelsAsked, JumpsAsked};
 use crate::Found;
 
 // At most 256 rungs, 128 words a rung, 8,192 words.
@@ -61,34 +61,34 @@ fn names_variable(kind: u32) -> bool
 fn word_below(vars: u32, word: u32) -> bool
     ensures { λ r. ⌜ r ≡ wordBelow vars word ⌝ }
 {
-    if names_variable(word / 65536) {
-        return word % 65536 < vars;
-    }
-    true
+    !names_variable(word / 65536) | (word % 65536 < vars)
 }
 
-fn rung_below(vars: u32, words: &[u32]) -> bool
+// Of all words: a loop with no exit, of which the compiler makes a few wide steps.
+fn words_below(vars: u32, words: &[u32]) -> bool
     ensures { λ r. ⌜ r ≡ all (wordBelow vars) (now (words .entry)) ⌝ }
 {
+    let mut below = true;
     let mut i: usize = 0;
     while i < words.len() {
-        if !word_below(vars, words[i]) {
-            return false;
-        }
+        below = below & word_below(vars, words[i]);
         i += 1;
     }
-    true
+    below
 }
 
-// Question 6: the first rung with a variable that is not below `vars`.
+// Question 6: the first rung with a variable that is not below `vars`. All words are asked first, and the place only where one fails.
 pub fn unknown_variable(vars: u32, words: &[u32], lengths: &[u32]) -> Found
     ensures { λ r. ⌜ VariablesAsked vars (now (words .entry)) (now (lengths .entry)) r ⌝ }
 {
+    if words_below(vars, words) {
+        return Found::Nothing;
+    }
     let mut from: usize = 0;
     let mut k: usize = 0;
     while k < lengths.len() {
         let to = rung_end(from, lengths[k], words.len());
-        if !rung_below(vars, &words[from..to]) {
+        if !words_below(vars, &words[from..to]) {
             return Found::At(k);
         }
         from = to;
@@ -97,8 +97,22 @@ pub fn unknown_variable(vars: u32, words: &[u32], lengths: &[u32]) -> Found
     Found::Nothing
 }
 
-// Question 7: the first rung whose label an earlier one has.
-pub fn repeated_label(labels: &[u16]) -> Found
+// Whether each label is above the one before it. Then no two are the same.
+fn labels_rise(labels: &[u16]) -> bool
+    ensures { λ r. ⌜ RiseAsked (now (labels .entry)) r ⌝ }
+{
+    let mut i: usize = 1;
+    while i < labels.len() {
+        if labels[i] <= labels[i - 1] {
+            return false;
+        }
+        i += 1;
+    }
+    true
+}
+
+// The first rung whose label an earlier one has.
+fn first_repeated(labels: &[u16]) -> Found
     ensures { λ r. ⌜ LabelsAsked (now (labels .entry)) r ⌝ }
 {
     let mut found = Found::Nothing;
@@ -113,10 +127,33 @@ pub fn repeated_label(labels: &[u16]) -> Found
     found
 }
 
+// Question 7. Labels that rise, as most ladders have them, need no search.
+pub fn repeated_label(labels: &[u16]) -> Found
+    ensures { λ r. ⌜ LabelsAsked (now (labels .entry)) r ⌝ }
+{
+    if labels_rise(labels) {
+        return Found::Nothing;
+    }
+    first_repeated(labels)
+}
+
 fn names_label(kind: u32) -> bool
     ensures { λ r. ⌜ r ≡ namesLabel kind ⌝ }
 {
     (kind == 7) | (kind == 8)
+}
+
+// Whether no word names a label; a loop with no exit.
+fn without_jump(words: &[u32]) -> bool
+    ensures { λ r. ⌜ r ≡ all wordStays (now (words .entry)) ⌝ }
+{
+    let mut none = true;
+    let mut i: usize = 0;
+    while i < words.len() {
+        none = none & !names_label(words[i] / 65536);
+        i += 1;
+    }
+    none
 }
 
 fn word_leads(labels: &[u16], word: u32) -> bool
@@ -141,10 +178,13 @@ fn rung_leads(labels: &[u16], words: &[u32]) -> bool
     true
 }
 
-// Question 8: the first rung with a jump to a label that no rung has.
+// Question 8: the first rung with a jump to a label that no rung has. A ladder without a jump has none.
 pub fn missing_label(labels: &[u16], words: &[u32], lengths: &[u32]) -> Found
     ensures { λ r. ⌜ JumpsAsked (now (labels .entry)) (now (words .entry)) (now (lengths .entry)) r ⌝ }
 {
+    if without_jump(words) {
+        return Found::Nothing;
+    }
     let mut from: usize = 0;
     let mut k: usize = 0;
     while k < lengths.len() {

@@ -1,6 +1,7 @@
 // A rung worked along the prefix order of its kept words: a tree is its root word, then its first part, then its second.
 // Words that hold no tree are passed over from the first that has no place there.
-ghost use Rattle.ladder.specs.Walking.{FrontWorked, RearRun, RungRun};
+ghost use mathlib.Core.Path.{_≡_};
+ghost use Rattle.ladder.specs.Walking.{joinedBy, ContactWorked, FrontWorked, RearRun, RungRun};
 
 // A front's value, and the position after its words.
 pub struct Worked {
@@ -14,13 +15,46 @@ pub enum Ran {
     Jumped(u32),
 }
 
-// The front whose words begin at a position.
+// The contact at a position; where none stands there, the position stays.
+fn contact_at(words: &[u32], at: usize, table: &[u8]) -> Worked
+    ensures { λ r. ⌜ ContactWorked (now (words .entry)) at (now (table .entry)) r ⌝ }
+{
+    let word = rungs::word_at(words, at);
+    let value = table::value(table, (word % 65536) as usize);
+    match word / 65536 {
+        1 => Worked {
+            value,
+            next: at + 1,
+        },
+        2 => Worked {
+            value: !value,
+            next: at + 1,
+        },
+        _ => Worked {
+            value: false,
+            next: at,
+        },
+    }
+}
+
+// The value of a front-and, kind 3, or of a front-or, from its parts'.
+fn joined(kind: u32, first: bool, second: bool) -> bool
+    ensures { λ r. ⌜ r ≡ joinedBy kind first second ⌝ }
+{
+    if kind == 3 {
+        return first & second;
+    }
+    first | second
+}
+
+// The front whose words begin at a position. A contact that is a second part is worked without a call.
 pub fn front_at(words: &[u32], at: usize, table: &[u8]) -> Worked
     ensures { λ r. ⌜ FrontWorked (now (words .entry)) at (now (table .entry)) r ⌝ }
 {
     let word = rungs::word_at(words, at);
     let operand = (word % 65536) as usize;
-    match word / 65536 {
+    let kind = word / 65536;
+    match kind {
         1 => Worked {
             value: table::value(table, operand),
             next: at + 1,
@@ -29,19 +63,18 @@ pub fn front_at(words: &[u32], at: usize, table: &[u8]) -> Worked
             value: !table::value(table, operand),
             next: at + 1,
         },
-        3 => {
+        3 | 4 => {
             let first = front_at(words, at + 1, table);
-            let second = front_at(words, first.next, table);
-            Worked {
-                value: first.value & second.value,
-                next: second.next,
+            let contact = contact_at(words, first.next, table);
+            if first.next < contact.next {
+                return Worked {
+                    value: joined(kind, first.value, contact.value),
+                    next: contact.next,
+                };
             }
-        }
-        4 => {
-            let first = front_at(words, at + 1, table);
             let second = front_at(words, first.next, table);
             Worked {
-                value: first.value | second.value,
+                value: joined(kind, first.value, second.value),
                 next: second.next,
             }
         }

@@ -1,60 +1,13 @@
 // The program ladder-list: reads standard input and writes standard output. What it prints is the library printout's.
 ghost use Prim.Native.Nat.{_≤_};
-ghost use lib.ListN.{length};
-use libc::STDIN_FILENO;
+use chunks::LF;
 use libc::STDOUT_FILENO;
-
-// No byte: the input's end.
-const END: u32 = 256;
-
-const LF: u32 = 10;
-
-// A byte or END, and the chunk's bytes that are still to be taken, from `at` to `end`.
-struct Taken {
-    byte: u32,
-    at: usize,
-    end: usize,
-}
 
 // V, and the chunk's bytes after the first line.
 struct Begun {
     vars: u32,
     at: usize,
     end: usize,
-}
-
-fn wide(byte: u8) -> u32 {
-    byte as u32
-}
-
-// How many bytes a read puts into the chunk; 0 at the end of the input, or where the read fails.
-fn refill(chunk: &mut [u8]) -> usize {
-    let got = libc::read(STDIN_FILENO, chunk);
-    io::count(got, chunk)
-}
-
-// The byte at `at`, or END where none is left.
-fn take(chunk: &[u8], at: usize, end: usize) -> Taken {
-    if end <= at {
-        return Taken { byte: END, at, end };
-    }
-    if chunk.len() <= at {
-        return Taken { byte: END, at, end };
-    }
-    Taken {
-        byte: wide(chunk[at]),
-        at: at + 1,
-        end,
-    }
-}
-
-// The next byte; a chunk that is used up is filled again.
-fn next_byte(chunk: &mut [u8], at: usize, end: usize) -> Taken {
-    if at < end {
-        return take(chunk, at, end);
-    }
-    let filled = refill(chunk);
-    take(chunk, 0, filled)
 }
 
 // The first line, byte by byte, in as many turns as no run uses up.
@@ -64,7 +17,7 @@ fn first_line(chunk: &mut [u8]) -> Begun {
     let mut end: usize = 0;
     let mut left: u64 = 18446744073709551615;
     while 0 < left {
-        let taken = next_byte(chunk, at, end);
+        let taken = chunks::next_byte(chunk, at, end);
         at = taken.at;
         end = taken.end;
         let byte = taken.byte;
@@ -96,7 +49,7 @@ fn keep_text(chunk: &mut [u8], from: usize, to: usize, text: &mut [u8]) -> usize
     let mut end = to;
     let mut kept: usize = 0;
     while kept < text.len() {
-        let taken = next_byte(chunk, at, end);
+        let taken = chunks::next_byte(chunk, at, end);
         at = taken.at;
         end = taken.end;
         let byte = taken.byte;

@@ -5,12 +5,12 @@ use mathlib.Core.List.{List, [], _∷_}
 use lib.Dec.{eqb, leb, ltb}
 use lib.ListN.{length, drop}
 use Rattle.grammar.specs.Reader.{pick, digitOf}
-use Rattle.printout.specs.Printout.{firstLine, textAfter, variablesOf}
-use Rattle.printout.specs.declared.Begun.{Begun}
+use Rattle.printout.specs.Printout.{firstLine, textAfter}
+use Rattle.printout.specs.declared.Lined.{Lined}
 use Rattle.printout.specs.declared.FirstLine.{FirstLine}
 use Rattle.printout.specs.declared.FirstLine.the-variants.{Empty, Zero, Number, Bad}
 
--- the first line with one byte more
+-- a line with one byte more
 unfoldable pub stepOf : FirstLine → ℕ → FirstLine
 stepOf Empty b = let x = digitOf b in pick (leb 10 x) Bad (pick (eqb x 0) Zero (Number x))
 stepOf Zero b = Bad
@@ -22,14 +22,15 @@ unfoldable pub lineFrom : FirstLine → List ℕ → FirstLine
 lineFrom s [] = s
 lineFrom s (b ∷ bs) = lineFrom (stepOf s b) bs
 
-unfoldable pub valueOf : FirstLine → ℕ
-valueOf Empty = 0
-valueOf Zero = 0
-valueOf (Number v) = v
-valueOf Bad = 0
+-- the number that a line is, or another
+unfoldable pub numberBy : ℕ → FirstLine → ℕ
+numberBy other Empty = other
+numberBy other Zero = 0
+numberBy other (Number v) = v
+numberBy other Bad = other
 
--- V by the first line, and the text from `at` on
-pub record LineTaken (input : List ℕ) (r : Begun) : Type 0 where
-  pub vars : r .vars ≡ variablesOf (firstLine input)
-  pub within : r .at ≤ length input
-  pub text : drop (r .at) input ≡ textAfter input
+-- the line from a position on, and where the next begins
+pub record NumberTaken (input : List ℕ) (from : ℕ) (r : Lined) : Type 0 where
+  pub line : r .line ≡ lineFrom Empty (firstLine (drop from input))
+  pub within : from ≤ length input → r .at ≤ length input
+  pub rest : drop (r .at) input ≡ textAfter (drop from input)

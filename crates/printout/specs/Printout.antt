@@ -26,9 +26,13 @@ unfoldable pub textAfter : List ℕ → List ℕ
 textAfter [] = []
 textAfter (b ∷ bs) = elim (eqb b (byte "\n")) [ true ↦ bs | false ↦ textAfter bs ]
 
+-- the number, as in the text, that a whole line is; another where it is none
+unfoldable pub lineNumber : ℕ → List ℕ → ℕ
+lineNumber other line = elim (numberOf line 0) [ read n v ↦ elim (eqb n (length line)) [ true ↦ v | false ↦ other ] | stuck p ↦ other ]
+
 -- "A first line that is no number, as in the text, counts as V 0."
-unfoldable pub variablesOf : List ℕ → ℕ
-variablesOf line = elim (numberOf line 0) [ read n v ↦ elim (eqb n (length line)) [ true ↦ v | false ↦ 0 ] | stuck p ↦ 0 ]
+abbrev pub variablesOf : List ℕ → ℕ
+variablesOf line = lineNumber 0 line
 
 -- "refused N place P"; "Every printed line ends with LF."
 unfoldable pub refusalLine : Refusal → List ℕ

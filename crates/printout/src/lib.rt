@@ -8,7 +8,7 @@ ghost use Rattle.rungs.specs.Records.{rowOf};
 ghost use Rattle.printing.specs.Put.{Put};
 ghost use Rattle.translation.specs.TranslateKept.{countsIn};
 ghost use Rattle.printout.specs.Printout.{refusalLine, countLine, printedList, printedKept, printed, output};
-ghost use Rattle.printout.specs.Parts.{stepOf, valueOf, LineTaken};
+ghost use Rattle.printout.specs.Parts.{stepOf, numberBy, NumberTaken};
 ghost use Rattle.grammar.specs.Reader.{digitOf};
 ghost use Rattle.printout.specs.declared.FirstLine.the-variants.{Empty, Number};
 use list::Listed;
@@ -100,14 +100,22 @@ pub fn step(line: FirstLine, byte: u8) -> FirstLine
     }
 }
 
-// V: the number that the line is, or 0.
-pub fn variables(line: FirstLine) -> u32
-    ensures { λ r. ⌜ r ≡ valueOf line ⌝ }
+// The number that the line is, or another.
+pub fn number_or(line: FirstLine, other: u32) -> u32
+    ensures { λ r. ⌜ r ≡ numberBy other line ⌝ }
 {
     match line {
         FirstLine::Number(value) => value,
-        _ => 0,
+        FirstLine::Zero => 0,
+        _ => other,
     }
+}
+
+// V: the number that the line is, or 0.
+pub fn variables(line: FirstLine) -> u32
+    ensures { λ r. ⌜ r ≡ numberBy 0 line ⌝ }
+{
+    number_or(line, 0)
 }
 
 fn refusal_number(refusal: Refusal) -> usize
@@ -267,39 +275,35 @@ pub fn print(vars: u32, text: &[u8], out: &mut [u8]) -> usize
     }
 }
 
-// V, and where the text begins.
-pub struct Begun {
-    pub vars: u32,
+// A line that is a number, or not, and where the next begins.
+pub struct Lined {
+    pub line: FirstLine,
     pub at: usize,
 }
 
-// Takes the first line byte by byte.
-fn take_line(input: &[u8]) -> Begun
-    ensures { λ r. ⌜ LineTaken (now (input .entry)) r ⌝ }
+// The line from a position on, byte by byte.
+pub fn take_number(input: &[u8], from: usize) -> Lined
+    ensures { λ r. ⌜ NumberTaken (now (input .entry)) from r ⌝ }
 {
     let mut line = begin();
-    let mut i: usize = 0;
+    let mut i = from;
     while i < input.len() {
         if input[i] == b'\n' {
-            return Begun {
-                vars: variables(line),
-                at: i + 1,
-            };
+            return Lined { line, at: i + 1 };
         }
         line = step(line, input[i]);
         i += 1;
     }
-    Begun {
-        vars: variables(line),
-        at: i,
-    }
+    Lined { line, at: i }
 }
 
 // Where the kept text that begins at a position ends.
-fn kept_end(length: usize, at: usize) -> usize
-    requires { ⌜ at ≤ length ⌝ }
+pub fn kept_end(length: usize, at: usize) -> usize
     ensures { λ r. ⌜ r ≡ at + min (length - at) 65536 ⌝ }
 {
+    if length <= at {
+        return at;
+    }
     if MOST_KEPT < length - at {
         return at + MOST_KEPT;
     }
@@ -310,8 +314,9 @@ fn kept_end(length: usize, at: usize) -> usize
 pub fn run(input: &[u8], out: &mut [u8]) -> usize
     ensures { λ r. ⌜ Put (now (out .entry)) 0 (output (now (input .entry))) r (now (out .exit)) ⌝ }
 {
-    let begun = take_line(input);
-    let from = begun.at;
+    let first = take_number(input, 0);
+    let line = first.line;
+    let from = first.at;
     let to = kept_end(input.len(), from);
-    print(begun.vars, &input[from..to], out)
+    print(variables(line), &input[from..to], out)
 }

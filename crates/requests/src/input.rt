@@ -1,13 +1,11 @@
 // Reads numbers, one space apart. The chunk holds what was read from standard input and not yet taken.
 ghost use Prim.Native.Nat.{_≤_};
-use libc::STDIN_FILENO;
+use chunks::END;
 
 // What ended a number: one of these bytes, the input's end, or nothing good. NONE is the input's end where no number began.
 pub const LINE: u32 = 10;
 
 const SPACE: u32 = 32;
-
-const END: u32 = 256;
 
 pub const BAD: u32 = 257;
 
@@ -19,13 +17,6 @@ pub struct Input {
     pub end: usize,
     pub value: u32,
     pub stop: u32,
-}
-
-// A byte, or END, and what is still to be read.
-struct Taken {
-    byte: u32,
-    at: usize,
-    end: usize,
 }
 
 // The input after some items, and how many these are.
@@ -40,39 +31,6 @@ pub struct Lent {
     pub vars: u32,
     pub words: usize,
     pub records: usize,
-}
-
-pub fn wide(byte: u8) -> u32 {
-    byte as u32
-}
-
-// How many bytes a read puts into the chunk; 0 at the end of the input, or where the read fails.
-fn refill(chunk: &mut [u8]) -> usize {
-    let got = libc::read(STDIN_FILENO, chunk);
-    io::count(got, chunk)
-}
-
-// The byte at `at`, or END where none is left.
-fn take(chunk: &[u8], at: usize, end: usize) -> Taken {
-    if end <= at {
-        return Taken { byte: END, at, end };
-    }
-    if chunk.len() <= at {
-        return Taken { byte: END, at, end };
-    }
-    Taken {
-        byte: wide(chunk[at]),
-        at: at + 1,
-        end,
-    }
-}
-
-fn next_byte(chunk: &mut [u8], at: usize, end: usize) -> Taken {
-    if at < end {
-        return take(chunk, at, end);
-    }
-    let filled = refill(chunk);
-    take(chunk, 0, filled)
 }
 
 // What a byte that is no digit says of the digits before it.
@@ -127,7 +85,7 @@ pub fn number(chunk: &mut [u8], from: Input) -> Input {
     let mut value: u32 = 0;
     let mut digits: u32 = 0;
     while digits < 4000000000 {
-        let taken = next_byte(chunk, at, end);
+        let taken = chunks::next_byte(chunk, at, end);
         at = taken.at;
         end = taken.end;
         let digit = digit_of(taken.byte);

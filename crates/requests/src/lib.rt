@@ -35,3 +35,15 @@ pub fn refuse(placed: usize) -> State {
 pub fn put_bad(room: &mut [u8], placed: usize) -> usize {
     output::put_text(room, placed, b"bad request\n")
 }
+
+// The bytes into others, as far as these reach.
+pub fn copy_bytes(from: &[u8], to: &mut [u8]) {
+    let mut i: usize = 0;
+    while i < from.len() {
+        if to.len() <= i {
+            return;
+        }
+        to[i] = from[i];
+        i += 1;
+    }
+}

@@ -1,6 +1,6 @@
 // Writes numbers, one space apart, into a room that goes to standard output whenever it is full.
 ghost use Prim.Native.Nat.{_≤_};
-use crate::input::wide;
+use chunks::wide;
 use libc::STDOUT_FILENO;
 use questions::Refusal;
 

@@ -1,14 +1,18 @@
 -- `printout::run` meets its contract: the first line, the kept text, and what `print` puts. Assumes nothing.
+use native.Mathlib.Omega.{arith}
 use Rattle.printout.proofs.Begins.{run-puts}
 use borrow.Author.Needs.{needs}
 use Rattle.printout.proofs.run.Statement.{statement}
 use Rattle.printout.proofs.run.Tie as tie
 
-take-line-requires : tie.Need-take-line-requires
-take-line-requires c κs = search needs
+take-number-requires : tie.Need-take-number-requires
+take-number-requires c κs = search needs
 
 kept-end-requires : tie.Need-kept-end-requires
 kept-end-requires c κs = search needs
+
+variables-requires : tie.Need-variables-requires
+variables-requires c κs = search needs
 
 sub-print : tie.Need-sub-print
 sub-print c = search needs
@@ -17,7 +21,7 @@ part-print-start : tie.Need-part-print-start
 part-print-start c = search needs
 
 part-print-end : tie.Need-part-print-end
-part-print-end c = search needs
+part-print-end c = omega (arith, c .before .kept-end .ensures, c .before .before .take-number .ensures .within (omega arith))
 
 print-requires : tie.Need-print-requires
 print-requires c κs = search needs
@@ -28,14 +32,15 @@ same-length c = search needs
 returns : tie.Need-returns
 returns c =
     let u = c .before .before .before .before .before in
-    run-puts _ _ (u .before .take-line .ensures) _ (u .kept-end .ensures) _ _ _ (c .before .before .print .ensures)
+    run-puts _ _ (u .before .before .take-number .ensures) _ (u .variables .ensures) _ (u .before .kept-end .ensures) _ _ _ (c .before .before .print .ensures)
 
 pub run-spec : {M : Type 1} → statement M
 run-spec =
     tie.close
     (tie.spec
-    take-line-requires
+    take-number-requires
     kept-end-requires
+    variables-requires
     sub-print
     part-print-start
     part-print-end

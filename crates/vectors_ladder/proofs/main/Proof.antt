@@ -1,4 +1,4 @@
--- `vectors_ladder::main` is safe and ends. Assumes nothing.
+-- `vectors_ladder::main` meets its contract. No more of the room is written than it holds. Assumes nothing.
 use mathlib.Core.Path.{sym}
 use lib.Seq.{length-take-le}
 use borrow.Author.Needs.{needs}

@@ -1,4 +1,4 @@
--- `vectors_text::main` is safe and ends. Assumes nothing.
+-- `vectors_text::main` meets its contract. No more of the room is written than it holds. Assumes nothing.
 use mathlib.Core.Path.{sym}
 use lib.Seq.{length-take-le}
 use borrow.Author.Needs.{needs}

@@ -7,7 +7,7 @@ use borrow.Author.Needs.{needs}
 use borrow.Author.Tests.{not-true, not-false}
 use lib.ListN.{length}
 use Rattle.ladder.specs.Questions.{rungLeads}
-use Rattle.ladder.proofs.Asked.{Walked, walk-start, walk-failed, walk-more, walk-end, leads-tests}
+use Rattle.ladder.proofs.Asked.{Walked, walk-start, walk-failed, walk-more, walk-end, words-pass, leads-tests, stays-leads}
 use Rattle.ladder.proofs.question.missing_label.Statement.{statement}
 use Rattle.ladder.proofs.question.missing_label.Tie as tie
 
@@ -16,6 +16,12 @@ Inv-loop labels words lengths from₀ k₀ from k = Walked (rungLeads labels) wo
 
 abbrev μ-loop : tie.MeasureT-loop
 μ-loop labels words lengths from₀ k₀ from k = length lengths - k
+
+without-jump-requires : tie.Need-without-jump-requires Inv-loop μ-loop
+without-jump-requires c κs = search needs
+
+returns : tie.Need-returns Inv-loop μ-loop
+returns c = record { same = words-pass (leads-tests _) (stays-leads _ _ (sym (c .before .without-jump .ensures) ∙ c .if1 .taken)) }
 
 loop-holds : tie.Need-loop-holds Inv-loop μ-loop
 loop-holds c = walk-start _ _ _
@@ -44,8 +50,8 @@ part-rung-leads-end c = c .rung-end .ensures .within
 rung-leads-requires : tie.Need-rung-leads-requires Inv-loop μ-loop
 rung-leads-requires c κs = search needs
 
-returns : tie.Need-returns Inv-loop μ-loop
-returns c = record { same = walk-failed (leads-tests _) (c .before .before .before .before .before .before .loop .inv) (c .before .before .before .before .before .loop-test .taken) (c .before .before .before .rung-end .ensures) (sym (c .before .rung-leads .ensures) ∙ not-true _ (c .if1 .taken)) }
+returns-2 : tie.Need-returns-2 Inv-loop μ-loop
+returns-2 c = record { same = walk-failed (leads-tests _) (c .before .before .before .before .before .before .loop .inv) (c .before .before .before .before .before .loop-test .taken) (c .before .before .before .rung-end .ensures) (sym (c .before .rung-leads .ensures) ∙ not-true _ (c .if2 .taken)) }
 
 add-k : tie.Need-add-k Inv-loop μ-loop
 add-k c = omega arith
@@ -54,10 +60,10 @@ loop-less : tie.Need-loop-less Inv-loop μ-loop
 loop-less c = omega arith
 
 loop-again : tie.Need-loop-again Inv-loop μ-loop
-loop-again c = walk-more (leads-tests _) (c .before .before .before .before .before .before .loop .inv) (c .before .before .before .before .before .loop-test .taken) (c .before .before .before .rung-end .ensures) (sym (c .before .rung-leads .ensures) ∙ not-false _ (c .if1 .left))
+loop-again c = walk-more (leads-tests _) (c .before .before .before .before .before .before .loop .inv) (c .before .before .before .before .before .loop-test .taken) (c .before .before .before .rung-end .ensures) (sym (c .before .rung-leads .ensures) ∙ not-false _ (c .if2 .left))
 
-returns-2 : tie.Need-returns-2 Inv-loop μ-loop
-returns-2 c = record { same = walk-end (leads-tests _) (c .before .loop .inv) (c .loop-test .left) }
+returns-3 : tie.Need-returns-3 Inv-loop μ-loop
+returns-3 c = record { same = walk-end (leads-tests _) (c .before .loop .inv) (c .loop-test .left) }
 
 pub missing-label-spec : {M : Type 1} → statement M
 missing-label-spec =
@@ -65,6 +71,8 @@ missing-label-spec =
     (tie.spec
     Inv-loop
     μ-loop
+    without-jump-requires
+    returns
     loop-holds
     mul-rung-end
     shared-slice-read-rung-end
@@ -74,8 +82,8 @@ missing-label-spec =
     part-rung-leads-start
     part-rung-leads-end
     rung-leads-requires
-    returns
+    returns-2
     add-k
     loop-less
     loop-again
-    returns-2)
+    returns-3)

@@ -1,0 +1,44 @@
+-- `ladder::walk::contact_at` meets its contract: where the position went on, the word is a contact. Assumes nothing.
+use native.Mathlib.Omega.{arith}
+use Rattle.ladder.specs.Laws.Trees.{inside}
+use Rattle.ladder.proofs.Walks.{worked-contact, worked-contactn}
+use borrow.Author.Needs.{needs}
+use Rattle.ladder.proofs.walk.contact_at.Statement.{statement}
+use Rattle.ladder.proofs.walk.contact_at.Tie as tie
+
+word-at-requires : tie.Need-word-at-requires
+word-at-requires c κs = search needs
+
+cast-value : tie.Need-cast-value
+cast-value c = search needs
+
+value-requires : tie.Need-value-requires
+value-requires c κs = search needs
+
+add-t10 : tie.Need-add-t10
+add-t10 c = let l = inside (c .before .before .before .before .before .args .words .now) (c .before .before .before .before .before .args .at) _ (c .before .before .word-at .ensures) (omega (arith, c .match .keys1)) in omega arith
+
+add-t12 : tie.Need-add-t12
+add-t12 c = let l = inside (c .before .before .before .before .before .args .words .now) (c .before .before .before .before .before .args .at) _ (c .before .before .word-at .ensures) (omega (arith, c .match .keys2)) in omega arith
+
+returns : tie.Need-returns
+returns c = record { worked = λ h. worked-contact _ _ _ _ (c .before .before .word-at .ensures) (c .match .keys1) _ (c .before .value .ensures) }
+
+returns-2 : tie.Need-returns-2
+returns-2 c = record { worked = λ h. worked-contactn _ _ _ _ (c .before .before .word-at .ensures) (c .match .keys2) _ (c .before .value .ensures) }
+
+returns-3 : tie.Need-returns-3
+returns-3 c = record { worked = λ h. absurd (omega arith) }
+
+pub contact-at-spec : {M : Type 1} → statement M
+contact-at-spec =
+    tie.close
+    (tie.spec
+    word-at-requires
+    cast-value
+    value-requires
+    add-t10
+    add-t12
+    returns
+    returns-2
+    returns-3)

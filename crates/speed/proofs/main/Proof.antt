@@ -1,0 +1,43 @@
+-- `speed::main` meets its contract. No more of the room is written than it holds. Assumes nothing.
+use mathlib.Core.Path.{sym}
+use lib.Seq.{length-take-le}
+use borrow.Author.Needs.{needs}
+use Rattle.speed.proofs.main.Statement.{statement}
+use Rattle.speed.proofs.main.Tie as tie
+
+slice-aggregate-answer-turns : tie.Need-slice-aggregate-answer-turns
+slice-aggregate-answer-turns c = search needs
+
+slice-aggregate-answer-turns-2 : tie.Need-slice-aggregate-answer-turns-2
+slice-aggregate-answer-turns-2 c = search needs
+
+answer-turns-requires : tie.Need-answer-turns-requires
+answer-turns-requires c κs = search needs
+
+array-share-prefix-room : tie.Need-array-share-prefix-room
+array-share-prefix-room c = search needs
+
+slice-aggregate-write-all : tie.Need-slice-aggregate-write-all
+slice-aggregate-write-all c = sym (length-take-le _ _ (search needs))
+
+write-all-requires : tie.Need-write-all-requires
+write-all-requires c κs = search needs
+
+returns : tie.Need-returns
+returns c = search needs
+
+returns-2 : tie.Need-returns-2
+returns-2 c = search needs
+
+pub main-spec : {M : Type 1} → statement M
+main-spec =
+    tie.close
+    (tie.spec
+    slice-aggregate-answer-turns
+    slice-aggregate-answer-turns-2
+    answer-turns-requires
+    array-share-prefix-room
+    slice-aggregate-write-all
+    write-all-requires
+    returns
+    returns-2)
