@@ -24,7 +24,7 @@ use Rattle.ladder.specs.Laws.Accepting.{encode-decode, holds}
 use Rattle.ladder.specs.Asking.{LadderIn, placeOf, SizesAsked, VariablesAsked, LabelsAsked, JumpsAsked}
 use Rattle.ladder.specs.Held.{LadderHeld}
 use Rattle.ladder.specs.Scanned.{ScratchAsked, Scanned}
-use Rattle.ladder.specs.Laws.Held.{rows, even, held}
+use Rattle.ladder.specs.Laws.Held.{keptOf, rows, even, held}
 use Rattle.ladder.specs.LadderScan.{scanAnswer, ladderScan, LadderScanDone}
 use Rattle.ladder.specs.Laws.Scans.{scan-taken, scan-scans}
 use Rattle.ladder.specs.declared.Found.{Found}
@@ -32,9 +32,6 @@ use Rattle.ladder.specs.declared.Found.the-variants.{At, Nothing}
 use Rattle.ladder.specs.declared.LadderScanned.{LadderScanned}
 
 -- ---- what question 4 took
-
-abbrev keptOf : List ℕ → List ℕ → List ℕ → List ℕ → Kept
-keptOf ws ls os ns = record { words = ws; records = rowOf ls os ns }
 
 module _ (ws ls os ns : List ℕ) (gs : Ladder) (e : decode (keptOf ws ls os ns) ≡ some gs) (h : 1 ≤ length gs) where
   ladder-in : LadderIn ws ns gs

@@ -4,7 +4,7 @@ use Prim.Native.Nat.{ℕ, zero, suc, _+_, _-_, _/_, _%_, _≤_, _<_}
 use native.Mathlib.Numerals.{add-one}
 use native.Mathlib.Omega.{arith}
 use mathlib.Core.Path.{_≡_, refl, sym, ap, _∙_}
-use mathlib.Core.Bool.{Bool, true, false, not, _&&_, _||_, and-assoc, and-true, and-false}
+use mathlib.Core.Bool.{Bool, true, false, true≢false, not, _&&_, _||_, and-assoc, and-true, and-false}
 use mathlib.Core.Option.{none, some}
 use mathlib.Core.List.{List, [], _∷_, _++_, map, flatMap, append-assoc, append-nil}
 use lib.Dec.{T, eqb, leb, ltb, ltb→lt}
@@ -26,9 +26,6 @@ use Rattle.ladder.specs.declared.Found.the-variants.{At, Nothing}
 
 -- ---- the first test that fails
 
-true-false : true ≡ false → ⊥
-true-false e = let z : _≡_ {A = ℕ} 0 1 = cc in omega arith
-
 -- the tests before k passed
 abbrev pub Passed : List Bool → ℕ → Type 0
 Passed bs k = (m : ℕ) → m < k → getD bs m true ≡ true
@@ -41,18 +38,18 @@ passed-more bs k h e = below-more (λ m. getD bs m true ≡ true) k h e
 
 failed-at : (bs : List Bool) (k : ℕ) → Passed bs k → getD bs k true ≡ false → some k ≡ firstFailed bs
 unfolding firstFailed
-failed-at [] k h e = absurd (true-false e)
-failed-at (true ∷ bs) zero h e = absurd (true-false e)
+failed-at [] k h e = absurd (true≢false e)
+failed-at (true ∷ bs) zero h e = absurd (true≢false e)
 failed-at (true ∷ bs) (suc k) h e = rw (← (failed-at bs k (λ m l. h (suc m) (omega arith)) e))
 failed-at (false ∷ bs) zero h e = refl
-failed-at (false ∷ bs) (suc k) h e = absurd (true-false (sym (h 0 (omega arith))))
+failed-at (false ∷ bs) (suc k) h e = absurd (true≢false (sym (h 0 (omega arith))))
 
 none-failed : (bs : List Bool) (k : ℕ) → Passed bs k → length bs ≤ k → none ≡ firstFailed bs
 unfolding firstFailed
 none-failed [] k h e = refl
 none-failed (b ∷ bs) zero h e = absurd (omega arith)
 none-failed (true ∷ bs) (suc k) h e = rw (← (none-failed bs k (λ m l. h (suc m) (omega arith)) (omega arith)))
-none-failed (false ∷ bs) (suc k) h e = absurd (true-false (sym (h 0 (omega arith))))
+none-failed (false ∷ bs) (suc k) h e = absurd (true≢false (sym (h 0 (omega arith))))
 
 -- ---- lists
 
@@ -424,7 +421,7 @@ module _ {ls : List ℕ} {i : ℕ} (r : Rising ls i) where
   rising-end h = record { new = λ e. none-failed (newLabels [] ls) i (r .passed) (rw (new-length [] ls) h) }
 
 pub rising-not : (ls : List ℕ) → RiseAsked ls false
-rising-not ls = record { new = λ e. absurd (true-false (sym e)) }
+rising-not ls = record { new = λ e. absurd (true≢false (sym e)) }
 
 pub risen : {ls : List ℕ} {r : Bool} → RiseAsked ls r → r ≡ true → LabelsAsked ls Nothing
 unfolding placeOf

@@ -2,6 +2,7 @@
 pub mod Holding
 pub mod Asked
 pub mod Walks
+pub mod Roots
 pub mod Measures
 pub mod FewWords
 pub mod Measuring

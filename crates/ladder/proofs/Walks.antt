@@ -1,6 +1,7 @@
 -- Laws of one word of a walk: what working and running a tree gives, from what working and running its parts gives. Assumes nothing.
 use Prim.Native.Nat.{ℕ, _+_, _≤_, _<_}
 use native.Mathlib.Omega.{arith}
+use native.Mathlib.Decide.{decLe}
 use mathlib.Core.Path.{_≡_, refl, sym, subst, _∙_}
 use mathlib.Core.Bool.{Bool, true, false, not, _&&_, _||_}
 use mathlib.Core.List.{List}
@@ -12,7 +13,7 @@ use Rattle.rungs.specs.Words.{numberOf, operandOf}
 use Rattle.ladder.specs.Tree.{Rear}
 use Rattle.ladder.specs.Meaning.{workInput, workFront, jumpIf, runOutput, unlessJumped, runRear, runRung}
 use Rattle.ladder.specs.Kept.{frontWords, rearWords, rungWords}
-use Rattle.ladder.specs.Walking.{FrontDone, FrontWorked, joinedBy, runOf, RunDone, RearRun, RungRun}
+use Rattle.ladder.specs.Walking.{FrontDone, FrontWorked, joinedBy, Root, runOf, RunDone, RearRun, RungRun}
 use Rattle.ladder.specs.declared.walk.Worked.{Worked}
 use Rattle.ladder.specs.declared.walk.Ran.{Ran}
 use Rattle.ladder.specs.declared.walk.Ran.the-variants.{Onward, Jumped}
@@ -78,6 +79,14 @@ module _ (ws : List ℕ) (at w : ℕ) (t : List ℕ) (e : w ≡ getD ws at 0) wh
 
   pub worked-none : (1 ≤ numberOf w → numberOf w < 5 → ⊥) → FrontWorked ws at t (record { value = false; next = at })
   worked-none k = record { onward = omega arith; done = no-front ws at w e (FrontDone at t (record { value = false; next = at })) k }
+
+  -- neither a contact nor a root
+  pub no-contact : (Root ws at → ⊥) → (1 ≤ numberOf w → numberOf w < 3 → ⊥) → FrontWorked ws at t (record { value = false; next = at })
+  no-contact n k = worked-none (λ l h. go (decLe 3 (numberOf w)) l h)
+    where
+      go : Dec (3 ≤ numberOf w) → 1 ≤ numberOf w → numberOf w < 5 → ⊥
+      go (yes z) l h = n (rw (← e) (z, omega (arith, h)))
+      go (no z) l h = k l (omega (arith, z))
 
 -- ---- rears
 

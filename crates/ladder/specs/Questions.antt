@@ -9,7 +9,7 @@ use lib.ListN.{length}
 use Rattle.questions.specs.Tests.{all}
 use Rattle.questions.specs.Questions.{Answer, ask, askEach, firstNo, question1}
 use Rattle.table.specs.State.{scratchBytes}
-use Rattle.rungs.specs.Records.{present}
+use Rattle.rungs.specs.Records.{mostRecords, present}
 use Rattle.ladder.specs.Tree.{Input, contact, contactn, Front, input, frontAnd, frontOr, Output, coil, coiln, jump, jumpn, Rear, output, rearAnd, rearOr, Rung, Ladder, labels, rungAll}
 use Rattle.ladder.specs.Kept.{Kept, rungWords, encode, decode}
 
@@ -25,7 +25,7 @@ unfoldable pub question4 : Kept → Answer
 question4 k = ask 4 (holdsLadder k)
 
 abbrev pub mostRungs : ℕ
-mostRungs = 256
+mostRungs = mostRecords
 
 abbrev pub mostRungWords : ℕ
 mostRungWords = 128

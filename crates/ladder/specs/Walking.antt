@@ -4,8 +4,9 @@ use mathlib.Core.Path.{_≡_}
 use mathlib.Core.Bool.{Bool, true, false, _&&_, _||_}
 use mathlib.Core.List.{List}
 use lib.Dec.{eqb}
-use lib.ListN.{length}
+use lib.ListN.{length, getD}
 use Rattle.table.specs.State.{State}
+use Rattle.rungs.specs.Words.{numberOf}
 use Rattle.ladder.specs.Tree.{Front, Rear, Rung}
 use Rattle.ladder.specs.Meaning.{workFront, Run, onward, jumped, runRear, runRung}
 use Rattle.ladder.specs.Kept.{frontWords, rearWords, rungWords}
@@ -25,9 +26,20 @@ pub record FrontWorked (ws : List ℕ) (at : ℕ) (t : List ℕ) (r : Worked) : 
   pub onward : at ≤ r .next
   pub done : (f : Front) → FrontAt ws at f → FrontDone at t r f
 
--- a front that is a contact, where the position went on
+-- a word of a front-and or a front-or stands at a position
+abbrev pub Root : List ℕ → ℕ → Type 0
+Root ws at = (3 ≤ numberOf (getD ws at 0)) × (numberOf (getD ws at 0) ≤ 4)
+
+-- a front that is a contact, where the position went on; what stands at a position where there is no root
 pub record ContactWorked (ws : List ℕ) (at : ℕ) (t : List ℕ) (r : Worked) : Type 0 where
   pub worked : at < r .next → FrontWorked ws at t r
+  pub leaf : (Root ws at → ⊥) → FrontWorked ws at t r
+
+-- roots only stand from `from` up to r, and none at r
+pub record RootsPassed (ws : List ℕ) (from r : ℕ) : Type 0 where
+  pub onward : from ≤ r
+  pub roots : (k : ℕ) → from ≤ k → k < r → Root ws k
+  pub leaf : Root ws r → ⊥
 
 -- a front-and is kind 3, a front-or kind 4
 unfoldable pub joinedBy : ℕ → Bool → Bool → Bool

@@ -1,7 +1,7 @@
 // A rung worked along the prefix order of its kept words: a tree is its root word, then its first part, then its second.
 // Words that hold no tree are passed over from the first that has no place there.
 ghost use mathlib.Core.Path.{_≡_};
-ghost use Rattle.ladder.specs.Walking.{joinedBy, ContactWorked, FrontWorked, RearRun, RungRun};
+ghost use Rattle.ladder.specs.Walking.{joinedBy, ContactWorked, RootsPassed, FrontWorked, RearRun, RungRun};
 
 // A front's value, and the position after its words.
 pub struct Worked {
@@ -47,42 +47,43 @@ fn joined(kind: u32, first: bool, second: bool) -> bool
     first | second
 }
 
-// The front whose words begin at a position. A contact that is a second part is worked without a call.
-pub fn front_at(words: &[u32], at: usize, table: &[u8]) -> Worked
-    ensures { λ r. ⌜ FrontWorked (now (words .entry)) at (now (table .entry)) r ⌝ }
+// Past the roots that stand before the first contact of the front at a position.
+fn first_contact(words: &[u32], from: usize) -> usize
+    ensures { λ r. ⌜ RootsPassed (now (words .entry)) from r ⌝ }
 {
-    let word = rungs::word_at(words, at);
-    let operand = (word % 65536) as usize;
-    let kind = word / 65536;
-    match kind {
-        1 => Worked {
-            value: table::value(table, operand),
-            next: at + 1,
-        },
-        2 => Worked {
-            value: !table::value(table, operand),
-            next: at + 1,
-        },
-        3 | 4 => {
-            let first = front_at(words, at + 1, table);
-            let contact = contact_at(words, first.next, table);
-            if first.next < contact.next {
-                return Worked {
-                    value: joined(kind, first.value, contact.value),
-                    next: contact.next,
-                };
-            }
-            let second = front_at(words, first.next, table);
-            Worked {
-                value: joined(kind, first.value, second.value),
-                next: second.next,
-            }
+    let mut at = from;
+    while at < words.len() {
+        let kind = words[at] / 65536;
+        if (kind != 3) & (kind != 4) {
+            return at;
         }
-        _ => Worked {
-            value: false,
-            next: at,
-        },
+        at += 1;
     }
+    at
+}
+
+// The front whose words begin at a position: its first contact, and then, root by root towards that position, the parts joined with it.
+// The part before a root's second is worked when the root is reached, so only a second part that is no contact takes a call.
+pub fn front_at(words: &[u32], from: usize, table: &[u8]) -> Worked
+    ensures { λ r. ⌜ FrontWorked (now (words .entry)) from (now (table .entry)) r ⌝ }
+{
+    let mut at = first_contact(words, from);
+    let mut first = contact_at(words, at, table);
+    while from < at {
+        at -= 1;
+        let kind = rungs::word_at(words, at) / 65536;
+        let contact = contact_at(words, first.next, table);
+        let second = if first.next < contact.next {
+            contact
+        } else {
+            front_at(words, first.next, table)
+        };
+        first = Worked {
+            value: joined(kind, first.value, second.value),
+            next: second.next,
+        };
+    }
+    first
 }
 
 // The rear whose words begin at a position, with a power.

@@ -8,7 +8,7 @@ use lib.ListN.{length}
 use Rattle.questions.specs.Tests.{all}
 use Rattle.questions.specs.Questions.{Answer, ask, firstNo, question1}
 use Rattle.table.specs.State.{scratchBytes}
-use Rattle.rungs.specs.Records.{RungRecord, laid}
+use Rattle.rungs.specs.Records.{RungRecord, mostRecords as recordsAtMost, laid}
 use Rattle.list.specs.Instruction.{Instr, Operand, tableIndex, noOperand, instructionIndex, operand, decodeInstr}
 
 -- "a table index below V + 32", "an instruction index from 0 to the list's length" n
@@ -28,7 +28,7 @@ abbrev pub mostInstructions : ℕ
 mostInstructions = 16384
 
 abbrev pub mostRecords : ℕ
-mostRecords = 256
+mostRecords = recordsAtMost
 
 -- records "laid as above, none of length 0", up to instruction n
 unfoldable pub recordsLaid : ℕ → List RungRecord → Bool

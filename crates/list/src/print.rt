@@ -1,11 +1,8 @@
 // The printed list. Each function writes its text from `at` on and gives the position after it; past the buffer's end nothing is
 // written, so that the same functions count the bytes, over a buffer of none.
-ghost use mathlib.Core.Path.{_≡_};
-ghost use mathlib.Core.List.{[], _∷_};
 ghost use Prim.Native.Nat.{_+_, _≤_, _<_};
 ghost use lib.Dec.{T};
 ghost use lib.Seq.{slice};
-ghost use Rattle.questions.specs.Bytes.{decimal};
 ghost use Rattle.rungs.specs.Records.{rowOf};
 ghost use Rattle.list.specs.Questions.{listInRange};
 ghost use Rattle.list.specs.ListScan.{listOf};

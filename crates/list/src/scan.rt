@@ -1,7 +1,7 @@
 // One scan of a list. "Stood at a record's offset" is never a search on straight runs: `next` is the first record that does not
 // begin before the index, so the instruction stands at an offset just when it is that record's; a jump finds it anew, by halving.
 ghost use mathlib.Core.Path.{_≡_};
-ghost use Prim.Native.Nat.{_+_, _≤_, _<_, _^_};
+ghost use Prim.Native.Nat.{_+_, _<_, _^_};
 ghost use lib.ListN.{length, getD};
 ghost use Rattle.list.specs.Parts.{Did, Stepped, Ran, Sought, Followed, firstMachine, firstPlace, startsHere, runsOn, haltedAt};
 use crate::Counts;

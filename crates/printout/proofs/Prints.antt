@@ -109,7 +109,7 @@ module _ (vars : ℕ) (words : List ℕ) (rs : List RungRecord) {r : Listed} {bu
 
 module _ (vars : ℕ) (k : Kept) {r : Translated} {after : Buffers} (done : TranslateDone (translateKept vars k (blank 16384 256)) r after) where
   module _ (x : RefusalCase) (e : r ≡ TranslatedRefused x) where
-    kept-refusal : translateKept vars k (blank 16384 256) .answer ≡ translateRefused (refusalOf x)
+    pub kept-refusal : translateKept vars k (blank 16384 256) .answer ≡ translateRefused (refusalOf x)
     unfolding translatedOf
     kept-refusal = sym (done .answer) ∙ ap translatedOf e
 
@@ -118,7 +118,7 @@ module _ (vars : ℕ) (k : Kept) {r : Translated} {after : Buffers} (done : Tran
     kept-refused p = rw (kept-refusal, printedKept) p
 
   module _ (c : CountsStruct) (e : r ≡ TranslatedCase c) where
-    kept-answer : translateKept vars k (blank 16384 256) .answer ≡ translated (countsIn c)
+    pub kept-answer : translateKept vars k (blank 16384 256) .answer ≡ translated (countsIn c)
     unfolding translatedOf
     kept-answer = sym (done .answer) ∙ ap translatedOf e
 
@@ -138,7 +138,7 @@ module _ (vars : ℕ) (k : Kept) {r : Translated} {after : Buffers} (done : Tran
 
 module _ (vars : ℕ) (s : List ℕ) {r : TextRead} {after : Buffers} (done : ReadDone (readText vars s (blank 8192 256)) r after) where
   module _ (x : RefusalCase) (e : r ≡ ReadRefusedCase x) where
-    read-refusal : readText vars s (blank 8192 256) .answer ≡ readRefused (refusalOf x)
+    pub read-refusal : readText vars s (blank 8192 256) .answer ≡ readRefused (refusalOf x)
     unfolding readOf
     read-refusal = sym (done .answer) ∙ ap readOf e
 
@@ -147,7 +147,7 @@ module _ (vars : ℕ) (s : List ℕ) {r : TextRead} {after : Buffers} (done : Re
     read-refused p = rw (read-refusal, printed) p
 
   module _ (c : KeptStruct) (e : r ≡ KeptCase c) where
-    read-answer : readText vars s (blank 8192 256) .answer ≡ kept (c .words) (c .rungs)
+    pub read-answer : readText vars s (blank 8192 256) .answer ≡ kept (c .words) (c .rungs)
     unfolding readOf
     read-answer = sym (done .answer) ∙ ap readOf e
 

@@ -1,41 +1,15 @@
--- Laws of the lines that are printed: a refusal's place, how far the lines reach, and their parts put one after the other. Assumes nothing.
+-- Laws of the lines that are printed: how far they reach, and their parts put one after the other. Assumes nothing.
 use Prim.Native.Nat.{ℕ, _+_, _^_, _≤_, _<_}
 use native.Mathlib.Omega.{arith}
-use mathlib.Core.Path.{_≡_, refl}
-use mathlib.Core.List.{List, [], _∷_}
+use mathlib.Core.Path.{_≡_}
+use mathlib.Core.List.{List}
 use lib.ListN.{length}
-use types.Run.{OneOf, miss}
-use denote.Enum.Declared.{tagOf}
-use Rattle.questions.proofs.Refusal.{the-type}
 use Rattle.questions.specs.Bytes.{bytes, decimal}
 use Rattle.questions.specs.Questions.{Refusal}
-use Rattle.questions.specs.Refusals.{refusalOf}
-use Rattle.questions.specs.declared.Refusal.{Refusal as RefusalCase}
-use Rattle.questions.specs.declared.Refusal.the-variants.{Variables, TextLength, Text, Kept, Sizes, Variable, Label, Jump, Scratch, List as ListCase, Table, Watchdog, Buffer}
 use Rattle.printing.specs.Put.{Put}
 use Rattle.printing.specs.Laws.Puts.{put-then, decimal-most}
 use Rattle.translation.specs.TranslateKept.{Counts}
 use Rattle.printout.specs.Printout.{refusalLine, countLine}
-
--- the refusals without a place
-abbrev placeless : List ℕ
-placeless = 0 ∷ 1 ∷ 3 ∷ 4 ∷ 8 ∷ 9 ∷ 10 ∷ 11 ∷ 12 ∷ []
-
-pub no-place : (refusal : RefusalCase) → OneOf placeless (tagOf the-type refusal) → 0 ≡ refusalOf refusal .place
-unfolding refusalOf
-no-place Variables k = refl
-no-place TextLength k = refl
-no-place (Text place) k = absurd (miss placeless 2 tt k)
-no-place Kept k = refl
-no-place Sizes k = refl
-no-place (Variable rung) k = absurd (miss placeless 5 tt k)
-no-place (Label rung) k = absurd (miss placeless 6 tt k)
-no-place (Jump rung) k = absurd (miss placeless 7 tt k)
-no-place Scratch k = refl
-no-place ListCase k = refl
-no-place Table k = refl
-no-place Watchdog k = refl
-no-place Buffer k = refl
 
 -- how far a text and a number reach
 module _ {l : List ℕ} {i : ℕ} {r : ℕ} {x : List ℕ} where

@@ -1,6 +1,5 @@
 // What the program ladder-list prints. Document 01, "Listing".
 ghost use mathlib.Core.Path.{_≡_};
-ghost use mathlib.Core.List.{[], _∷_};
 ghost use Prim.Native.Nat.{_+_, _-_, _≤_, _<_, min};
 ghost use lib.ListN.{length};
 ghost use Rattle.questions.specs.Refusals.{refusalOf};
@@ -118,46 +117,14 @@ pub fn variables(line: FirstLine) -> u32
     number_or(line, 0)
 }
 
-fn refusal_number(refusal: Refusal) -> usize
-    ensures { λ r. ⌜ r ≡ refusalOf refusal .number ⌝ }
-{
-    match refusal {
-        Refusal::Variables => 1,
-        Refusal::TextLength => 2,
-        Refusal::Text { place: _ } => 3,
-        Refusal::Kept => 4,
-        Refusal::Sizes => 5,
-        Refusal::Variable { rung: _ } => 6,
-        Refusal::Label { rung: _ } => 7,
-        Refusal::Jump { rung: _ } => 8,
-        Refusal::Scratch => 9,
-        Refusal::List => 10,
-        Refusal::Table => 11,
-        Refusal::Watchdog => 12,
-        Refusal::Buffer => 13,
-    }
-}
-
-fn refusal_place(refusal: Refusal) -> usize
-    ensures { λ r. ⌜ r ≡ refusalOf refusal .place ⌝ }
-{
-    match refusal {
-        Refusal::Text { place } => place,
-        Refusal::Variable { rung } => rung,
-        Refusal::Label { rung } => rung,
-        Refusal::Jump { rung } => rung,
-        _ => 0,
-    }
-}
-
 // The line "refused N place P".
 pub fn put_refusal(out: &mut [u8], refusal: Refusal) -> usize
     ensures { λ r. ⌜ Put (now (out .entry)) 0 (refusalLine (refusalOf refusal)) r (now (out .exit)) ⌝ }
 {
     let word = printing::put_text(out, 0, b"refused ");
-    let number = printing::put_number(out, word, refusal_number(refusal));
+    let number = printing::put_number(out, word, questions::refusal_number(refusal));
     let at = printing::put_text(out, number, b" place ");
-    let place = printing::put_number(out, at, refusal_place(refusal));
+    let place = printing::put_number(out, at, questions::refusal_place(refusal));
     printing::put_text(out, place, b"\n")
 }
 

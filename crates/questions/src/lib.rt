@@ -2,6 +2,7 @@
 ghost use mathlib.Core.Path.{_≡_};
 ghost use lib.Dec.{leb};
 ghost use Rattle.questions.specs.Questions.{varsInRange};
+ghost use Rattle.questions.specs.Refusals.{refusalOf};
 
 // V from 1 to 1,024.
 pub const MOST_VARIABLES: u32 = 1024;
@@ -32,6 +33,40 @@ pub enum Refusal {
 pub enum Verdict {
     Accepted,
     Refused(Refusal),
+}
+
+// The number of a refusal.
+pub fn refusal_number(refusal: Refusal) -> usize
+    ensures { λ r. ⌜ r ≡ refusalOf refusal .number ⌝ }
+{
+    match refusal {
+        Refusal::Variables => 1,
+        Refusal::TextLength => 2,
+        Refusal::Text { place: _ } => 3,
+        Refusal::Kept => 4,
+        Refusal::Sizes => 5,
+        Refusal::Variable { rung: _ } => 6,
+        Refusal::Label { rung: _ } => 7,
+        Refusal::Jump { rung: _ } => 8,
+        Refusal::Scratch => 9,
+        Refusal::List => 10,
+        Refusal::Table => 11,
+        Refusal::Watchdog => 12,
+        Refusal::Buffer => 13,
+    }
+}
+
+// The place of a refusal, 0 where it has none.
+pub fn refusal_place(refusal: Refusal) -> usize
+    ensures { λ r. ⌜ r ≡ refusalOf refusal .place ⌝ }
+{
+    match refusal {
+        Refusal::Text { place } => place,
+        Refusal::Variable { rung } => rung,
+        Refusal::Label { rung } => rung,
+        Refusal::Jump { rung } => rung,
+        _ => 0,
+    }
 }
 
 pub fn vars_in_range(vars: u32) -> bool

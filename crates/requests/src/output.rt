@@ -174,39 +174,11 @@ pub fn put_records(
     put_next(room, placed, (labels.len() - k) as u64)
 }
 
-fn refusal_number(refusal: Refusal) -> u64 {
-    match refusal {
-        Refusal::Variables => 1,
-        Refusal::TextLength => 2,
-        Refusal::Text { place: _ } => 3,
-        Refusal::Kept => 4,
-        Refusal::Sizes => 5,
-        Refusal::Variable { rung: _ } => 6,
-        Refusal::Label { rung: _ } => 7,
-        Refusal::Jump { rung: _ } => 8,
-        Refusal::Scratch => 9,
-        Refusal::List => 10,
-        Refusal::Table => 11,
-        Refusal::Watchdog => 12,
-        Refusal::Buffer => 13,
-    }
-}
-
-fn refusal_place(refusal: Refusal) -> u64 {
-    match refusal {
-        Refusal::Text { place } => place as u64,
-        Refusal::Variable { rung } => rung as u64,
-        Refusal::Label { rung } => rung as u64,
-        Refusal::Jump { rung } => rung as u64,
-        _ => 0,
-    }
-}
-
 pub fn refused_head(refusal: Refusal) -> Head {
     Head {
         ending: 0,
-        first: refusal_number(refusal),
-        second: refusal_place(refusal),
+        first: questions::refusal_number(refusal) as u64,
+        second: questions::refusal_place(refusal) as u64,
     }
 }
 

@@ -3,7 +3,7 @@
 use Prim.Native.Nat.{ℕ, min}
 use mathlib.Core.List.{List, _++_, map}
 use lib.ListN.{length, getD, take, drop, replicate}
-use Rattle.rungs.specs.Records.{RungRecord, labels, offsets, rowOf}
+use Rattle.rungs.specs.Records.{RungRecord, mostRecords, labels, offsets, rowOf}
 use Rattle.rows.specs.declared.Rung.{Rung}
 use Rattle.rows.specs.declared.Rows.{Rows}
 
@@ -25,7 +25,7 @@ recordAt rs i = getD rs i noRecord
 
 -- as many records as a ladder or a list may have
 abbrev pub mostRungs : ℕ
-mostRungs = 256
+mostRungs = mostRecords
 
 -- as many numbers as have room, the rest stays 0
 unfoldable pub overZeros : List ℕ → List ℕ

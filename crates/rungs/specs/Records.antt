@@ -11,6 +11,10 @@ pub record RungRecord : Type 0 where
   pub offset : ℕ
   pub length : ℕ
 
+-- 01, Questions before work: at most 256 rungs; 1 to 256 records
+abbrev pub mostRecords : ℕ
+mostRecords = 256
+
 abbrev pub labels : List RungRecord → List ℕ
 labels rs = map (λ r. r .label) rs
 

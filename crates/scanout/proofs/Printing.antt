@@ -23,15 +23,8 @@ use Rattle.printing.specs.Laws.Puts.{put-then, Left, all-left, left-none, left-
 use Rattle.scanout.specs.Scanout.{questionText, endWord, endLines, changedLine, changedLines, lastLine}
 use Rattle.scanout.specs.Parts.{haltOf}
 
--- how far a text and a number reach
+-- the cases of the ends, the last line and the questions
 module _ {l : List ℕ} {i : ℕ} {r : ℕ} {x : List ℕ} where
-  pub text-reach : {t : List ℕ} (k most : ℕ) → Put l i t r x → length t ≤ k → i ≤ most → r ≤ most + k
-  text-reach k most p h g = omega (arith, p .end)
-
-  pub number-reach : (v most : ℕ) → Put l i (decimal v) r x → v < 2 ^ 64 → i ≤ most → r ≤ most + 20
-  number-reach v most p h g = omega (arith, p .end, decimal-most v h)
-
-  -- the cases of the ends, the last line and the questions
   pub end-true : (b : Bool) → b ≡ true → Put l i (bytes "Ended") r x → Put l i (endWord (haltOf b)) r x
   unfolding endWord haltOf
   end-true b e p = rw e p

@@ -3,12 +3,12 @@ use Prim.Native.Nat.{ℕ, suc, _+_, _≤_, _<_}
 use native.Mathlib.Omega.{arith}
 use native.Mathlib.Numerals.{add-one}
 use mathlib.Core.Path.{_≡_, refl, sym, ap, subst, _∙_}
-use mathlib.Core.Bool.{Bool, true, false, not, _&&_, Bool·beq}
+use mathlib.Core.Bool.{Bool, true, false, false≢true, not, _&&_, Bool·beq}
 use mathlib.Core.Logic.{_⊎_, inl, inr}
 use mathlib.Core.Option.{none, some}
 use mathlib.Core.List.{List, [], _∷_, _++_}
 use lib.Dec.{eqb, leb}
-use lib.ListN.{length, take, replicate, length-replicate, drop, set, getD, length-take, length-append, length-set, drop-of-length-le}
+use lib.ListN.{length, take, drop, set, getD, length-take, length-append, length-set, drop-of-length-le}
 use lib.Seq.{drop-cons, take-suc, take-suc-set, getD-take, length-take-le, take-at, take-all}
 use borrow.Author.Tests.{leb-true, leb-false, ne-eqb, eq-eqb}
 use Rattle.questions.specs.Questions.{Answer, Refusal, ask, firstNo, question1, mostRungWatchdog, mostInstructionWatchdog}
@@ -39,21 +39,20 @@ use Rattle.list.specs.declared.ListScanned.{ListScanned}
 use Rattle.list.specs.declared.Counts.{Counts as ListStruct}
 use Rattle.list.specs.declared.ListScanned.the-variants.{Ended as ListEnded, Stopped as ListStopped, Refused as ListRefused}
 use Rattle.translation.specs.Translate.{translate}
-use Rattle.translation.specs.TranslateKept.{translated, translateKept, countsIn, TranslateDone}
-use Rattle.translation.specs.TranslateKept.{refused as translateRefused, answerOf as translatedOf, countsOf as countsOfList}
-use Rattle.translation.specs.Laws.Answers.{written-room, counts-are, all-yes}
+use Rattle.translation.specs.TranslateKept.{translateKept, countsIn, TranslateDone}
+use Rattle.translation.specs.TranslateKept.{countsOf as countsOfList}
+use Rattle.translation.specs.Laws.Answers.{counts-are, all-yes}
 use Rattle.translation.specs.Laws.Legal.{watchdog-in-range as most-in-range}
 use Rattle.translation.specs.declared.Translated.{Translated}
 use Rattle.translation.specs.declared.Counts.{Counts as CountsStruct}
 use Rattle.translation.specs.declared.Translated.the-variants.{Written as TranslatedCase, Refused as TranslatedRefused}
-use Rattle.text.specs.Read.{kept, readText, writtenKept, ReadDone}
-use Rattle.text.specs.Read.{refused as readRefused, answerOf as readOf}
-use Rattle.text.specs.Laws.Reads.{written-room as kept-room-of}
+use Rattle.text.specs.Read.{readText, writtenKept, ReadDone}
 use Rattle.text.specs.declared.TextRead.{TextRead}
 use Rattle.text.specs.declared.Counts.{Counts as KeptStruct}
 use Rattle.text.specs.declared.TextRead.the-variants.{Kept as KeptCase, Refused as ReadRefusedCase}
 use Rattle.printing.specs.Put.{Put}
 use Rattle.printout.specs.Printout.{blank}
+use Rattle.printout.proofs.Prints.{read-refusal, read-answer, kept-refusal, kept-answer}
 use Rattle.scanout.specs.Scanout.{refusalText, sameBytes, alike, instructionWatchdog, listReport, scansReport, keptReport, report}
 use Rattle.scanout.specs.Parts.{TableCopied, haltOf, ofLadder, ofList, bothLines}
 use Rattle.scanout.specs.Parts.{countsIn as countsInScan}
@@ -111,16 +110,13 @@ module _ {xs ys : List ℕ} {n i : ℕ} (h : Comparing xs ys n i) where
 
 -- ---- demand 3, of two scans
 
-not-both : false ≡ true → ⊥
-not-both e = let z : _≡_ {A = ℕ} 0 1 = cc in omega arith
-
 module _ (a b : Bool) (k m : ℕ) (xs ys : List ℕ) where
   pub alike-not : not (Bool·beq a b) ≡ true → false ≡ alike (haltOf a) k xs (haltOf b) m ys
   unfolding alike haltOf
   alike-not e = go a b e
     where
       go : (a b : Bool) → not (Bool·beq a b) ≡ true → false ≡ alike (haltOf a) k xs (haltOf b) m ys
-      go true true e = absurd (not-both e)
+      go true true e = absurd (false≢true e)
       go true false e = refl
       go false true e = refl
       go false false e = e
@@ -130,9 +126,9 @@ module _ (a b : Bool) (k m : ℕ) (xs ys : List ℕ) where
   alike-stopped e q = go a b e q
     where
       go : (a b : Bool) → not (Bool·beq a b) ≡ false → not a ≡ true → true ≡ alike (haltOf a) k xs (haltOf b) m ys
-      go true true e q = absurd (not-both q)
-      go true false e q = absurd (not-both (sym e))
-      go false true e q = absurd (not-both (sym e))
+      go true true e q = absurd (false≢true q)
+      go true false e q = absurd (false≢true (sym e))
+      go false true e q = absurd (false≢true (sym e))
       go false false e q = refl
 
   alike-both : not (Bool·beq a b) ≡ false → not a ≡ false → alike (haltOf a) k xs (haltOf b) m ys ≡ (eqb k m && sameBytes xs ys)
@@ -141,9 +137,9 @@ module _ (a b : Bool) (k m : ℕ) (xs ys : List ℕ) where
     where
       go : (a b : Bool) → not (Bool·beq a b) ≡ false → not a ≡ false → alike (haltOf a) k xs (haltOf b) m ys ≡ (eqb k m && sameBytes xs ys)
       go true true e q = refl
-      go true false e q = absurd (not-both (sym e))
-      go false true e q = absurd (not-both (sym e))
-      go false false e q = absurd (not-both (sym q))
+      go true false e q = absurd (false≢true (sym e))
+      go false true e q = absurd (false≢true (sym e))
+      go false false e q = absurd (false≢true (sym q))
 
   pub alike-rungs : not (Bool·beq a b) ≡ false → not a ≡ false → (k ≡ m → ⊥) → false ≡ alike (haltOf a) k xs (haltOf b) m ys
   alike-rungs e q d = sym (alike-both e q ∙ ap (λ t. t && sameBytes xs ys) (ne-eqb _ _ d))
@@ -186,31 +182,15 @@ not-copied table lent h = record {
   none = λ r. refl;
 }
 
-room-of : (n size x : ℕ) → n ≤ length (replicate size x) → n ≤ size
-room-of n size x h = subst (λ k. n ≤ k) (length-replicate size x) h
-
 -- ---- Read
 
 module _ (vars w : ℕ) (table s : List ℕ) {r : TextRead} {after : Buffers} (done : ReadDone (readText vars s (blank 8192 256)) r after) where
   module _ (x : RefusalCase) (e : r ≡ ReadRefusedCase x) where
-    read-refusal : readText vars s (blank 8192 256) .answer ≡ readRefused (refusalOf x)
-    unfolding readOf
-    read-refusal = sym (done .answer) ∙ ap readOf e
-
     pub read-refused : {l : List ℕ} {i p : ℕ} {y : List ℕ} → Put l i (refusalText (refusalOf x)) p y → Put l i (report vars w table s) p y
     unfolding report
-    read-refused p = rw (read-refusal, report) p
+    read-refused p = rw (read-refusal vars s done x e, report) p
 
   module _ (c : KeptStruct) (e : r ≡ KeptCase c) where
-    read-answer : readText vars s (blank 8192 256) .answer ≡ kept (c .words) (c .rungs)
-    unfolding readOf
-    read-answer = sym (done .answer) ∙ ap readOf e
-
-    pub read-room : (c .words ≤ 8192) × (c .rungs ≤ 256)
-    read-room =
-        let h = kept-room-of vars s (blank 8192 256) (c .words) (c .rungs) read-answer in
-        (room-of (c .words) 8192 0 (h .0), room-of (c .rungs) 256 0 (h .1))
-
     pub read-kept : {l : List ℕ} {i p : ℕ} {y : List ℕ}
         → Put l i (keptReport vars (record {
           words = take (c .words) (after .words);
@@ -218,36 +198,24 @@ module _ (vars w : ℕ) (table s : List ℕ) {r : TextRead} {after : Buffers} (d
         }) table w) p y
         → Put l i (report vars w table s) p y
     unfolding report writtenKept writtenWords writtenRecords
-    read-kept p = rw (read-answer, report, ← (done .same-buffers)) p
+    read-kept p = rw (read-answer vars s done c e, report, ← (done .same-buffers)) p
 
 -- ---- Translate
 
 module _ (vars w : ℕ) (table : List ℕ) (k : Kept) {r : Translated} {after : Buffers} (done : TranslateDone (translateKept vars k (blank 16384 256)) r after) where
   module _ (x : RefusalCase) (e : r ≡ TranslatedRefused x) where
-    kept-refusal : translateKept vars k (blank 16384 256) .answer ≡ translateRefused (refusalOf x)
-    unfolding translatedOf
-    kept-refusal = sym (done .answer) ∙ ap translatedOf e
-
     pub kept-refused : {l : List ℕ} {i p : ℕ} {y : List ℕ} → Put l i (refusalText (refusalOf x)) p y → Put l i (keptReport vars k table w) p y
     unfolding keptReport
-    kept-refused p = rw (kept-refusal, keptReport) p
+    kept-refused p = rw (kept-refusal vars k done x e, keptReport) p
 
   module _ (c : CountsStruct) (e : r ≡ TranslatedCase c) where
-    kept-answer : translateKept vars k (blank 16384 256) .answer ≡ translated (countsIn c)
-    unfolding translatedOf
-    kept-answer = sym (done .answer) ∙ ap translatedOf e
-
-    pub kept-room : (c .instructions ≤ 16384) × (c .rungs ≤ 256)
-    kept-room =
-        let h = written-room vars k (blank 16384 256) (countsIn c) kept-answer in
-        (room-of (c .instructions) 16384 0 (h .0), room-of (c .rungs) 256 0 (h .1))
-
     -- 65,535 × L is a legal watchdog
     pub kept-longest : c .longest ≤ 256
     unfolding countsOfList
     kept-longest =
-        let n = counts-are vars k (blank 16384 256) (countsIn c) kept-answer in
-        let a = accepted vars k (first-yes (ladderAnswer vars k) _ (all-yes vars k (blank 16384 256) (countsIn c) kept-answer)) .1 in
+        let q = kept-answer vars k done c e in
+        let n = counts-are vars k (blank 16384 256) (countsIn c) q in
+        let a = accepted vars k (first-yes (ladderAnswer vars k) _ (all-yes vars k (blank 16384 256) (countsIn c) q)) .1 in
         let l : c .longest ≡ longest (translate vars (ladderOf k) .records) = ap (λ d. d .longest) n in
         let m = watchdog-in-range mostInstructionWatchdog _ (most-in-range vars (ladderOf k) a 65535 (omega arith)) in
         omega (arith, l, m)
@@ -257,7 +225,7 @@ module _ (vars w : ℕ) (table : List ℕ) (k : Kept) {r : Translated} {after : 
         (rowOf (take (c .rungs) (after .labels)) (take (c .rungs) (after .offsets)) (take (c .rungs) (after .lengths))) (c .longest) table w) p y
         → Put l i (keptReport vars k table w) p y
     unfolding keptReport writtenWords writtenRecords
-    kept-scans p = rw (kept-answer, keptReport, ← (done .same-buffers)) p
+    kept-scans p = rw (kept-answer vars k done c e, keptReport, ← (done .same-buffers)) p
 
 -- ---- a table lent
 

@@ -1,15 +1,13 @@
 -- Worked lines of ladder-scan: numbers, tables, refusals, and case A's report. Assumes nothing.
 use mathlib.Core.Path.{_≡_, refl}
 use mathlib.Core.Bool.{true, false}
-use mathlib.Core.List.{List, [], _∷_, _++_}
-use Prim.Native.Nat.{ℕ}
+use mathlib.Core.List.{[], _∷_, _++_}
 use lib.ListN.{replicate}
 use Rattle.questions.specs.Bytes.{bytes, decimal, digits}
-use Rattle.questions.specs.Questions.{Refusal}
 use Rattle.questions.specs.Tests.{all}
 use Rattle.table.specs.Halt.{Ended, Stopped}
 use Rattle.grammar.specs.Reader.{digitOf, digitsFrom, numberOf}
-use Rattle.printout.specs.Printout.{firstLine, textAfter, lineNumber, refusalLine}
+use Rattle.printout.specs.Printout.{lineNumber, refusalLine}
 use Rattle.scanout.specs.Scanout.{watchdogOf, isBit, tableOf, refusalText, questionText, questionTexts, endWord, endLines, changedLine, changedLines, sameBytes, alike, lastLine, instructionWatchdog}
 
 pub watchdogs-worked :

@@ -1,7 +1,6 @@
 // What the program ladder-scan prints: both scans of a ladder and its list side by side. README, "ladder-scan".
 ghost use mathlib.Core.Path.{_≡_};
-ghost use mathlib.Core.List.{[], _∷_, _++_};
-ghost use Prim.Native.Nat.{_+_, _-_, _*_, _≤_, _<_, min};
+ghost use Prim.Native.Nat.{_+_, _-_, _*_, _≤_, _<_};
 ghost use lib.ListN.{length, take};
 ghost use Rattle.questions.specs.Refusals.{refusalOf};
 ghost use Rattle.rungs.specs.Records.{rowOf};

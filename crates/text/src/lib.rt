@@ -2,7 +2,6 @@
 ghost use mathlib.Core.Path.{_≡_};
 ghost use lib.Dec.{leb};
 ghost use mathlib.Core.Bool.{_&&_};
-ghost use lib.ListN.{length};
 ghost use Rattle.rungs.specs.Buffers.{buffers};
 ghost use Rattle.text.specs.Read.{readText, ReadDone};
 ghost use Rattle.text.specs.Parts.{handOver, fits};

@@ -4,7 +4,6 @@ ghost use Rattle.rungs.specs.Buffers.{asBuffers};
 ghost use Rattle.rows.specs.Rows.{recordsOf};
 ghost use Rattle.text.specs.Read.{readText, ReadDone};
 ghost use Rattle.text_rows.specs.Parts.{FieldsRead};
-use questions::Refusal;
 use rows::Rows;
 use rows::Rung;
 use text::TextRead;

@@ -12,7 +12,7 @@ use Rattle.questions.specs.Questions.{ask, firstNo, longEnough, question13}
 use Rattle.questions.specs.Refusals.{refusalOf}
 use Rattle.questions.specs.declared.Refusal.{Refusal as RefusalCase}
 use Rattle.questions.specs.declared.Refusal.the-variants.{Buffer}
-use Rattle.rungs.specs.Records.{rowOf, offsets, search}
+use Rattle.rungs.specs.Records.{offsets, search}
 use Rattle.rungs.specs.Buffers.{Buffers, asBuffers, needs, written}
 use Rattle.rungs.specs.Laws.Layout.{lay-length}
 use Rattle.rungs.specs.Laws.Filling.{written-sets, labels-count, offsets-count, lengths-count, short-words, short-labels, short-offsets, short-lengths, enough, put-written}
@@ -21,7 +21,7 @@ use Rattle.ladder.specs.Kept.{Kept}
 use Rattle.ladder.specs.Questions.{ladderOf, ladderAnswer}
 use Rattle.ladder.specs.Held.{LadderHeld}
 use Rattle.ladder.specs.Laws.Accepting.{accepted}
-use Rattle.ladder.specs.Laws.Held.{held, as-many}
+use Rattle.ladder.specs.Laws.Held.{keptOf, held, as-many}
 use Rattle.list.specs.Instruction.{instrWord}
 use Rattle.translation.specs.Translate.{rungCode, listRecords, translate}
 use Rattle.translation.specs.TranslateKept.{listBuffers, countsOf, translateKept, answerOf, TranslateDone}
@@ -49,9 +49,6 @@ over-zeros xs m i h =
     ∙ before-zeros xs (drop (length xs) (replicate m 0)) (λ j. getD-drop (length xs) (replicate m 0) j 0 ∙ zero-at m _) i
 
 -- ---- the questions in order
-
-abbrev keptOf : List ℕ → List ℕ → List ℕ → List ℕ → Kept
-keptOf ws ls os ns = record { words = ws; records = rowOf ls os ns }
 
 module _ (vars : ℕ) (ws ls os ns : List ℕ) (ok : ladderAnswer vars (keptOf ws ls os ns) ≡ none) where
   is-held : LadderHeld ws ls os (ladderOf (keptOf ws ls os ns))

@@ -15,7 +15,7 @@ use Rattle.list.specs.declared.ListScanned.{ListScanned}
 use Rattle.translation.specs.TranslateKept.{translated, refused, translateKept, countsIn, TranslateDone}
 use Rattle.translation.specs.TranslateKept.{answerOf as translatedOf}
 use Rattle.translation.specs.Laws.Answers.{refused-same, written-room}
-use Rattle.translation.specs.BothScans.{copied, Lent, both, scanBoth, bothScans, BothScansDone}
+use Rattle.translation.specs.BothScans.{copied, Lent, scanBoth, bothScans, BothScansDone}
 use Rattle.translation.specs.BothScans.{answerOf as bothOf}
 use Rattle.translation.specs.declared.Counts.{Counts as CountsStruct}
 use Rattle.translation.specs.declared.Translated.{Translated}

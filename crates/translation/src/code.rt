@@ -3,7 +3,7 @@
 // count, over a buffer of none. `depth` numbers the next free scratch byte.
 ghost use mathlib.Core.Path.{_≡_};
 ghost use Prim.Native.Nat.{_+_, _-_, _*_, _≤_, _<_, _^_};
-ghost use lib.ListN.{length, getD, set};
+ghost use lib.ListN.{length, set};
 ghost use Rattle.rungs.specs.Words.{word};
 ghost use Rattle.translation.specs.Parts.{OnePut, FrontPut, JoinPut, RearPut, RungPut, startIn};
 

@@ -7,7 +7,7 @@ use mathlib.Core.Option.{none, some}
 use mathlib.Core.List.{List, [], _∷_, map}
 use lib.Dec.{leb, leb→le}
 use mir.Facts.{and-yes}
-use lib.ListN.{length, take, length-map}
+use lib.ListN.{length, take}
 use Rattle.questions.specs.Questions.{Answer, Refusal, firstNo, question13}
 use Rattle.questions.specs.Laws.Answers.{ask-passed}
 use Rattle.questions.specs.Refusals.{refusalOf}
@@ -31,9 +31,8 @@ use Rattle.translation.specs.Laws.Answers.{not-both, asked, call-refused, call-
 use Rattle.translation.specs.declared.Counts.{Counts as CountsStruct}
 use Rattle.translation.specs.declared.Translated.{Translated}
 use Rattle.translation.specs.declared.Translated.the-variants.{Written as WrittenCase, Refused as RefusedCase}
-use Rattle.ladder_rows.specs.Parts.{longHolds, LongRefused}
+use Rattle.ladder_rows.specs.Parts.{LongRefused}
 use Rattle.translation_rows.specs.Parts.{refusedFields, FieldsTranslated}
-use Rattle.translation_rows.specs.declared.TranslatedFields.{TranslatedFields}
 
 module _ (vars : ℕ) (k : Kept) where
   abbrev list : InstructionList

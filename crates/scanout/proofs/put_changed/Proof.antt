@@ -3,7 +3,8 @@ use Prim.Native.Nat.{_≤_}
 use native.Mathlib.Omega.{arith}
 use Rattle.questions.specs.Bytes.{bytes}
 use Rattle.printing.specs.Laws.Puts.{put-long}
-use Rattle.scanout.proofs.Printing.{text-reach, number-reach, changed-put}
+use Rattle.printout.proofs.Refusals.{text-reach, number-reach}
+use Rattle.scanout.proofs.Printing.{changed-put}
 use borrow.Author.Needs.{needs}
 use Rattle.scanout.proofs.put_changed.Statement.{statement}
 use Rattle.scanout.proofs.put_changed.Tie as tie

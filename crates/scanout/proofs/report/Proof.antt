@@ -2,16 +2,16 @@
 use Prim.Native.Nat.{_≤_}
 use native.Mathlib.Omega.{arith}
 use mathlib.Core.Path.{sym}
-use mathlib.Core.List.{[]}
 use lib.Seq.{length-take-le}
-use Rattle.scanout.proofs.Reports.{read-refused, read-room, read-kept}
+use Rattle.printout.proofs.Prints.{read-room}
+use Rattle.scanout.proofs.Reports.{read-refused, read-kept}
 use borrow.Author.Needs.{needs}
 use Rattle.scanout.proofs.report.Statement.{statement}
 use Rattle.scanout.proofs.report.Tie as tie
 
 -- what was written has room
 room : (c : tie.After-counts) → (c .counts .given .0 .0 .words ≤ 8192) × (c .counts .given .0 .0 .rungs ≤ 256)
-room c = read-room _ 0 [] _ (c .before .before .before .before .before .before .read .ensures) _ (c .counts .given .1)
+room c = read-room _ _ (c .before .before .before .before .before .before .read .ensures) _ (c .counts .given .1)
 
 slice-aggregate-read : tie.Need-slice-aggregate-read
 slice-aggregate-read c = search needs

@@ -4,14 +4,15 @@ use native.Mathlib.Omega.{arith}
 use mathlib.Core.Path.{sym}
 use mathlib.Core.List.{[]}
 use lib.Seq.{length-take-le}
-use Rattle.scanout.proofs.Reports.{kept-refused, kept-room, kept-longest, kept-scans}
+use Rattle.printout.proofs.Prints.{kept-room}
+use Rattle.scanout.proofs.Reports.{kept-refused, kept-longest, kept-scans}
 use borrow.Author.Needs.{needs}
 use Rattle.scanout.proofs.report_kept.Statement.{statement}
 use Rattle.scanout.proofs.report_kept.Tie as tie
 
 -- what was written has room
 room : (c : tie.After-counts) → (c .counts .given .0 .0 .instructions ≤ 16384) × (c .counts .given .0 .0 .rungs ≤ 256)
-room c = kept-room _ 0 [] _ (c .before .before .before .before .before .before .translate .ensures) _ (c .counts .given .1)
+room c = kept-room _ _ (c .before .before .before .before .before .before .translate .ensures) _ (c .counts .given .1)
 
 -- 65,535 × L is a legal watchdog
 short : (c : tie.After-counts) → c .counts .given .0 .0 .longest ≤ 256

@@ -1,5 +1,4 @@
 -- `scanout::run` meets its contract: the three lines, the kept text, and what `report` puts. Assumes nothing.
-use Prim.Native.Nat.{_≤_}
 use mathlib.Core.Path.{refl, sym}
 use native.Mathlib.Omega.{arith}
 use lib.Seq.{length-take-le}

@@ -1,35 +1,33 @@
 -- Every report's last line is `alike`, by demand 3 over the calls: case by case along the definitions of the output. Assumes nothing.
-use Prim.Native.Nat.{ℕ, _*_, _≤_}
+use Prim.Native.Nat.{ℕ, _*_}
 use native.Mathlib.Omega.{arith}
-use mathlib.Core.Path.{_≡_, refl, sym, ap, _∙_}
-use mathlib.Core.Bool.{Bool, true, false, _&&_}
-use mathlib.Core.Option.{none, some}
+use mathlib.Core.Path.{_≡_, refl, sym, _∙_}
+use mathlib.Core.Bool.{Bool, true}
 use mathlib.Core.List.{List, [], _∷_, _++_, append-assoc}
 use borrow.Author.Tests.{eq-eqb}
-use lib.Dec.{eqb}
 use lib.ListN.{take}
-use Rattle.questions.specs.Questions.{Answer, Refusal, question12, mostRungWatchdog}
+use Rattle.questions.specs.Questions.{Refusal}
 use Rattle.questions.specs.Laws.Answers.{first-yes, later-yes}
 use Rattle.table.specs.Halt.{Halt, Ended, Stopped}
-use Rattle.table.specs.Questions.{question11}
 use Rattle.rungs.specs.Records.{RungRecord}
 use Rattle.rungs.specs.Buffers.{Buffers, writtenWords, writtenRecords}
 use Rattle.ladder.specs.Kept.{Kept}
 use Rattle.ladder.specs.Questions.{ladderAnswer}
 use Rattle.ladder.specs.LadderScan.{ladderScan}
-use Rattle.ladder.specs.LadderScan.{ScanAnswer as LadderAnswer, scanAnswer as ladderAsked, scanned as ladderScanned, refused as ladderRefused}
-use Rattle.text.specs.Read.{ReadAnswer, readText, kept, writtenKept}
+use Rattle.ladder.specs.LadderScan.{ScanAnswer as LadderAnswer, scanned as ladderScanned, refused as ladderRefused}
+use Rattle.text.specs.Read.{ReadAnswer, readText, kept}
 use Rattle.text.specs.Read.{refused as readRefused}
 use Rattle.list.specs.Machine.{Counts as ListCounts}
 use Rattle.list.specs.ListScan.{listScan}
 use Rattle.list.specs.ListScan.{scanned as listScanned}
 use Rattle.translation.specs.TranslateKept.{Counts, TranslateAnswer, translateKept, translated}
 use Rattle.translation.specs.TranslateKept.{refused as translateRefused}
-use Rattle.translation.specs.Calls.{ScansAgree, CallsAgree}
-use Rattle.translation.specs.Laws.Answers.{all-yes}
+use Rattle.translation.specs.Calls.{ScansAgree}
+use Rattle.translation.specs.Laws.Answers.{same-counts, all-yes}
+use Rattle.translation.specs.Laws.Many.{Asked, asked}
 use Rattle.translation.specs.Theorems.{calls-agree}
-use Rattle.printout.specs.Printout.{firstLine, textAfter, variablesOf, blank}
-use Rattle.scanout.specs.Scanout.{watchdogOf, tableOf, refusalText, sameBytes, alike, lastLine, endLines, changedLines, instructionWatchdog}
+use Rattle.printout.specs.Printout.{blank}
+use Rattle.scanout.specs.Scanout.{refusalText, sameBytes, alike, lastLine, endLines, changedLines, instructionWatchdog}
 use Rattle.scanout.specs.Scanout.{listReport, scansReport, keptReport, report, output}
 
 -- ---- scans that agree are alike
@@ -46,26 +44,6 @@ ended-alike k l t e = rw (e, eq-eqb k k refl) (same-self l)
 stopped-alike : (k k′ : ℕ) (l t : List ℕ) → alike Stopped k l Stopped k′ t ≡ true
 unfolding alike
 stopped-alike k k′ l t = refl
-
--- ---- questions 11 and 12 of a ladder scan that is not refused
-
-record Asked (vars : ℕ) (table : List ℕ) (n : ℕ) : Type 0 where
-  legal : question11 (record { vars = vars; bytes = table }) ≡ none
-  watchdog : question12 mostRungWatchdog n ≡ none
-
-asked : (vars : ℕ) (k : Kept) (table : List ℕ) (n : ℕ) (h : Halt) (rungs : ℕ) → ladderScan vars k table n .answer ≡ ladderScanned h rungs → Asked vars table n
-unfolding ladderScan ladderAsked
-asked vars k table n h rungs e = go (ladderAsked vars k table n) refl
-  where
-    go : (a : Answer) → ladderAsked vars k table n ≡ a → Asked vars table n
-    go none q =
-        let later = later-yes (ladderAnswer vars k) _ q in
-        let legal = question11 (record { vars = vars; bytes = table }) in
-        record { legal = first-yes legal _ later; watchdog = first-yes (question12 mostRungWatchdog n) _ (later-yes legal _ later) }
-    go (some refusal) q =
-        let r : ladderRefused refusal ≡ ladderScanned h rungs = rw (q, ladderScan) at e in
-        let z : _≡_ {A = ℕ} 0 1 = cc in
-        absurd (omega arith)
 
 -- ---- a property of texts that refusals have, and all that ends in `alike`
 
@@ -92,7 +70,7 @@ module _ (P : List ℕ → Type 0) (refusals : (r : Refusal) → P (refusalText 
           let x = one .stopped e (2 * n) (omega arith) in
           list-alike Stopped (one .rungs) _ (2 * n) Stopped (x .0) (x .1) (stopped-alike (one .rungs) (x .0 .rungs) _ _)
 
-      scans-alike : (Asked vars table n → ScansAgree vars k words records longest table n) → P (scansReport vars k words records longest table n)
+      scans-alike : (Asked vars k table n → ScansAgree vars k words records longest table n) → P (scansReport vars k words records longest table n)
       unfolding scansReport
       scans-alike agree = go (ladderScan vars k table n .answer) refl
         where
@@ -100,11 +78,8 @@ module _ (P : List ℕ → Type 0) (refusals : (r : Refusal) → P (refusalText 
           go (ladderRefused refusal) e = rw (e, scansReport) (refusals refusal)
           go (ladderScanned h rungs) e = let one = agree (asked vars k table n h rungs e) in rw (one .scanned, scansReport) (halt-alike one (one .halt) refl)
 
-  same-counts : {c d : Counts} → _≡_ {A = TranslateAnswer} (translated c) (translated d) → c ≡ d
-  same-counts e = cc
-
   module _ (vars : ℕ) (k : Kept) (lent : Buffers) (table : List ℕ) (n : ℕ) where
-    written-agree : (c : Counts) → translateKept vars k lent .answer ≡ translated c → Asked vars table n
+    written-agree : (c : Counts) → translateKept vars k lent .answer ≡ translated c → Asked vars k table n
         → ScansAgree vars k (writtenWords (translateKept vars k lent .buffers) (c .instructions)) (writtenRecords (translateKept vars k lent .buffers) (c .rungs))
         (c .longest) table n
     written-agree c e a =

@@ -6,10 +6,6 @@ use Rattle.text_rows.proofs.Answers.{read-refused, read-kept}
 use borrow.Author.Needs.{needs}
 use Rattle.text_rows.proofs.read_fields.Statement.{statement}
 use Rattle.text_rows.proofs.read_fields.Tie as tie
-use Rattle.text_rows.proofs.read_fields.Reads as reads
-use Rattle.text_rows.proofs.read_fields.Lts as lts
-use Rattle.rows.proofs.room.Reads as room-reads
-use Rattle.text.proofs.read.Reads as read-reads
 
 room-requires : tie.Need-room-requires
 room-requires c κs = search needs

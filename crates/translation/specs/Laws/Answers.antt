@@ -19,7 +19,7 @@ use Rattle.translation.specs.TranslateKept.{Counts, countsOf, listBuffer
 pub not-both : (c : Counts) (r : Refusal) → _≡_ {A = TranslateAnswer} (translated c) (refused r) → ⊥
 not-both c r e = let z : _≡_ {A = ℕ} 0 1 = cc in omega arith
 
-same-counts : {c d : Counts} → _≡_ {A = TranslateAnswer} (translated c) (translated d) → c ≡ d
+pub same-counts : {c d : Counts} → _≡_ {A = TranslateAnswer} (translated c) (translated d) → c ≡ d
 same-counts e = cc
 
 module _ (vars : ℕ) (k : Kept) (lent : Buffers) where

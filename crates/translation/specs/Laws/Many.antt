@@ -37,7 +37,7 @@ use Rattle.translation.specs.Laws.Lists.{below-all}
 -- ---- a write leaves a legal table legal
 
 -- a table that question 11 takes
-abbrev Legal : ℕ → List ℕ → Type 0
+abbrev pub Legal : ℕ → List ℕ → Type 0
 Legal vars table = question11 (record { vars = vars; bytes = table }) ≡ none
 
 bit-fits : (b : Bool) → T (isBit (bit b))
@@ -130,12 +130,12 @@ input-same vars (x ∷ later) t u e =
 
 module _ (vars : ℕ) (k : Kept) where
   -- questions 11 and 12 got a "yes", and the ladder was scanned
-  record Asked (table : List ℕ) (n : ℕ) : Type 0 where
-    legal : Legal vars table
-    watchdog : question12 mostRungWatchdog n ≡ none
-    call : ladderScan vars k table n ≡ scanEnds (scanLadder (ladderOf k) n (record { vars = vars; bytes = table }))
+  pub record Asked (table : List ℕ) (n : ℕ) : Type 0 where
+    pub legal : Legal vars table
+    pub watchdog : question12 mostRungWatchdog n ≡ none
+    pub call : ladderScan vars k table n ≡ scanEnds (scanLadder (ladderOf k) n (record { vars = vars; bytes = table }))
 
-  asked : (table : List ℕ) (n : ℕ) (h : Halt) (rungs : ℕ) → ladderScan vars k table n .answer ≡ scanned h rungs → Asked table n
+  pub asked : (table : List ℕ) (n : ℕ) (h : Halt) (rungs : ℕ) → ladderScan vars k table n .answer ≡ scanned h rungs → Asked table n
   unfolding ladderScan scanAnswer
   asked table n h rungs e = go answers refl
     where

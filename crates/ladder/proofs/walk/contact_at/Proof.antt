@@ -1,7 +1,7 @@
 -- `ladder::walk::contact_at` meets its contract: where the position went on, the word is a contact. Assumes nothing.
 use native.Mathlib.Omega.{arith}
 use Rattle.ladder.specs.Laws.Trees.{inside}
-use Rattle.ladder.proofs.Walks.{worked-contact, worked-contactn}
+use Rattle.ladder.proofs.Walks.{worked-contact, worked-contactn, no-contact}
 use borrow.Author.Needs.{needs}
 use Rattle.ladder.proofs.walk.contact_at.Statement.{statement}
 use Rattle.ladder.proofs.walk.contact_at.Tie as tie
@@ -22,13 +22,17 @@ add-t12 : tie.Need-add-t12
 add-t12 c = let l = inside (c .before .before .before .before .before .args .words .now) (c .before .before .before .before .before .args .at) _ (c .before .before .word-at .ensures) (omega (arith, c .match .keys2)) in omega arith
 
 returns : tie.Need-returns
-returns c = record { worked = λ h. worked-contact _ _ _ _ (c .before .before .word-at .ensures) (c .match .keys1) _ (c .before .value .ensures) }
+returns c =
+    let w = worked-contact _ _ _ _ (c .before .before .word-at .ensures) (c .match .keys1) _ (c .before .value .ensures) in
+    record { worked = λ h. w; leaf = λ n. w }
 
 returns-2 : tie.Need-returns-2
-returns-2 c = record { worked = λ h. worked-contactn _ _ _ _ (c .before .before .word-at .ensures) (c .match .keys2) _ (c .before .value .ensures) }
+returns-2 c =
+    let w = worked-contactn _ _ _ _ (c .before .before .word-at .ensures) (c .match .keys2) _ (c .before .value .ensures) in
+    record { worked = λ h. w; leaf = λ n. w }
 
 returns-3 : tie.Need-returns-3
-returns-3 c = record { worked = λ h. absurd (omega arith) }
+returns-3 c = record { worked = λ h. absurd (omega arith); leaf = λ n. no-contact _ _ _ _ (c .before .before .word-at .ensures) n (λ l h. omega arith) }
 
 pub contact-at-spec : {M : Type 1} → statement M
 contact-at-spec =

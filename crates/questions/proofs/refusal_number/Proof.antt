@@ -1,9 +1,9 @@
--- `printout::refusal_number` meets its contract: the number of each case. Assumes nothing.
+-- `questions::refusal_number` meets its contract: the number of each case. Assumes nothing.
 use mathlib.Core.Path.{sym, ap}
 use Rattle.questions.specs.Refusals.{refusalOf}
 use borrow.Author.Needs.{needs}
-use Rattle.printout.proofs.refusal_number.Statement.{statement}
-use Rattle.printout.proofs.refusal_number.Tie as tie
+use Rattle.questions.proofs.refusal_number.Statement.{statement}
+use Rattle.questions.proofs.refusal_number.Tie as tie
 
 enum-told : tie.Need-enum-told
 enum-told c = search needs

@@ -1,10 +1,10 @@
--- `printout::refusal_place` meets its contract: the place of each case that has one, and else 0. Assumes nothing.
+-- `questions::refusal_place` meets its contract: the place of each case that has one, and else 0. Assumes nothing.
 use mathlib.Core.Path.{sym, ap}
 use Rattle.questions.specs.Refusals.{refusalOf}
-use Rattle.printout.proofs.Refusals.{no-place}
+use Rattle.questions.proofs.Places.{no-place}
 use borrow.Author.Needs.{needs}
-use Rattle.printout.proofs.refusal_place.Statement.{statement}
-use Rattle.printout.proofs.refusal_place.Tie as tie
+use Rattle.questions.proofs.refusal_place.Statement.{statement}
+use Rattle.questions.proofs.refusal_place.Tie as tie
 
 enum-known-refusal : tie.Need-enum-known-refusal
 enum-known-refusal c = search needs

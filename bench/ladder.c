@@ -1,0 +1,579 @@
+/* The five calls of document 01 in plain C, for comparison. Written from document 01 alone; it shares nothing with the proved code.
+   Standard input: a number of turns, LF, and one request of the vectors' format. Each turn works on fresh copies of the lent buffers.
+   Standard output: the request's answer line, as the vector programs print it. Standard error: nanoseconds a turn. */
+#include <stdint.h>
+#include <stdio.h>
+#include <stdlib.h>
+#include <string.h>
+#include <time.h>
+
+enum { MOST_VARS = 1024, MOST_RUNGS = 256, MOST_RUNG_WORDS = 128, MOST_WORDS = 8192, MOST_CODE = 16384, SCRATCH = 32, MOST_BRACKETS = 15 };
+
+typedef struct { uint16_t label; uint32_t offset, length; } Rung;
+typedef struct { int number; size_t place; } No;
+
+static const No YES = {0, 0};
+static No no(int number, size_t place) { No n = {number, place}; return n; }
+
+/* ---- the kept ladder */
+
+static uint32_t kind(uint32_t word) { return word >> 16; }
+static uint32_t operand(uint32_t word) { return word & 0xffff; }
+
+/* Where the front (or rear) that begins at `at` ends; 0 where there is none. */
+static size_t front_end(const uint32_t *w, size_t at, size_t end)
+{
+    size_t owed = 1;
+    while (owed > 0) {
+        if (at >= end) return 0;
+        uint32_t k = kind(w[at]);
+        if (k == 1 || k == 2) owed--;
+        else if ((k == 3 || k == 4) && operand(w[at]) == 0) owed++;
+        else return 0;
+        at++;
+    }
+    return at;
+}
+
+static size_t rear_end(const uint32_t *w, size_t at, size_t end)
+{
+    size_t owed = 1;
+    while (owed > 0) {
+        if (at >= end) return 0;
+        uint32_t k = kind(w[at]);
+        if (k >= 5 && k <= 8) { owed--; at++; }
+        else if (k == 9 && operand(w[at]) == 0) { at = front_end(w, at + 1, end); if (at == 0) return 0; }
+        else if (k == 10 && operand(w[at]) == 0) { owed++; at++; }
+        else return 0;
+    }
+    return at;
+}
+
+static int holds(const uint32_t *w, size_t n, const Rung *r, size_t m)
+{
+    size_t start = 0;
+    if (m < 1) return 0;
+    for (size_t i = 0; i < m; i++) {
+        if (r[i].offset != start || r[i].length > n - start) return 0;
+        size_t end = start + r[i].length, at = front_end(w, start, end);
+        if (at == 0 || rear_end(w, at, end) != end) return 0;
+        start = end;
+    }
+    return start == n;
+}
+
+static size_t search(const Rung *r, size_t m, uint32_t label)
+{
+    size_t i = 0;
+    while (i < m && r[i].label != label) i++;
+    return i;
+}
+
+/* Scratch that a part takes; *at moves past it. */
+static unsigned larger(unsigned a, unsigned b) { return a < b ? b : a; }
+static int is_contact(uint32_t word) { return kind(word) == 1 || kind(word) == 2; }
+
+static unsigned front_scratch(const uint32_t *w, size_t *at)
+{
+    uint32_t k = kind(w[(*at)++]);
+    if (k == 1 || k == 2) return 0;
+    unsigned a = front_scratch(w, at);
+    int contact = is_contact(w[*at]);
+    unsigned b = front_scratch(w, at);
+    return larger(a, contact ? 0 : b + 1);
+}
+
+static unsigned rear_scratch(const uint32_t *w, size_t *at)
+{
+    uint32_t k = kind(w[(*at)++]);
+    if (k <= 8) return 0;
+    if (k == 9) {
+        int contact = is_contact(w[*at]);
+        unsigned f = front_scratch(w, at);
+        return larger(contact ? 0 : f + 1, rear_scratch(w, at));
+    }
+    unsigned a = rear_scratch(w, at);
+    return larger(a + 1, rear_scratch(w, at));
+}
+
+/* Questions 5 to 8 and, where asked, 9. */
+static No asked(uint32_t vars, const uint32_t *w, size_t n, const Rung *r, size_t m, int scratch)
+{
+    if (m > MOST_RUNGS || n > MOST_WORDS) return no(5, 0);
+    for (size_t i = 0; i < m; i++) if (r[i].length > MOST_RUNG_WORDS) return no(5, 0);
+    for (size_t i = 0; i < m; i++)
+        for (size_t j = r[i].offset; j < r[i].offset + r[i].length; j++) {
+            uint32_t k = kind(w[j]);
+            if ((k == 1 || k == 2 || k == 5 || k == 6) && operand(w[j]) >= vars) return no(6, i);
+        }
+    for (size_t j = 0; j < m; j++)
+        for (size_t i = 0; i < j; i++) if (r[i].label == r[j].label) return no(7, j);
+    for (size_t i = 0; i < m; i++)
+        for (size_t j = r[i].offset; j < r[i].offset + r[i].length; j++)
+            if ((kind(w[j]) == 7 || kind(w[j]) == 8) && search(r, m, operand(w[j])) == m) return no(8, i);
+    if (scratch)
+        for (size_t i = 0; i < m; i++) {
+            size_t at = r[i].offset;
+            unsigned f = front_scratch(w, &at);
+            if (larger(f, rear_scratch(w, &at)) > SCRATCH) return no(9, 0);
+        }
+    return YES;
+}
+
+static No ladder_asked(uint32_t vars, const uint32_t *w, size_t n, const Rung *r, size_t m)
+{
+    if (vars < 1 || vars > MOST_VARS) return no(1, 0);
+    if (!holds(w, n, r, m)) return no(4, 0);
+    return asked(vars, w, n, r, m, 1);
+}
+
+static No table_asked(uint32_t vars, const uint8_t *t, size_t bytes)
+{
+    if (bytes != vars + SCRATCH) return no(11, 0);
+    for (size_t i = 0; i < bytes; i++) if (t[i] > 1) return no(11, 0);
+    return YES;
+}
+
+/* ---- Ladder scan */
+
+static int front_value(const uint32_t *w, size_t *at, const uint8_t *t)
+{
+    uint32_t word = w[(*at)++];
+    switch (kind(word)) {
+    case 1: return t[operand(word)];
+    case 2: return !t[operand(word)];
+    case 3: { int a = front_value(w, at, t), b = front_value(w, at, t); return a & b; }
+    default: { int a = front_value(w, at, t), b = front_value(w, at, t); return a | b; }
+    }
+}
+
+/* -1 onward, else the label of a taken jump. */
+static int32_t run_rear(const uint32_t *w, size_t *at, int power, uint8_t *t)
+{
+    uint32_t word = w[(*at)++];
+    switch (kind(word)) {
+    case 5: t[operand(word)] = power; return -1;
+    case 6: t[operand(word)] = !power; return -1;
+    case 7: return power ? (int32_t)operand(word) : -1;
+    case 8: return power ? -1 : (int32_t)operand(word);
+    case 9: { int f = front_value(w, at, t); return run_rear(w, at, power & f, t); }
+    default: { int32_t a = run_rear(w, at, power, t); return a >= 0 ? a : run_rear(w, at, power, t); }
+    }
+}
+
+typedef struct { No no; int ended; uint32_t rungs, instructions; } Scan;
+
+static Scan ladder_scan(uint32_t vars, const uint32_t *w, size_t n, const Rung *r, size_t m, uint8_t *t, size_t bytes, uint32_t watchdog)
+{
+    Scan s = {YES, 0, 0, 0};
+    s.no = ladder_asked(vars, w, n, r, m);
+    if (s.no.number) return s;
+    s.no = table_asked(vars, t, bytes);
+    if (s.no.number) return s;
+    if (watchdog > 65535) { s.no = no(12, 0); return s; }
+    size_t rung = 0;
+    for (;;) {
+        if (rung >= m) { s.ended = 1; return s; }
+        if (s.rungs == watchdog) return s;
+        s.rungs++;
+        size_t at = r[rung].offset;
+        int power = front_value(w, &at, t);
+        int32_t jump = run_rear(w, &at, power, t);
+        rung = jump < 0 ? rung + 1 : search(r, m, (uint32_t)jump);
+    }
+}
+
+/* ---- lists */
+
+enum { LD = 1, LDN, ST, STN, AND, ANDN, OR, ORN, XOR, XORN, NOT, JMP, JMPC, JMPCN };
+
+static No list_asked(uint32_t vars, const uint32_t *c, size_t n, const Rung *r, size_t m)
+{
+    if (vars < 1 || vars > MOST_VARS) return no(1, 0);
+    if (n < 1 || n > MOST_CODE || m < 1 || m > MOST_RUNGS) return no(10, 0);
+    uint64_t start = 0;
+    for (size_t i = 0; i < m; i++) {
+        if (r[i].offset != start || r[i].length == 0) return no(10, 0);
+        start += r[i].length;
+    }
+    if (start != n) return no(10, 0);
+    for (size_t i = 0; i < n; i++) {
+        uint32_t op = kind(c[i]), x = operand(c[i]);
+        if (op < 1 || op > JMPCN) return no(10, 0);
+        if (op <= XORN ? x >= vars + SCRATCH : op == NOT ? x != 0 : x > n) return no(10, 0);
+    }
+    return YES;
+}
+
+static Scan list_scan(uint32_t vars, const uint32_t *c, size_t n, const Rung *r, size_t m, uint8_t *t, size_t bytes, uint32_t watchdog)
+{
+    Scan s = {YES, 0, 0, 0};
+    s.no = list_asked(vars, c, n, r, m);
+    if (s.no.number) return s;
+    s.no = table_asked(vars, t, bytes);
+    if (s.no.number) return s;
+    if (watchdog > 16777215) { s.no = no(12, 0); return s; }
+    size_t pc = 0, next = 0;
+    uint32_t start = r[0].offset;
+    int acc = 0;
+    for (;;) {
+        if (pc == n) { s.ended = 1; return s; }
+        if (s.instructions == watchdog) return s;
+        s.instructions++;
+        if (next < m && start == pc) { s.rungs++; next++; start = next < m ? r[next].offset : 0; }
+        uint32_t word = c[pc], x = operand(word);
+        size_t to = pc + 1;
+        switch (kind(word)) {
+        case LD: acc = t[x]; break;
+        case LDN: acc = !t[x]; break;
+        case ST: t[x] = acc; break;
+        case STN: t[x] = !acc; break;
+        case AND: acc &= t[x]; break;
+        case ANDN: acc &= !t[x]; break;
+        case OR: acc |= t[x]; break;
+        case ORN: acc |= !t[x]; break;
+        case XOR: acc ^= t[x]; break;
+        case XORN: acc ^= !t[x]; break;
+        case NOT: acc = !acc; break;
+        case JMP: to = x; break;
+        case JMPC: if (acc) to = x; break;
+        case JMPCN: if (!acc) to = x; break;
+        }
+        if (to != pc + 1) {
+            size_t low = 0, high = m;
+            while (low < high) { size_t mid = low + (high - low) / 2; if (r[mid].offset < to) low = mid + 1; else high = mid; }
+            next = low;
+            start = next < m ? r[next].offset : 0;
+        }
+        pc = to;
+    }
+}
+
+/* ---- Translate: counts first, writes then */
+
+typedef struct { uint32_t *code; size_t room, put; uint32_t vars; const Rung *rungs; size_t m; const uint32_t *starts; } Out;
+
+static void emit(Out *o, uint32_t op, uint32_t x) { if (o->put < o->room) o->code[o->put] = op << 16 | x; o->put++; }
+static size_t front_code(const uint32_t *w, size_t at, uint32_t depth, Out *o);
+
+static size_t join_code(const uint32_t *w, size_t at, uint32_t op, uint32_t depth, Out *o)
+{
+    if (is_contact(w[at])) { emit(o, kind(w[at]) == 1 ? op : op + 1, operand(w[at])); return at + 1; }
+    emit(o, ST, o->vars + depth);
+    at = front_code(w, at, depth + 1, o);
+    emit(o, op, o->vars + depth);
+    return at;
+}
+
+static size_t front_code(const uint32_t *w, size_t at, uint32_t depth, Out *o)
+{
+    uint32_t k = kind(w[at]);
+    if (k <= 2) { emit(o, k == 1 ? LD : LDN, operand(w[at])); return at + 1; }
+    at = front_code(w, at + 1, depth, o);
+    return join_code(w, at, k == 3 ? AND : OR, depth, o);
+}
+
+static size_t rear_code(const uint32_t *w, size_t at, uint32_t depth, Out *o)
+{
+    uint32_t k = kind(w[at]), x = operand(w[at]);
+    switch (k) {
+    case 5: emit(o, ST, x); return at + 1;
+    case 6: emit(o, STN, x); return at + 1;
+    case 7: case 8: { size_t i = search(o->rungs, o->m, x); emit(o, k == 7 ? JMPC : JMPCN, i < o->m ? o->starts[i] : 0); return at + 1; }
+    case 9: at = join_code(w, at + 1, AND, depth, o); return rear_code(w, at, depth, o);
+    default:
+        emit(o, ST, o->vars + depth);
+        at = rear_code(w, at + 1, depth + 1, o);
+        emit(o, LD, o->vars + depth);
+        return rear_code(w, at, depth, o);
+    }
+}
+
+typedef struct { No no; size_t instructions, rungs, longest; } Translation;
+
+static Translation translate(uint32_t vars, const uint32_t *w, size_t n, const Rung *r, size_t m, uint32_t *code, size_t code_room, Rung *out, size_t rung_room)
+{
+    Translation t = {YES, 0, 0, 0};
+    uint32_t starts[MOST_RUNGS];
+    t.no = ladder_asked(vars, w, n, r, m);
+    if (t.no.number) return t;
+    memset(starts, 0, sizeof starts);
+    Out count = {code, 0, 0, vars, r, m, starts};
+    for (size_t i = 0; i < m; i++) {
+        size_t begin = count.put;
+        starts[i] = (uint32_t)begin;
+        rear_code(w, front_code(w, r[i].offset, 0, &count), 0, &count);
+        if (count.put - begin > t.longest) t.longest = count.put - begin;
+    }
+    if (count.put > code_room || m > rung_room) { t.no = no(13, 0); return t; }
+    Out write = {code, code_room, 0, vars, r, m, starts};
+    for (size_t i = 0; i < m; i++) {
+        size_t begin = write.put;
+        rear_code(w, front_code(w, r[i].offset, 0, &write), 0, &write);
+        out[i].label = r[i].label;
+        out[i].offset = (uint32_t)begin;
+        out[i].length = (uint32_t)(write.put - begin);
+    }
+    t.instructions = write.put;
+    t.rungs = m;
+    return t;
+}
+
+/* ---- Listing */
+
+static const char NAMES[14][6] = {"LD", "LDN", "ST", "STN", "AND", "ANDN", "OR", "ORN", "XOR", "XORN", "NOT", "JMP", "JMPC", "JMPCN"};
+
+typedef struct { uint8_t *bytes; size_t room, put; } Lines;
+static void put(Lines *l, uint8_t b) { if (l->put < l->room) l->bytes[l->put] = b; l->put++; }
+static void put_number(Lines *l, uint32_t x) { if (x >= 10) put_number(l, x / 10); put(l, '0' + x % 10); }
+
+static void put_list(Lines *l, uint32_t vars, const uint32_t *c, const Rung *r, size_t m)
+{
+    for (size_t i = 0; i < m; i++) {
+        put(l, 'L'); put_number(l, r[i].label); put(l, ':'); put(l, '\n');
+        for (size_t j = r[i].offset; j < r[i].offset + r[i].length; j++) {
+            uint32_t op = kind(c[j]), x = operand(c[j]);
+            for (int k = 0; k < 6 && NAMES[op - 1][k]; k++) put(l, (uint8_t)NAMES[op - 1][k]);
+            if (op != NOT) {
+                put(l, ' ');
+                if (op >= JMP) { put(l, '@'); put_number(l, x); }
+                else if (x < vars) { put(l, 'v'); put_number(l, x); }
+                else { put(l, 't'); put_number(l, x - vars); }
+            }
+            put(l, '\n');
+        }
+    }
+}
+
+typedef struct { No no; size_t bytes; } ListingDone;
+
+static ListingDone listing(uint32_t vars, const uint32_t *c, size_t n, const Rung *r, size_t m, uint8_t *out, size_t room)
+{
+    ListingDone d = {YES, 0};
+    d.no = list_asked(vars, c, n, r, m);
+    if (d.no.number) return d;
+    Lines count = {out, 0, 0};
+    put_list(&count, vars, c, r, m);
+    if (count.put > room) { d.no = no(13, 0); return d; }
+    Lines write = {out, room, 0};
+    put_list(&write, vars, c, r, m);
+    d.bytes = write.put;
+    return d;
+}
+
+/* ---- Read: a line is number ":" front ">" rear LF. A front is terms joined by |, a term factors joined by &, a factor c, n or (front);
+   a rear is branches joined by |, a branch factors each followed by &, then an output or [rear]. */
+
+typedef struct { const uint8_t *text; size_t bytes, at; int stuck, open; uint32_t *words; size_t put; } Reader;
+
+static int peek(const Reader *p) { return p->at < p->bytes ? p->text[p->at] : -1; }
+static int take(Reader *p, int b) { if (p->stuck || peek(p) != b) { p->stuck = 1; return 0; } p->at++; return 1; }
+
+static uint32_t number(Reader *p)
+{
+    int b = peek(p);
+    if (p->stuck || b < '0' || b > '9') { p->stuck = 1; return 0; }
+    uint32_t x = (uint32_t)(b - '0');
+    p->at++;
+    if (x == 0) return 0;
+    while ((b = peek(p)) >= '0' && b <= '9' && x * 10 + (uint32_t)(b - '0') <= 65535) { x = x * 10 + (uint32_t)(b - '0'); p->at++; }
+    return x;
+}
+
+static void word(Reader *p, uint32_t k, uint32_t x) { p->words[p->put++] = k << 16 | x; }
+
+static void insert(Reader *p, size_t from, uint32_t k)
+{
+    memmove(p->words + from + 1, p->words + from, (p->put - from) * sizeof *p->words);
+    p->words[from] = k << 16;
+    p->put++;
+}
+
+static int opens(Reader *p) { if (p->open == MOST_BRACKETS) { p->stuck = 1; return 0; } p->open++; p->at++; return 1; }
+
+static void front(Reader *p);
+
+static void factor(Reader *p)
+{
+    int b = peek(p);
+    if (b == 'c' || b == 'n') { p->at++; uint32_t x = number(p); if (!p->stuck) word(p, b == 'c' ? 1 : 2, x); }
+    else if (b == '(') { if (opens(p)) { front(p); if (take(p, ')')) p->open--; } }
+    else p->stuck = 1;
+}
+
+static void term(Reader *p)
+{
+    size_t from = p->put;
+    factor(p);
+    while (!p->stuck && peek(p) == '&') { p->at++; insert(p, from, 3); factor(p); }
+}
+
+static void front(Reader *p)
+{
+    size_t from = p->put;
+    term(p);
+    while (!p->stuck && peek(p) == '|') { p->at++; insert(p, from, 4); term(p); }
+}
+
+static void rear(Reader *p)
+{
+    for (;;) {
+        size_t from = p->put;
+        int b;
+        while (!p->stuck && ((b = peek(p)) == 'c' || b == 'n' || b == '(')) { word(p, 9, 0); factor(p); take(p, '&'); }
+        if (p->stuck) return;
+        b = peek(p);
+        if (b == 'o' || b == 'q' || b == 'j' || b == 'k') {
+            p->at++;
+            uint32_t x = number(p);
+            if (p->stuck) return;
+            word(p, b == 'o' ? 5 : b == 'q' ? 6 : b == 'j' ? 7 : 8, x);
+        } else if (b == '[') {
+            if (!opens(p)) return;
+            rear(p);
+            if (!take(p, ']')) return;
+            p->open--;
+        } else { p->stuck = 1; return; }
+        if (peek(p) != '|') return;
+        p->at++;
+        insert(p, from, 10);
+    }
+}
+
+static uint32_t read_words[70000];
+static Rung read_rungs[20000];
+
+typedef struct { No no; size_t words, rungs; } ReadDone;
+
+static ReadDone read_text(uint32_t vars, const uint8_t *text, size_t bytes, uint32_t *words, size_t word_room, Rung *rungs, size_t rung_room)
+{
+    ReadDone d = {YES, 0, 0};
+    if (vars < 1 || vars > MOST_VARS) { d.no = no(1, 0); return d; }
+    if (bytes < 1 || bytes > 65535) { d.no = no(2, 0); return d; }
+    Reader p = {text, bytes, 0, 0, 0, read_words, 0};
+    size_t m = 0;
+    do {
+        size_t from = p.put;
+        uint32_t label = number(&p);
+        take(&p, ':');
+        if (!p.stuck) front(&p);
+        take(&p, '>');
+        if (!p.stuck) rear(&p);
+        take(&p, '\n');
+        if (p.stuck) { d.no = no(3, p.at); return d; }
+        read_rungs[m].label = (uint16_t)label;
+        read_rungs[m].offset = (uint32_t)from;
+        read_rungs[m].length = (uint32_t)(p.put - from);
+        m++;
+    } while (p.at < bytes);
+    d.no = asked(vars, read_words, p.put, read_rungs, m, 0);
+    if (d.no.number) return d;
+    if (p.put > word_room || m > rung_room) { d.no = no(13, 0); return d; }
+    memcpy(words, read_words, p.put * sizeof *words);
+    memcpy(rungs, read_rungs, m * sizeof *rungs);
+    d.words = p.put;
+    d.rungs = m;
+    return d;
+}
+
+/* ---- requests and answers */
+
+static uint32_t next(void)
+{
+    unsigned long x;
+    if (scanf("%lu", &x) != 1) exit(2);
+    return (uint32_t)x;
+}
+
+static uint32_t lent_words[20000], words[20000];
+static Rung lent_rungs[400], rungs[400];
+static uint8_t lent_bytes[70000], bytes[70000];
+
+static size_t in_words(void) { size_t n = next(); for (size_t i = 0; i < n; i++) lent_words[i] = next(); return n; }
+static size_t in_bytes(void) { size_t n = next(); for (size_t i = 0; i < n; i++) lent_bytes[i] = (uint8_t)next(); return n; }
+
+static size_t in_rungs(void)
+{
+    size_t m = next();
+    for (size_t i = 0; i < m; i++) { lent_rungs[i].label = (uint16_t)next(); lent_rungs[i].offset = next(); lent_rungs[i].length = next(); }
+    return m;
+}
+
+static void fill(void)
+{
+    memset(words, 255, sizeof words);
+    for (size_t i = 0; i < 400; i++) { rungs[i].label = 65535; rungs[i].offset = rungs[i].length = 4294967295u; }
+}
+
+static void out_words(size_t n)
+{
+    size_t k = n;
+    while (k > 0 && words[k - 1] == 4294967295u) k--;
+    printf(" %zu", k);
+    for (size_t i = 0; i < k; i++) printf(" %u", words[i]);
+    printf(" %zu", n - k);
+}
+
+static void out_rungs(size_t n)
+{
+    size_t k = n;
+    while (k > 0 && rungs[k - 1].label == 65535 && rungs[k - 1].offset == 4294967295u && rungs[k - 1].length == 4294967295u) k--;
+    printf(" %zu", k);
+    for (size_t i = 0; i < k; i++) printf(" %u %u %u", rungs[i].label, rungs[i].offset, rungs[i].length);
+    printf(" %zu", n - k);
+}
+
+static void out_table(size_t n) { for (size_t i = 0; i < n; i++) printf(" %u", bytes[i]); }
+
+static void out_lines(size_t n)
+{
+    size_t k = n;
+    while (k > 0 && bytes[k - 1] == 255) k--;
+    printf(" %zu", k);
+    for (size_t i = 0; i < k; i++) printf(" %u", bytes[i]);
+    printf(" %zu", n - k);
+}
+
+static double now(void) { struct timespec t; clock_gettime(CLOCK_MONOTONIC, &t); return (double)t.tv_sec * 1e9 + (double)t.tv_nsec; }
+
+int main(void)
+{
+    uint32_t turns = next(), call = next(), vars = next();
+    size_t n, m = 0, a = 0, b = 0;
+    ReadDone r = {YES, 0, 0};
+    Translation t = {YES, 0, 0, 0};
+    Scan s = {YES, 0, 0, 0};
+    ListingDone l = {YES, 0};
+    if (call == 1) { n = in_bytes(); a = next(); b = next(); }
+    else {
+        n = in_words();
+        m = in_rungs();
+        if (call == 3 || call == 4) { a = in_bytes(); b = next(); }
+        else { a = next(); if (call == 2) b = next(); }
+    }
+    fill();
+    double begin = now();
+    for (uint32_t i = 0; i < turns; i++) {
+        if (call == 1) r = read_text(vars, lent_bytes, n, words, a, rungs, b);
+        else if (call == 2) t = translate(vars, lent_words, n, lent_rungs, m, words, a, rungs, b);
+        else if (call == 5) { if (i == 0) memset(bytes, 255, a); l = listing(vars, lent_words, n, lent_rungs, m, bytes, a); }
+        else {
+            memcpy(bytes, lent_bytes, a);
+            s = call == 3 ? ladder_scan(vars, lent_words, n, lent_rungs, m, bytes, a, (uint32_t)b) : list_scan(vars, lent_words, n, lent_rungs, m, bytes, a, (uint32_t)b);
+        }
+    }
+    double end = now();
+    No x = call == 1 ? r.no : call == 2 ? t.no : call == 5 ? l.no : s.no;
+    if (x.number) printf("0 %d %zu", x.number, x.place);
+    else if (call == 1) printf("1 %zu %zu", r.words, r.rungs);
+    else if (call == 2) printf("1 %zu %zu %zu", t.instructions, t.rungs, t.longest);
+    else if (call == 3) printf("%d %u", s.ended ? 1 : 2, s.rungs);
+    else if (call == 4) printf("%d %u %u", s.ended ? 1 : 2, s.instructions, s.rungs);
+    else printf("1 %zu", l.bytes);
+    if (call <= 2) { out_words(a); out_rungs(b); }
+    else if (call == 5) out_lines(a);
+    else out_table(a);
+    printf("\n");
+    fprintf(stderr, "%.1f\n", turns ? (end - begin) / turns : 0.0);
+    return 0;
+}
