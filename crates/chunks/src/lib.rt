@@ -1,4 +1,5 @@
 // Standard input byte by byte, through a chunk that the caller lends.
+ghost use Prim.Native.Nat.{_≤_};
 use libc::STDIN_FILENO;
 
 // No byte: the input's end.
@@ -45,4 +46,25 @@ pub fn next_byte(chunk: &mut [u8], at: usize, end: usize) -> Taken {
     }
     let filled = refill(chunk);
     take(chunk, 0, filled)
+}
+
+// Keeps the bytes that follow, as many as there is room for, and gives their number.
+pub fn keep_text(chunk: &mut [u8], from: usize, to: usize, text: &mut [u8]) -> usize
+    ensures { λ r. do ⌜ r ≤ (← ⟦text.len()⟧ .entry) ⌝ }
+{
+    let mut at = from;
+    let mut end = to;
+    let mut kept: usize = 0;
+    while kept < text.len() {
+        let taken = next_byte(chunk, at, end);
+        at = taken.at;
+        end = taken.end;
+        let byte = taken.byte;
+        if 255 < byte {
+            return kept;
+        }
+        text[kept] = byte as u8;
+        kept += 1;
+    }
+    kept
 }

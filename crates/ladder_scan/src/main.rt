@@ -1,46 +1,14 @@
 // The program ladder-scan: reads V, a rung watchdog, the variables and a text from standard input, and prints both scans side by side.
 // What it prints is the library scanout's.
-ghost use Prim.Native.Nat.{_≤_};
 use chunks::LF;
 use libc::STDOUT_FILENO;
-use printout::FirstLine;
 use scanout::Variables;
-
-// A line that is a number, or not, and the chunk's bytes after it.
-struct Line {
-    line: FirstLine,
-    at: usize,
-    end: usize,
-}
 
 // What the variables line is, and the chunk's bytes after it.
 struct Begun {
     variables: Variables,
     at: usize,
     end: usize,
-}
-
-// A line, byte by byte, in as many turns as no run uses up.
-fn number_line(chunk: &mut [u8], from: usize, to: usize) -> Line {
-    let mut line = printout::begin();
-    let mut at = from;
-    let mut end = to;
-    let mut left: u64 = 18446744073709551615;
-    while 0 < left {
-        let taken = chunks::next_byte(chunk, at, end);
-        at = taken.at;
-        end = taken.end;
-        let byte = taken.byte;
-        if byte == LF {
-            return Line { line, at, end };
-        }
-        if 255 < byte {
-            return Line { line, at, end };
-        }
-        line = printout::step(line, byte as u8);
-        left -= 1;
-    }
-    Line { line, at, end }
 }
 
 // The variables line; its zeros and ones go into the table.
@@ -66,42 +34,21 @@ fn variables_line(chunk: &mut [u8], from: usize, to: usize, vars: u32, table: &m
     Begun { variables, at, end }
 }
 
-// Keeps the bytes that follow, as many as there is room for, and gives their number.
-fn keep_text(chunk: &mut [u8], from: usize, to: usize, text: &mut [u8]) -> usize
-    ensures { λ r. do ⌜ r ≤ (← ⟦text.len()⟧ .entry) ⌝ }
-{
-    let mut at = from;
-    let mut end = to;
-    let mut kept: usize = 0;
-    while kept < text.len() {
-        let taken = chunks::next_byte(chunk, at, end);
-        at = taken.at;
-        end = taken.end;
-        let byte = taken.byte;
-        if 255 < byte {
-            return kept;
-        }
-        text[kept] = byte as u8;
-        kept += 1;
-    }
-    kept
-}
-
 fn main() {
     let mut chunk = [0u8; 65536];
     let mut text = [0u8; printout::MOST_KEPT];
     let mut table = [0u8; scanout::MOST_TABLE];
     let mut out = [0u8; 32768];
-    let first = number_line(&mut chunk, 0, 0);
+    let first = lines::number_line(&mut chunk, 0, 0);
     let first_line = first.line;
     let vars = printout::variables(first_line);
-    let second = number_line(&mut chunk, first.at, first.end);
+    let second = lines::number_line(&mut chunk, first.at, first.end);
     let second_line = second.line;
     let watchdog = scanout::watchdog(second_line);
     let begun = variables_line(&mut chunk, second.at, second.end, vars, &mut table);
     let variables = begun.variables;
     let bytes = scanout::table_bytes(variables, vars);
-    let kept = keep_text(&mut chunk, begun.at, begun.end, &mut text);
+    let kept = chunks::keep_text(&mut chunk, begun.at, begun.end, &mut text);
     let placed = scanout::report(vars, watchdog, &table[..bytes], &text[..kept], &mut out);
     if placed <= 32768 {
         io::write_all(STDOUT_FILENO, &out[..placed]);

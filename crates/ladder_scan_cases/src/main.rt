@@ -1,4 +1,4 @@
-// Runs the output of ladder-scan over whole inputs, and prints each after a line that names it; the stored output is worked by hand.
+// Runs the output of ladder-scan over whole inputs, and prints each after a line that names it; the stored output was checked by hand.
 ghost use Prim.Native.Nat.{_≤_};
 use libc::STDOUT_FILENO;
 use requests::output;

@@ -5,11 +5,14 @@ use borrow.Author.Needs.{needs}
 use Rattle.ladder_list.proofs.main.Statement.{statement}
 use Rattle.ladder_list.proofs.main.Tie as tie
 
-slice-aggregate-first-line : tie.Need-slice-aggregate-first-line
-slice-aggregate-first-line c = search needs
+slice-aggregate-number-line : tie.Need-slice-aggregate-number-line
+slice-aggregate-number-line c = search needs
 
-first-line-requires : tie.Need-first-line-requires
-first-line-requires c κs = search needs
+number-line-requires : tie.Need-number-line-requires
+number-line-requires c κs = search needs
+
+variables-requires : tie.Need-variables-requires
+variables-requires c κs = search needs
 
 slice-aggregate-keep-text : tie.Need-slice-aggregate-keep-text
 slice-aggregate-keep-text c = search needs
@@ -51,8 +54,9 @@ pub main-spec : {M : Type 1} → statement M
 main-spec =
     tie.close
     (tie.spec
-    slice-aggregate-first-line
-    first-line-requires
+    slice-aggregate-number-line
+    number-line-requires
+    variables-requires
     slice-aggregate-keep-text
     slice-aggregate-keep-text-2
     keep-text-requires

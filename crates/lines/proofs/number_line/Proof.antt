@@ -1,17 +1,17 @@
--- `ladder_list::first_line` is safe and ends. Assumes nothing.
-use Prim.Native.Nat.{_≤_}
+-- `lines::number_line` meets its contract. The loop counts down and keeps the length. Assumes nothing.
 use mathlib.Core.Path.{_≡_, refl}
+use Prim.Native.Nat.{_≤_}
 use lib.ListN.{length}
 use native.Mathlib.Omega.{arith}
 use borrow.Author.Needs.{needs}
-use Rattle.ladder_list.proofs.first_line.Statement.{statement}
-use Rattle.ladder_list.proofs.first_line.Tie as tie
+use Rattle.lines.proofs.number_line.Statement.{statement}
+use Rattle.lines.proofs.number_line.Tie as tie
 
 abbrev Inv-loop : tie.InvT-loop
-Inv-loop chunk₀ line₀ at₀ end₀ left₀ chunk line at end left = (left ≤ 18446744073709551615) × (length chunk ≡ length chunk₀)
+Inv-loop chunk₀ from to line₀ at₀ end₀ left₀ chunk line at end left = (left ≤ 18446744073709551615) × (length chunk ≡ length chunk₀)
 
 abbrev μ-loop : tie.MeasureT-loop
-μ-loop chunk₀ line₀ at₀ end₀ left₀ chunk line at end left = left
+μ-loop chunk₀ from to line₀ at₀ end₀ left₀ chunk line at end left = left
 
 begin-requires : tie.Need-begin-requires Inv-loop μ-loop
 begin-requires c κs = search needs
@@ -22,17 +22,11 @@ loop-holds c = (omega arith, refl)
 next-byte-requires : tie.Need-next-byte-requires Inv-loop μ-loop
 next-byte-requires c κs = search needs
 
-variables-requires : tie.Need-variables-requires Inv-loop μ-loop
-variables-requires c κs = search needs
-
 same-length : tie.Need-same-length Inv-loop μ-loop
 same-length c = omega arith
 
 returns : tie.Need-returns Inv-loop μ-loop
 returns c = tt
-
-variables-requires-2 : tie.Need-variables-requires-2 Inv-loop μ-loop
-variables-requires-2 c κs = search needs
 
 same-length-2 : tie.Need-same-length-2 Inv-loop μ-loop
 same-length-2 c = omega arith
@@ -61,8 +55,8 @@ same-length-3 c = omega arith
 returns-3 : tie.Need-returns-3 Inv-loop μ-loop
 returns-3 c = tt
 
-pub first-line-spec : {M : Type 1} → statement M
-first-line-spec =
+pub number-line-spec : {M : Type 1} → statement M
+number-line-spec =
     tie.close
     (tie.spec
     Inv-loop
@@ -70,10 +64,8 @@ first-line-spec =
     begin-requires
     loop-holds
     next-byte-requires
-    variables-requires
     same-length
     returns
-    variables-requires-2
     same-length-2
     returns-2
     cast-step

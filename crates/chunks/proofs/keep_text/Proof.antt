@@ -1,11 +1,11 @@
--- `ladder_scan::keep_text` meets its contract. The loop counts up to the room and keeps the lengths. Assumes nothing.
+-- `chunks::keep_text` meets its contract. The loop counts up to the room and keeps the lengths. Assumes nothing.
 use Prim.Native.Nat.{_-_, _≤_}
 use mathlib.Core.Path.{_≡_, refl, _∙_}
 use lib.ListN.{length, length-set}
 use native.Mathlib.Omega.{arith}
 use borrow.Author.Needs.{needs}
-use Rattle.ladder_scan.proofs.keep_text.Statement.{statement}
-use Rattle.ladder_scan.proofs.keep_text.Tie as tie
+use Rattle.chunks.proofs.keep_text.Statement.{statement}
+use Rattle.chunks.proofs.keep_text.Tie as tie
 
 abbrev Inv-loop : tie.InvT-loop
 Inv-loop chunk₀ from to text₀ at₀ end₀ kept₀ chunk text at end kept = (kept ≤ length text₀) × (length chunk ≡ length chunk₀) × (length text ≡ length text₀)
