@@ -14,10 +14,10 @@ use Rattle.table.specs.Halt.{Halt, Ended, Stopped}
 use Rattle.table.specs.Questions.{tableInRange, question11}
 use Rattle.rungs.specs.Records.{RungRecord, laid, lay, search, present, startOf, isStart, longest, rowOf}
 use Rattle.rungs.specs.Buffers.{Buffers, buffers, asBuffers, needs, written, writtenOver, writtenWords, writtenRecords}
-use Rattle.ladder.specs.Tree.{frontAll, rearAll, rungAll}
-use Rattle.ladder.specs.Meaning.{scanLadder, scanFrom, runRung, runRear, runOutput, workFront, workInput, jumpIf, unlessJumped, from, follow, left}
-use Rattle.ladder.specs.Kept.{Kept, inputWord, outputWord, frontWords, rearWords, rungWords, encode, putInput, putFront, putOutput, putRearAnd, putRearOr, kinds, decodeWords, oneRung, decodeRung, decodeFrom, decode}
-use Rattle.ladder.specs.Questions.{ladderOf, holdsLadder, question4, sizesInRange, question5, inputBelow, outputBelow, question6, newLabels, question7, outputLeads, question8, joinScratch, frontScratch, rearScratch, rungScratch, scratchInRange, question9, ladderAnswer}
+use Rattle.drawing.specs.Tree.{frontAll, rearAll, rungAll}
+use Rattle.drawing.specs.Meaning.{scanLadder, scanFrom, runRung, runRear, runOutput, workFront, workInput, jumpIf, unlessJumped, from, follow, left}
+use Rattle.drawing.specs.Kept.{Kept, inputWord, outputWord, frontWords, rearWords, rungWords, encode, putInput, putFront, putOutput, putRearAnd, putRearOr, kinds, decodeWords, oneRung, decodeRung, decodeFrom, decode}
+use Rattle.drawing.specs.Questions.{ladderOf, holdsLadder, question4, sizesInRange, question5, inputBelow, outputBelow, question6, newLabels, question7, outputLeads, question8, joinScratch, frontScratch, rearScratch, rungScratch, scratchInRange, question9, ladderAnswer}
 use Rattle.ladder.specs.LadderScan.{ladderScan, scanned, refused}
 use Rattle.ladder.specs.LadderScan.{scanEnds as ladderScanEnds, scanAnswer as ladderScanAnswer}
 use Rattle.grammar.specs.Reader.{mapP, bind, followed, digitOf, digitsFrom, numberOf, chain, termBy, frontBy, factorBy, factorOf, termOf, frontOf, opensFactor, branchBy, rearBy, endBy, endOf, rearOf, lineOf, linesOf, textOf}

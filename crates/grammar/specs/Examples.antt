@@ -3,7 +3,7 @@ use mathlib.Core.Path.{_≡_, refl}
 use mathlib.Core.List.{List, [], _∷_, map}
 use Prim.Native.Nat.{ℕ}
 use Rattle.questions.specs.Bytes.{bytes}
-use Rattle.ladder.specs.Tree.{contact, contactn, Front, input, frontAnd, frontOr, coil, jump, Rear, output, rearAnd, rearOr, Ladder}
+use Rattle.drawing.specs.Tree.{contact, contactn, Front, input, frontAnd, frontOr, coil, jump, Rear, output, rearAnd, rearOr, Ladder}
 use Rattle.grammar.specs.Reader.{Parse, read, stuck, mapP, bind, followed, digitOf, digitsFrom, numberOf, chain, termBy, frontBy, factorBy, factorOf, termOf, frontOf, opensFactor, branchBy, rearBy, endBy, endOf, rearOf, rung, lineOf, linesOf, textOf}
 
 pub record Row : Type 0 where

@@ -2,7 +2,7 @@
 use Prim.Native.Nat.{ℕ, suc, _+_, _*_, _≤_}
 use mathlib.Core.List.{List, [], _∷_, _++_}
 use Rattle.questions.specs.Bytes.{byte}
-use Rattle.ladder.specs.Tree.{contact, contactn, Front, input, frontAnd, frontOr, coil, coiln, jump, jumpn, Rear, output, rearAnd, rearOr, Rung, Ladder}
+use Rattle.drawing.specs.Tree.{contact, contactn, Front, input, frontAnd, frontOr, coil, coiln, jump, jumpn, Rear, output, rearAnd, rearOr, Rung, Ladder}
 
 -- digits, of which the first is not 0, and their value
 pub data IsDigits : List ℕ → ℕ → Type 0 where

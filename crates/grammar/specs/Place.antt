@@ -3,7 +3,7 @@
 use mathlib.Core.List.{List, _++_}
 use Prim.Native.Nat.{ℕ, _≤_}
 use lib.ListN.{length, take}
-use Rattle.ladder.specs.Tree.{Ladder}
+use Rattle.drawing.specs.Tree.{Ladder}
 use Rattle.grammar.specs.Grammar.{IsText}
 
 -- the beginning of s of length p is shared by some text of the grammar, of whichever length

@@ -9,9 +9,9 @@ use lib.Dec.{T}
 use lib.ListN.{length}
 use Rattle.questions.specs.Tests.{all}
 use Rattle.questions.specs.Questions.{Answer}
-use Rattle.ladder.specs.Tree.{Ladder, rungAll}
-use Rattle.ladder.specs.Kept.{encode, decode, inputFits, outputFits}
-use Rattle.ladder.specs.Questions.{question4, question9}
+use Rattle.drawing.specs.Tree.{Ladder, rungAll}
+use Rattle.drawing.specs.Kept.{encode, decode, inputFits, outputFits}
+use Rattle.drawing.specs.Questions.{question4, question9}
 use Rattle.grammar.specs.Grammar.{IsText}
 use Rattle.grammar.specs.Place.{IsPlace}
 use Rattle.grammar.specs.Reader.{Parse, read, stuck, textOf}

@@ -17,10 +17,10 @@ use Rattle.table.specs.Questions.{tableInRange, question11}
 use Rattle.rungs.specs.Records.{rowOf}
 use Rattle.rungs.specs.Laws.Rows.{row-labels, row-offsets, row-lengths}
 use Rattle.rungs.specs.Laws.Layout.{lay-lengths}
-use Rattle.ladder.specs.Tree.{Ladder, labels}
-use Rattle.ladder.specs.Kept.{Kept, rungWords, encode, decode}
-use Rattle.ladder.specs.Questions.{ladderOf, holdsLadder, question4, sizesInRange, question5, rungBelow, question6, newLabels, question7, rungLeads, question8, scratchInRange, question9, ladderAnswer}
-use Rattle.ladder.specs.Laws.Accepting.{encode-decode, holds}
+use Rattle.drawing.specs.Tree.{Ladder, labels}
+use Rattle.drawing.specs.Kept.{Kept, rungWords, encode, decode}
+use Rattle.drawing.specs.Questions.{ladderOf, holdsLadder, question4, sizesInRange, question5, rungBelow, question6, newLabels, question7, rungLeads, question8, scratchInRange, question9, ladderAnswer}
+use Rattle.drawing.specs.Laws.Accepting.{encode-decode, holds}
 use Rattle.ladder.specs.Asking.{LadderIn, placeOf, SizesAsked, VariablesAsked, LabelsAsked, JumpsAsked}
 use Rattle.ladder.specs.Held.{LadderHeld}
 use Rattle.ladder.specs.Scanned.{ScratchAsked, Scanned}

@@ -17,9 +17,9 @@ use Rattle.questions.specs.Tests.{all, firstFailed}
 use Rattle.questions.specs.Laws.Tests.{T→true, all-head, all-tail, all-cons, all-ends, failed-none}
 use Rattle.rungs.specs.Words.{operands, word, operandOf}
 use Rattle.rungs.specs.Records.{search, present}
-use Rattle.ladder.specs.Tree.{Input, contact, contactn, Front, input, frontAnd, frontOr, Output, coil, coiln, jump, jumpn, Rear, output, rearAnd, rearOr, Rung, Ladder, frontAll, rearAll, rungAll}
-use Rattle.ladder.specs.Kept.{inputWord, outputWord, frontWords, rearWords, rungWords, encode, inputFits, outputFits}
-use Rattle.ladder.specs.Questions.{mostRungs, mostWords, sizesInRange, inputBelow, outputBelow, newLabels, outputLeads}
+use Rattle.drawing.specs.Tree.{Input, contact, contactn, Front, input, frontAnd, frontOr, Output, coil, coiln, jump, jumpn, Rear, output, rearAnd, rearOr, Rung, Ladder, frontAll, rearAll, rungAll}
+use Rattle.drawing.specs.Kept.{inputWord, outputWord, frontWords, rearWords, rungWords, encode, inputFits, outputFits}
+use Rattle.drawing.specs.Questions.{mostRungs, mostWords, sizesInRange, inputBelow, outputBelow, newLabels, outputLeads}
 use Rattle.ladder.specs.Asking.{LadderIn, placeOf, RungEnd, lengthInRange, namesVariable, namesLabel, operandBelow, operandLeads, wordBelow, wordStays, wordLeads, SizesAsked, RiseAsked, LabelsAsked}
 use Rattle.ladder.specs.declared.Found.{Found}
 use Rattle.ladder.specs.declared.Found.the-variants.{At, Nothing}

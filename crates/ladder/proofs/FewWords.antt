@@ -8,9 +8,9 @@ use lib.Dec.{leb}
 use lib.ListN.{length, length-append}
 use borrow.Author.Tests.{le-leb}
 use Rattle.table.specs.State.{scratchBytes}
-use Rattle.ladder.specs.Tree.{contact, contactn, Front, input, frontAnd, frontOr, Rear, output, rearAnd, rearOr, Rung}
-use Rattle.ladder.specs.Kept.{frontWords, rearWords, rungWords}
-use Rattle.ladder.specs.Questions.{joinScratch, frontScratch, rearScratch, rungScratch}
+use Rattle.drawing.specs.Tree.{contact, contactn, Front, input, frontAnd, frontOr, Rear, output, rearAnd, rearOr, Rung}
+use Rattle.drawing.specs.Kept.{frontWords, rearWords, rungWords}
+use Rattle.drawing.specs.Questions.{joinScratch, frontScratch, rearScratch, rungScratch}
 use Rattle.ladder.specs.Walking.{RungMeasured}
 use Rattle.ladder.specs.Scanned.{FewAsked}
 

@@ -13,8 +13,8 @@ use borrow.Author.Tests.{eq-eqb, ne-eqb, le-leb, lt-leb}
 use Rattle.rungs.specs.Words.{numberOf, operandOf}
 use Rattle.rungs.specs.Records.{RungRecord, rowOf}
 use Rattle.rungs.specs.Laws.Rows.{Even, row-length, row-at, row-uneven-first, row-uneven-second}
-use Rattle.ladder.specs.Kept.{decodeFrom, decode}
-use Rattle.ladder.specs.Questions.{ladderOf, holdsLadder}
+use Rattle.drawing.specs.Kept.{decodeFrom, decode}
+use Rattle.drawing.specs.Questions.{ladderOf, holdsLadder}
 use Rattle.ladder.specs.Owing.{broken, owing, takeFront, splitFront, takeRear, frontRear, splitRear, noTurn, turns, turn, owes, debtOf, Turned, holdsFrom}
 use Rattle.ladder.specs.Laws.Owing.{holds-counted, holds-next, holds-last}
 use Rattle.ladder.specs.declared.holds.Owed.{Owed}

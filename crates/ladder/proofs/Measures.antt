@@ -5,9 +5,9 @@ use mathlib.Core.Path.{_≡_, refl}
 use mathlib.Core.List.{List}
 use lib.ListN.{length, length-append, getD}
 use Rattle.rungs.specs.Words.{numberOf}
-use Rattle.ladder.specs.Tree.{Input, contact, contactn, Front, input, frontAnd, Rear}
-use Rattle.ladder.specs.Kept.{frontWords, rearWords}
-use Rattle.ladder.specs.Questions.{joinScratch, frontScratch, rearScratch, rungScratch}
+use Rattle.drawing.specs.Tree.{Input, contact, contactn, Front, input, frontAnd, Rear}
+use Rattle.drawing.specs.Kept.{frontWords, rearWords}
+use Rattle.drawing.specs.Questions.{joinScratch, frontScratch, rearScratch, rungScratch}
 use Rattle.ladder.specs.Held.{FrontAt}
 use Rattle.ladder.specs.Walking.{JoinMeasured, TakenDone, FrontMeasured, RearMeasured, RungMeasured}
 use Rattle.ladder.specs.declared.measure.Taken.{Taken}

@@ -10,9 +10,9 @@ use lib.ListN.{length, getD, drop, drop-of-length-le}
 use lib.Seq.{drop-cons}
 use Rattle.questions.specs.Tests.{all}
 use Rattle.table.specs.State.{scratchBytes}
-use Rattle.ladder.specs.Tree.{Rung, Ladder}
-use Rattle.ladder.specs.Kept.{rungWords}
-use Rattle.ladder.specs.Questions.{rungScratch, scratchInRange}
+use Rattle.drawing.specs.Tree.{Rung, Ladder}
+use Rattle.drawing.specs.Kept.{rungWords}
+use Rattle.drawing.specs.Questions.{rungScratch, scratchInRange}
 use Rattle.ladder.specs.Held.{LadderHeld}
 use Rattle.ladder.specs.Scanned.{FewAsked, ScratchAsked}
 use Rattle.ladder.specs.Laws.Held.{Apart, apart, as-many, rung-at}

@@ -10,9 +10,9 @@ use lib.ListN.{length, length-append, getD}
 use borrow.Author.Tests.{eqb-true, eqb-false, eq-eqb, ne-eqb}
 use Rattle.table.specs.State.{valueAt, value, writtenAt, write}
 use Rattle.rungs.specs.Words.{numberOf, operandOf}
-use Rattle.ladder.specs.Tree.{Rear}
-use Rattle.ladder.specs.Meaning.{workInput, workFront, jumpIf, runOutput, unlessJumped, runRear, runRung}
-use Rattle.ladder.specs.Kept.{frontWords, rearWords, rungWords}
+use Rattle.drawing.specs.Tree.{Rear}
+use Rattle.drawing.specs.Meaning.{workInput, workFront, jumpIf, runOutput, unlessJumped, runRear, runRung}
+use Rattle.drawing.specs.Kept.{frontWords, rearWords, rungWords}
 use Rattle.ladder.specs.Walking.{FrontDone, FrontWorked, joinedBy, Root, runOf, RunDone, RearRun, RungRun}
 use Rattle.ladder.specs.declared.walk.Worked.{Worked}
 use Rattle.ladder.specs.declared.walk.Ran.{Ran}

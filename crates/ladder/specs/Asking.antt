@@ -9,9 +9,9 @@ use lib.ListN.{length}
 use Rattle.questions.specs.Tests.{all, firstFailed}
 use Rattle.rungs.specs.Words.{numberOf, operandOf}
 use Rattle.rungs.specs.Records.{present}
-use Rattle.ladder.specs.Tree.{Ladder, rungAll}
-use Rattle.ladder.specs.Kept.{rungWords, inputFits, outputFits}
-use Rattle.ladder.specs.Questions.{mostRungWords, sizesInRange, rungBelow, newLabels, rungLeads}
+use Rattle.drawing.specs.Tree.{Ladder, rungAll}
+use Rattle.drawing.specs.Kept.{rungWords, inputFits, outputFits}
+use Rattle.drawing.specs.Questions.{mostRungWords, sizesInRange, rungBelow, newLabels, rungLeads}
 use Rattle.ladder.specs.declared.Found.{Found}
 use Rattle.ladder.specs.declared.Found.the-variants.{At, Nothing}
 

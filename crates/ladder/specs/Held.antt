@@ -6,8 +6,8 @@ use lib.Dec.{T}
 use lib.ListN.{drop}
 use Rattle.questions.specs.Tests.{all}
 use Rattle.rungs.specs.Records.{offsets}
-use Rattle.ladder.specs.Tree.{Front, Rear, Rung, Ladder, labels, frontAll, rearAll, rungAll}
-use Rattle.ladder.specs.Kept.{frontWords, rearWords, rungWords, encode, inputFits, outputFits}
+use Rattle.drawing.specs.Tree.{Front, Rear, Rung, Ladder, labels, frontAll, rearAll, rungAll}
+use Rattle.drawing.specs.Kept.{frontWords, rearWords, rungWords, encode, inputFits, outputFits}
 
 -- a tree's words stand in ws from `at` on, and its operands have 16 bits
 pub record FrontAt (ws : List ℕ) (at : ℕ) (f : Front) : Type 0 where

@@ -7,9 +7,9 @@ use Rattle.questions.specs.Questions.{Refusal, Answer, firstNo, question12, mos
 use Rattle.questions.specs.Refusals.{refusalOf}
 use Rattle.table.specs.Halt.{Halt, Ended, Stopped}
 use Rattle.table.specs.Questions.{question11}
-use Rattle.ladder.specs.Meaning.{LadderScan, scanLadder}
-use Rattle.ladder.specs.Kept.{Kept}
-use Rattle.ladder.specs.Questions.{ladderOf, ladderAnswer}
+use Rattle.drawing.specs.Meaning.{LadderScan, scanLadder}
+use Rattle.drawing.specs.Kept.{Kept}
+use Rattle.drawing.specs.Questions.{ladderOf, ladderAnswer}
 use Rattle.ladder.specs.declared.LadderScanned.{LadderScanned}
 use Rattle.ladder.specs.declared.LadderScanned.the-variants.{Ended as EndedCase, Stopped as StoppedCase, Refused as RefusedCase}
 

@@ -6,11 +6,11 @@ use mathlib.Core.List.{List, map}
 use lib.Dec.{leb}
 use lib.ListN.{length}
 use Rattle.table.specs.State.{scratchBytes}
-use Rattle.ladder.specs.Tree.{Rung, Ladder}
-use Rattle.ladder.specs.Kept.{rungWords}
-use Rattle.ladder.specs.Meaning.{scanLadder}
+use Rattle.drawing.specs.Tree.{Rung, Ladder}
+use Rattle.drawing.specs.Kept.{rungWords}
+use Rattle.drawing.specs.Meaning.{scanLadder}
 use Rattle.ladder.specs.Held.{RungAt, LadderHeld}
-use Rattle.ladder.specs.Questions.{rungScratch, scratchInRange}
+use Rattle.drawing.specs.Questions.{rungScratch, scratchInRange}
 use Rattle.ladder.specs.LadderScan.{scanEnds, LadderScanDone}
 use Rattle.ladder.specs.declared.LadderScanned.{LadderScanned}
 

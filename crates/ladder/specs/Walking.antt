@@ -7,11 +7,11 @@ use lib.Dec.{eqb}
 use lib.ListN.{length, getD}
 use Rattle.table.specs.State.{State}
 use Rattle.rungs.specs.Words.{numberOf}
-use Rattle.ladder.specs.Tree.{Front, Rear, Rung}
-use Rattle.ladder.specs.Meaning.{workFront, Run, onward, jumped, runRear, runRung}
-use Rattle.ladder.specs.Kept.{frontWords, rearWords, rungWords}
+use Rattle.drawing.specs.Tree.{Front, Rear, Rung}
+use Rattle.drawing.specs.Meaning.{workFront, Run, onward, jumped, runRear, runRung}
+use Rattle.drawing.specs.Kept.{frontWords, rearWords, rungWords}
 use Rattle.ladder.specs.Held.{FrontAt, RearAt, RungAt}
-use Rattle.ladder.specs.Questions.{joinScratch, frontScratch, rearScratch, rungScratch}
+use Rattle.drawing.specs.Questions.{joinScratch, frontScratch, rearScratch, rungScratch}
 use Rattle.ladder.specs.declared.walk.Worked.{Worked}
 use Rattle.ladder.specs.declared.walk.Ran.{Ran}
 use Rattle.ladder.specs.declared.walk.Ran.the-variants.{Onward, Jumped}

@@ -5,7 +5,7 @@ ghost use Prim.Native.Nat.{_+_, _≤_, _<_, _/_, _%_, _^_};
 ghost use lib.ListN.{length};
 ghost use lib.Seq.{slice};
 ghost use Rattle.rungs.specs.Records.{rowOf};
-ghost use Rattle.ladder.specs.Questions.{holdsLadder};
+ghost use Rattle.drawing.specs.Questions.{holdsLadder};
 ghost use Rattle.ladder.specs.Owing.{owes, Turned};
 
 // What is owed before a word; broken where a word before it was out of place.

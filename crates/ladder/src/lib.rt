@@ -2,8 +2,8 @@
 ghost use mathlib.Core.Path.{_≡_};
 ghost use Rattle.questions.specs.Refusals.{answerOf};
 ghost use Rattle.rungs.specs.Records.{rowOf};
-ghost use Rattle.ladder.specs.Kept.{Kept};
-ghost use Rattle.ladder.specs.Questions.{ladderAnswer};
+ghost use Rattle.drawing.specs.Kept.{Kept};
+ghost use Rattle.drawing.specs.Questions.{ladderAnswer};
 ghost use Rattle.ladder.specs.LadderScan.{scanAnswer, ladderScan, LadderScanDone};
 use questions::MOST_RUNG_WATCHDOG;
 use questions::Refusal;

@@ -15,10 +15,10 @@ use Rattle.questions.specs.Refusals.{refusalOf}
 use Rattle.questions.specs.declared.Refusal.the-variants.{Variables, Kept as KeptCase, Sizes}
 use Rattle.rungs.specs.Records.{RungRecord}
 use Rattle.rows.specs.Rows.{mostRungs, noRecord, recordAt}
-use Rattle.ladder.specs.Tree.{Ladder}
-use Rattle.ladder.specs.Questions.{ladderOf, holdsLadder, question4, sizesInRange, question5, ladderAnswer}
+use Rattle.drawing.specs.Tree.{Ladder}
+use Rattle.drawing.specs.Questions.{ladderOf, holdsLadder, question4, sizesInRange, question5, ladderAnswer}
 use Rattle.ladder.specs.Owing.{owes, holdsFrom}
-use Rattle.ladder.specs.Laws.Accepting.{holds}
+use Rattle.drawing.specs.Laws.Accepting.{holds}
 use Rattle.ladder.specs.Laws.Held.{kept-many}
 use Rattle.ladder.specs.Laws.Owing.{holds-counted, holds-next, holds-last}
 use Rattle.ladder_rows.specs.Parts.{longHolds, askedTo, laidFirst, laidNext, laidWhole, LongRefused}

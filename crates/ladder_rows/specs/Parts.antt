@@ -14,7 +14,7 @@ use Rattle.questions.specs.declared.Verdict.the-variants.{Accepted, Refused}
 use Rattle.rungs.specs.Records.{RungRecord, labels, offsets}
 use Rattle.rows.specs.Rows.{mostRungs, gathered}
 use Rattle.rows.specs.declared.Rows.{Rows}
-use Rattle.ladder.specs.Questions.{holdsLadder, ladderAnswer}
+use Rattle.drawing.specs.Questions.{holdsLadder, ladderAnswer}
 use Rattle.ladder.specs.LadderScan.{scanAnswer}
 use Rattle.ladder.specs.Owing.{owes}
 use Rattle.ladder.specs.Walking.{RungRun}

@@ -12,6 +12,7 @@ use mir.Facts.{and-yes}
 use lib.Dec.{T, eqb, ltb, leb, eqb→eq, ltb→lt, leb→le}
 use lib.ListN.{length, getD, take, drop, length-append, drop-of-length-le}
 use lib.Seq.{slice, slice-empty, slice-cons, length-slice, take-nil}
+use Rattle.questions.specs.Laws.Maps.{take-map, drop-map}
 use Rattle.questions.specs.Bytes.{bytes, decimal}
 use Rattle.questions.specs.Tests.{all}
 use Rattle.questions.specs.Laws.Tests.{all-head, all-tail}
@@ -223,16 +224,6 @@ flatMap-append : {A B : Type 0} (f : A → List B) (xs ys : List A) → flatMap 
 unfolding flatMap
 flatMap-append f [] ys = refl
 flatMap-append f (x ∷ xs) ys = rw (flatMap-append f xs ys) (sym (append-assoc (f x) (flatMap f xs) (flatMap f ys)))
-
-take-map : {A B : Type 0} (f : A → B) (n : ℕ) (xs : List A) → take n (map f xs) ≡ map f (take n xs)
-take-map f zero xs = refl
-take-map f (suc n) [] = refl
-take-map f (suc n) (x ∷ xs) = ap (λ l. f x ∷ l) (take-map f n xs)
-
-drop-map : {A B : Type 0} (f : A → B) (n : ℕ) (xs : List A) → drop n (map f xs) ≡ map f (drop n xs)
-drop-map f zero xs = refl
-drop-map f (suc n) [] = refl
-drop-map f (suc n) (x ∷ xs) = drop-map f n xs
 
 slice-add : (o n : ℕ) (ws : List ℕ) → slice o (o + n) ws ≡ take n (drop o ws)
 slice-add zero n ws = rw zero-add

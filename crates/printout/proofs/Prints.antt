@@ -15,7 +15,7 @@ use Rattle.questions.specs.Refusals.{refusalOf}
 use Rattle.questions.specs.declared.Refusal.{Refusal as RefusalCase}
 use Rattle.rungs.specs.Records.{RungRecord, rowOf}
 use Rattle.rungs.specs.Buffers.{Buffers, writtenWords, writtenRecords}
-use Rattle.ladder.specs.Kept.{Kept}
+use Rattle.drawing.specs.Kept.{Kept}
 use Rattle.list.specs.Questions.{question10}
 use Rattle.list.specs.ListScan.{listOf}
 use Rattle.list.specs.Listing.{ListingAnswer, written, listing, listingText, fixedNames, ListingDone}

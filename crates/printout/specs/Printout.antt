@@ -8,7 +8,7 @@ use Rattle.questions.specs.Bytes.{byte, bytes, decimal}
 use Rattle.questions.specs.Questions.{Refusal}
 use Rattle.rungs.specs.Records.{RungRecord}
 use Rattle.rungs.specs.Buffers.{Buffers, buffers, writtenWords, writtenRecords}
-use Rattle.ladder.specs.Kept.{Kept}
+use Rattle.drawing.specs.Kept.{Kept}
 use Rattle.grammar.specs.Reader.{read, stuck, numberOf}
 use Rattle.text.specs.Read.{readText, kept, writtenKept}
 use Rattle.text.specs.Read.{refused as readRefused}

@@ -20,12 +20,12 @@ use Rattle.table.specs.Halt.{Halt, Ended, Stopped}
 use Rattle.table.specs.Questions.{question11, tableInRange}
 use Rattle.rungs.specs.Records.{RungRecord, rowOf, longest}
 use Rattle.rungs.specs.Buffers.{Buffers, writtenWords, writtenRecords}
-use Rattle.ladder.specs.Tree.{Ladder}
-use Rattle.ladder.specs.Kept.{Kept}
-use Rattle.ladder.specs.Meaning.{LadderScan, scanLadder}
-use Rattle.ladder.specs.Questions.{ladderOf, ladderAnswer}
-use Rattle.ladder.specs.Laws.Accepting.{accepted}
-use Rattle.ladder.specs.Laws.Watchdog.{stopped-stands, ended-stands}
+use Rattle.drawing.specs.Tree.{Ladder}
+use Rattle.drawing.specs.Kept.{Kept}
+use Rattle.drawing.specs.Meaning.{LadderScan, scanLadder}
+use Rattle.drawing.specs.Questions.{ladderOf, ladderAnswer}
+use Rattle.drawing.specs.Laws.Accepting.{accepted}
+use Rattle.drawing.specs.Laws.Watchdog.{stopped-stands, ended-stands}
 use Rattle.ladder.specs.LadderScan.{ladderScan, LadderScanDone}
 use Rattle.ladder.specs.LadderScan.{ScanAnswer as LadderAnswer, scanned as ladderScanned, refused as ladderRefused, scanAnswer as ladderAsked, scanEnds as ladderEnds, answerOf as ladderOfCase}
 use Rattle.ladder.specs.declared.LadderScanned.{LadderScanned}

@@ -11,7 +11,7 @@ use Rattle.table.specs.Halt.{Halt, Ended, Stopped}
 use Rattle.table.specs.State.{scratchBytes}
 use Rattle.rungs.specs.Records.{RungRecord}
 use Rattle.rungs.specs.Buffers.{writtenWords, writtenRecords}
-use Rattle.ladder.specs.Kept.{Kept}
+use Rattle.drawing.specs.Kept.{Kept}
 use Rattle.ladder.specs.LadderScan.{ladderScan}
 use Rattle.ladder.specs.LadderScan.{scanned as ladderScanned, refused as ladderRefused}
 use Rattle.text.specs.Read.{readText, kept, writtenKept}

@@ -18,10 +18,10 @@ use Rattle.questions.specs.declared.Refusal.{Refusal as RefusalCase}
 use Rattle.questions.specs.declared.Refusal.the-variants.{Variables, TextLength, Text, Sizes as SizesRefused, Buffer}
 use Rattle.rungs.specs.Records.{rowOf, lay, longest}
 use Rattle.rungs.specs.Laws.Layout.{lay-length}
-use Rattle.ladder.specs.Tree.{Ladder}
-use Rattle.ladder.specs.Kept.{Kept, rungWords, encode, decode}
-use Rattle.ladder.specs.Questions.{question4, sizesInRange, question5, question6, question7, question8, question9, ladderAnswer}
-use Rattle.ladder.specs.Laws.Accepting.{ladder-is}
+use Rattle.drawing.specs.Tree.{Ladder}
+use Rattle.drawing.specs.Kept.{Kept, rungWords, encode, decode}
+use Rattle.drawing.specs.Questions.{question4, sizesInRange, question5, question6, question7, question8, question9, ladderAnswer}
+use Rattle.drawing.specs.Laws.Accepting.{ladder-is}
 use Rattle.grammar.specs.Reader.{Parse, read, stuck, textOf}
 use Rattle.grammar.specs.Questions.{question3}
 use Rattle.grammar.specs.Theorems.{read-exactly, read-whole, scratch-always, decoded-always, kept-always}

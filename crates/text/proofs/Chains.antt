@@ -6,8 +6,8 @@ use native.Mathlib.Omega.{arith}
 use borrow.Author.Tests.{eq-eqb, ne-eqb}
 use lib.ListN.{length, getD, length-append}
 use lib.Seq.{sets}
-use Rattle.ladder.specs.Tree.{Front, frontAnd, frontOr}
-use Rattle.ladder.specs.Kept.{frontWords}
+use Rattle.drawing.specs.Tree.{Front, frontAnd, frontOr}
+use Rattle.drawing.specs.Kept.{frontWords}
 use Rattle.grammar.specs.Reader.{Parse, read, stuck, mapP, chain}
 use Rattle.grammar.specs.Laws.Spans.{inside}
 use Rattle.text.specs.Parts.{Inserted, PartRead}

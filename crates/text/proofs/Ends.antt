@@ -7,8 +7,8 @@ use native.Mathlib.Numerals.{sub-one}
 use borrow.Author.Tests.{eq-eqb, ne-eqb}
 use lib.ListN.{length, getD}
 use Rattle.rungs.specs.Words.{word}
-use Rattle.ladder.specs.Tree.{Output, coil, coiln, jump, jumpn, Rear, output}
-use Rattle.ladder.specs.Kept.{outputWord, rearWords}
+use Rattle.drawing.specs.Tree.{Output, coil, coiln, jump, jumpn, Rear, output}
+use Rattle.drawing.specs.Kept.{outputWord, rearWords}
 use Rattle.grammar.specs.Reader.{Parse, stuck, mapP, followed, numberOf, factorOf, endBy, endOf, branchBy, branchOf, rearBy, rearOf}
 use Rattle.text.specs.Parts.{PartRead, oneWord, leafOf}
 use Rattle.text.specs.declared.part.Parsed.{Parsed}

@@ -7,8 +7,8 @@ use native.Mathlib.Numerals.{sub-one}
 use borrow.Author.Tests.{eq-eqb, ne-eqb}
 use lib.ListN.{length, getD}
 use Rattle.rungs.specs.Words.{word}
-use Rattle.ladder.specs.Tree.{contact, contactn, input, frontAnd, frontOr}
-use Rattle.ladder.specs.Kept.{inputWord, frontWords}
+use Rattle.drawing.specs.Tree.{contact, contactn, input, frontAnd, frontOr}
+use Rattle.drawing.specs.Kept.{inputWord, frontWords}
 use Rattle.grammar.specs.Reader.{stuck, mapP, chain, followed, numberOf, factorBy, factorOf, termBy, termOf, frontBy, frontOf}
 use Rattle.grammar.specs.Laws.Spans.{inside}
 use Rattle.text.specs.Parts.{PartRead, oneWord, leafOf}

@@ -11,8 +11,8 @@ use lib.ListN.{length, take, set, length-append, length-map}
 use lib.Seq.{sets}
 use Rattle.rungs.specs.Records.{RungRecord, labels, offsets, lay, longest}
 use Rattle.rungs.specs.Laws.Layout.{pieces-length, lay-length, flatMap-snoc, lay-snoc, longest-snoc}
-use Rattle.ladder.specs.Tree.{Rung, Ladder}
-use Rattle.ladder.specs.Kept.{rungWords, encode}
+use Rattle.drawing.specs.Tree.{Rung, Ladder}
+use Rattle.drawing.specs.Kept.{rungWords, encode}
 use Rattle.grammar.specs.Reader.{pick, Parse, read, stuck, mapP, bind, lineOf, linesOf, textOf}
 use Rattle.rungs.specs.Buffers.{Buffers, asBuffers, putAll}
 use Rattle.text.specs.Read.{keptBuffers}

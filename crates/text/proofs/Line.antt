@@ -6,8 +6,8 @@ use native.Mathlib.Omega.{arith}
 use lib.ListN.{length, getD, length-append}
 use lib.Seq.{sets, length-sets}
 use Rattle.questions.specs.Bytes.{byte}
-use Rattle.ladder.specs.Tree.{Front, Rear, Rung}
-use Rattle.ladder.specs.Kept.{frontWords, rearWords, rungWords}
+use Rattle.drawing.specs.Tree.{Front, Rear, Rung}
+use Rattle.drawing.specs.Kept.{frontWords, rearWords, rungWords}
 use Rattle.grammar.specs.Reader.{Parse, read, stuck, mapP, bind, followed, numberOf, frontOf, rearOf, rung, lineOf}
 use Rattle.grammar.specs.Numbers.{NumberRead}
 use Rattle.grammar.specs.declared.Numeral.{Numeral}

@@ -8,8 +8,8 @@ use borrow.Author.Tests.{eq-eqb, ne-eqb}
 use lib.Dec.{eqb}
 use lib.ListN.{length, getD, set, length-set, length-append}
 use lib.Seq.{sets}
-use Rattle.ladder.specs.Tree.{Front, Rear, rearAnd, rearOr}
-use Rattle.ladder.specs.Kept.{frontWords, rearWords}
+use Rattle.drawing.specs.Tree.{Front, Rear, rearAnd, rearOr}
+use Rattle.drawing.specs.Kept.{frontWords, rearWords}
 use Rattle.grammar.specs.Reader.{pick, Parse, read, stuck, mapP, bind, followed, opensFactor, branchBy, rearBy}
 use Rattle.grammar.specs.Laws.Spans.{inside}
 use Rattle.text.specs.Parts.{PartRead, Inserted}

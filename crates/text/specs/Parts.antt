@@ -12,9 +12,9 @@ use Rattle.questions.specs.Questions.{firstNo, question13}
 use Rattle.rungs.specs.Words.{word}
 use Rattle.rungs.specs.Records.{rowOf, longest}
 use Rattle.rungs.specs.Buffers.{Buffers, needs, writtenOver, putAll}
-use Rattle.ladder.specs.Tree.{Rung, Ladder}
-use Rattle.ladder.specs.Kept.{rungWords, encode}
-use Rattle.ladder.specs.Questions.{mostRungs, mostRungWords, mostWords, ladderAnswer}
+use Rattle.drawing.specs.Tree.{Rung, Ladder}
+use Rattle.drawing.specs.Kept.{rungWords, encode}
+use Rattle.drawing.specs.Questions.{mostRungs, mostRungWords, mostWords, ladderAnswer}
 use Rattle.grammar.specs.Reader.{Parse, read, stuck, mapP, bind, followed, numberOf, frontOf, rearOf, rung}
 use Rattle.text.specs.Read.{keptBuffers, ReadCall, kept, refused}
 use Rattle.text.specs.declared.part.Parsed.{Parsed}

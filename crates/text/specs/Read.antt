@@ -7,9 +7,9 @@ use lib.ListN.{length}
 use Rattle.questions.specs.Questions.{Refusal, firstNo, question1, question2, question13}
 use Rattle.questions.specs.Refusals.{refusalOf}
 use Rattle.rungs.specs.Buffers.{Buffers, asBuffers, needs, writtenOver, writtenWords, writtenRecords}
-use Rattle.ladder.specs.Tree.{Ladder}
-use Rattle.ladder.specs.Kept.{Kept, encode}
-use Rattle.ladder.specs.Questions.{question5, question6, question7, question8}
+use Rattle.drawing.specs.Tree.{Ladder}
+use Rattle.drawing.specs.Kept.{Kept, encode}
+use Rattle.drawing.specs.Questions.{question5, question6, question7, question8}
 use Rattle.grammar.specs.Reader.{read, stuck, textOf}
 use Rattle.grammar.specs.Questions.{question3}
 use Rattle.text.specs.declared.TextRead.{TextRead}

@@ -5,8 +5,8 @@ use mathlib.Core.Option.{none}
 use mathlib.Core.List.{List}
 use Rattle.questions.specs.Questions.{Refusal}
 use Rattle.rungs.specs.Buffers.{Buffers}
-use Rattle.ladder.specs.Kept.{encode}
-use Rattle.ladder.specs.Questions.{question4, question9, ladderAnswer}
+use Rattle.drawing.specs.Kept.{encode}
+use Rattle.drawing.specs.Questions.{question4, question9, ladderAnswer}
 use Rattle.grammar.specs.Grammar.{IsText}
 use Rattle.grammar.specs.Theorems.{scratch-always, kept-always}
 use Rattle.text.specs.Read.{ladderOf, kept, refused, readText, writtenKept}

@@ -1,7 +1,7 @@
 // Fronts: front, term and factor call each other, with at most `depth` brackets open below. Document 01, "Text".
 ghost use Prim.Native.Nat.{_≤_};
 ghost use Rattle.grammar.specs.Reader.{frontOf, termOf, factorOf};
-ghost use Rattle.ladder.specs.Kept.{frontWords};
+ghost use Rattle.drawing.specs.Kept.{frontWords};
 ghost use Rattle.text.specs.Parts.{PartRead};
 use crate::part;
 use crate::part::Parsed;

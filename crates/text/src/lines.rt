@@ -3,7 +3,7 @@ ghost use Prim.Native.Nat.{ℕ, _+_, _<_, _≤_, _^_};
 ghost use mathlib.Core.Path.{_≡_};
 ghost use lib.ListN.{length, take};
 ghost use Rattle.grammar.specs.Reader.{lineOf, textOf};
-ghost use Rattle.ladder.specs.Kept.{rungWords};
+ghost use Rattle.drawing.specs.Kept.{rungWords};
 ghost use Rattle.rungs.specs.Buffers.{buffers};
 ghost use Rattle.text.specs.Parts.{rungOf, PartRead, LineRead, withRung, putRung, LineIsKept, LinesAreKept};
 use crate::front;

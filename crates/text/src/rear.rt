@@ -2,7 +2,7 @@
 ghost use mathlib.Core.Path.{_≡_};
 ghost use Prim.Native.Nat.{_<_, _≤_};
 ghost use Rattle.grammar.specs.Reader.{rearOf, branchOf, endOf, opensFactor};
-ghost use Rattle.ladder.specs.Kept.{rearWords};
+ghost use Rattle.drawing.specs.Kept.{rearWords};
 ghost use Rattle.text.specs.Parts.{PartRead};
 use crate::front;
 use crate::part;

@@ -16,9 +16,9 @@ use Rattle.rungs.specs.Buffers.{Buffers, buffers, asBuffers}
 use Rattle.rungs.specs.Laws.Layout.{lay-length}
 use Rattle.rows.specs.Rows.{mostRungs, scattered}
 use Rattle.rows.specs.Laws.Written.{same-asked, few-written, within-written, fields, same-refused, same-written}
-use Rattle.ladder.specs.Tree.{Ladder}
-use Rattle.ladder.specs.Kept.{rungWords, encode}
-use Rattle.ladder.specs.Questions.{sizesInRange, question5}
+use Rattle.drawing.specs.Tree.{Ladder}
+use Rattle.drawing.specs.Kept.{rungWords, encode}
+use Rattle.drawing.specs.Questions.{sizesInRange, question5}
 use Rattle.grammar.specs.Questions.{question3}
 use Rattle.text.specs.Read.{ladderOf, kept, readText, ReadDone}
 use Rattle.text.specs.Read.{answerOf as readOf}

@@ -16,11 +16,11 @@ use Rattle.rungs.specs.Records.{offsets, search}
 use Rattle.rungs.specs.Buffers.{Buffers, asBuffers, needs, written}
 use Rattle.rungs.specs.Laws.Layout.{lay-length}
 use Rattle.rungs.specs.Laws.Filling.{written-sets, labels-count, offsets-count, lengths-count, short-words, short-labels, short-offsets, short-lengths, enough, put-written}
-use Rattle.ladder.specs.Tree.{Ladder}
-use Rattle.ladder.specs.Kept.{Kept}
-use Rattle.ladder.specs.Questions.{ladderOf, ladderAnswer}
+use Rattle.drawing.specs.Tree.{Ladder}
+use Rattle.drawing.specs.Kept.{Kept}
+use Rattle.drawing.specs.Questions.{ladderOf, ladderAnswer}
 use Rattle.ladder.specs.Held.{LadderHeld}
-use Rattle.ladder.specs.Laws.Accepting.{accepted}
+use Rattle.drawing.specs.Laws.Accepting.{accepted}
 use Rattle.ladder.specs.Laws.Held.{keptOf, held, as-many}
 use Rattle.list.specs.Instruction.{instrWord}
 use Rattle.translation.specs.Translate.{rungCode, listRecords, translate}

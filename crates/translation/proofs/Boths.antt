@@ -7,7 +7,7 @@ use Rattle.questions.specs.Refusals.{refusalOf}
 use Rattle.questions.specs.declared.Refusal.{Refusal as RefusalCase}
 use Rattle.rungs.specs.Records.{rowOf}
 use Rattle.rungs.specs.Buffers.{Buffers, writtenWords, writtenRecords}
-use Rattle.ladder.specs.Kept.{Kept}
+use Rattle.drawing.specs.Kept.{Kept}
 use Rattle.ladder.specs.LadderScan.{ladderScan, LadderScanDone}
 use Rattle.ladder.specs.declared.LadderScanned.{LadderScanned}
 use Rattle.list.specs.ListScan.{listScan, ListScanDone}

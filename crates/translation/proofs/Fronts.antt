@@ -7,8 +7,8 @@ use mathlib.Core.List.{List, [], _∷_, _++_, map, map-append}
 use lib.ListN.{length, length-append, length-map, getD, List·getD-eq-default, set}
 use Rattle.rungs.specs.Words.{word, numberOf, operandOf}
 use Rattle.rungs.specs.Records.{search}
-use Rattle.ladder.specs.Tree.{Front, frontAnd, frontOr}
-use Rattle.ladder.specs.Kept.{frontWords}
+use Rattle.drawing.specs.Tree.{Front, frontAnd, frontOr}
+use Rattle.drawing.specs.Kept.{frontWords}
 use Rattle.ladder.specs.Held.{FrontAt}
 use Rattle.ladder.specs.Laws.Trees.{inside, contact-only, contactn-only, and-only, or-only, parts-only, no-front}
 use Rattle.list.specs.Instruction.{Instr, LD, LDN, ST, AND, ANDN, OR, ORN, operand, opOf, operandNumber, instrWord}

@@ -10,8 +10,8 @@ use lib.Seq.{sets, length-take-le, take-all}
 use Rattle.questions.specs.Laws.Answers.{vars-in-range}
 use Rattle.rungs.specs.Records.{RungRecord, offsets, lay, startOf, longest}
 use Rattle.rungs.specs.Laws.Layout.{sizes, sizes-snoc, pieces-length, lay-length, lay-snoc, longest-snoc}
-use Rattle.ladder.specs.Tree.{Rung, Ladder}
-use Rattle.ladder.specs.Kept.{rungWords, encode}
+use Rattle.drawing.specs.Tree.{Rung, Ladder}
+use Rattle.drawing.specs.Kept.{rungWords, encode}
 use Rattle.ladder.specs.Held.{RungAt, LadderHeld}
 use Rattle.ladder.specs.Laws.Held.{Apart, as-many, rung-at}
 use Rattle.translation.specs.Translate.{rungCode, listRecords, translate}

@@ -7,8 +7,8 @@ use mathlib.Core.List.{List, _∷_, _++_}
 use lib.ListN.{length, length-append, getD, set}
 use Rattle.table.specs.State.{scratchIndex}
 use Rattle.rungs.specs.Words.{word, numberOf, operandOf}
-use Rattle.ladder.specs.Tree.{Rear}
-use Rattle.ladder.specs.Kept.{rearWords, rungWords}
+use Rattle.drawing.specs.Tree.{Rear}
+use Rattle.drawing.specs.Kept.{rearWords, rungWords}
 use Rattle.ladder.specs.Laws.Trees.{inside, coil-only, coiln-only, jump-only, jumpn-only, rear-and-only, rear-or-only, no-rear, rung-only}
 use Rattle.list.specs.Instruction.{Instr, LD, ST, AND, ANDN, opOf, operand, operandNumber, instrWord}
 use Rattle.translation.specs.Translate.{R, outputCode, rungCode}

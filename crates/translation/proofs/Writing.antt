@@ -10,7 +10,7 @@ use Rattle.rungs.specs.Records.{RungRecord, lay, search, startOf}
 use Rattle.rungs.specs.Records.{labels as labelsOf, offsets as offsetsOf}
 use Rattle.rungs.specs.Buffers.{Buffers, asBuffers, putAll}
 use Rattle.rungs.specs.Laws.Layout.{sizes, lay-labels, flatMap-snoc}
-use Rattle.ladder.specs.Tree.{Ladder}
+use Rattle.drawing.specs.Tree.{Ladder}
 use Rattle.ladder.specs.Held.{LadderHeld}
 use Rattle.ladder.specs.Laws.Held.{many, as-many}
 use Rattle.list.specs.Instruction.{instrWord}

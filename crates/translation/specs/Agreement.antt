@@ -4,8 +4,8 @@ use mathlib.Core.Path.{_≡_}
 use Rattle.table.specs.State.{State, variables}
 use Rattle.table.specs.Halt.{Ended, Stopped}
 use Rattle.rungs.specs.Records.{longest}
-use Rattle.ladder.specs.Tree.{Ladder}
-use Rattle.ladder.specs.Meaning.{LadderScan, scanLadder}
+use Rattle.drawing.specs.Tree.{Ladder}
+use Rattle.drawing.specs.Meaning.{LadderScan, scanLadder}
 use Rattle.list.specs.Machine.{InstructionList, ListScan, scanList}
 
 -- The ladder scan answered Ended with k rungs entered; `most` is the length of the list's longest rung.

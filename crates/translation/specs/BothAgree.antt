@@ -7,7 +7,7 @@ use mathlib.Core.List.{List}
 use lib.ListN.{length, take}
 use Rattle.questions.specs.Questions.{question12, mostInstructionWatchdog}
 use Rattle.table.specs.Halt.{Halt, Ended, Stopped}
-use Rattle.ladder.specs.Kept.{Kept}
+use Rattle.drawing.specs.Kept.{Kept}
 use Rattle.ladder.specs.LadderScan.{scanned as ladderScanned}
 use Rattle.list.specs.Machine.{Counts as ListCounts}
 use Rattle.list.specs.ListScan.{ScanAnswer as ListAnswer, scanned as listScanned}

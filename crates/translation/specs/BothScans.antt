@@ -7,7 +7,7 @@ use lib.ListN.{length, take, drop}
 use Rattle.questions.specs.Questions.{Refusal}
 use Rattle.questions.specs.Refusals.{refusalOf}
 use Rattle.rungs.specs.Buffers.{Buffers, writtenWords, writtenRecords}
-use Rattle.ladder.specs.Kept.{Kept}
+use Rattle.drawing.specs.Kept.{Kept}
 use Rattle.ladder.specs.LadderScan.{ladderScan}
 use Rattle.ladder.specs.LadderScan.{ScanAnswer as LadderAnswer, answerOf as ladderAnswerOf}
 use Rattle.list.specs.ListScan.{listScan}

@@ -10,8 +10,8 @@ use Rattle.table.specs.Halt.{Halt, Ended, Stopped}
 use Rattle.table.specs.Questions.{question11}
 use Rattle.rungs.specs.Records.{RungRecord}
 use Rattle.rungs.specs.Buffers.{Buffers, needs, writtenWords, writtenRecords}
-use Rattle.ladder.specs.Kept.{Kept}
-use Rattle.ladder.specs.Questions.{ladderOf, ladderAnswer}
+use Rattle.drawing.specs.Kept.{Kept}
+use Rattle.drawing.specs.Questions.{ladderOf, ladderAnswer}
 use Rattle.ladder.specs.LadderScan.{ladderScan}
 use Rattle.ladder.specs.LadderScan.{ScanCall as LadderScanCall, scanned as ladderScanned}
 use Rattle.list.specs.Machine.{Counts as ListCounts}

@@ -3,8 +3,8 @@ use mathlib.Core.Path.{_≡_, refl}
 use mathlib.Core.List.{List, [], _∷_, map, flatMap}
 use Prim.Native.Nat.{ℕ}
 use Rattle.rungs.specs.Records.{lay, search, startOf}
-use Rattle.ladder.specs.Tree.{frontAnd, frontOr, rearAnd, rearOr, Ladder}
-use Rattle.ladder.specs.Bench.{rung, c, n, o, q, j, k}
+use Rattle.drawing.specs.Tree.{frontAnd, frontOr, rearAnd, rearOr, Ladder}
+use Rattle.drawing.specs.Bench.{rung, c, n, o, q, j, k}
 use Rattle.list.specs.Instruction.{Instr, LD, LDN, ST, STN, AND, ANDN, OR, ORN, JMPC, JMPCN}
 use Rattle.translation.specs.Translate.{F, R, join, outputCode, rungCode, listRecords, translate}
 

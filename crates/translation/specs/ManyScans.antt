@@ -12,8 +12,8 @@ use Rattle.table.specs.State.{writtenAt}
 use Rattle.table.specs.Halt.{Ended}
 use Rattle.table.specs.Questions.{question11}
 use Rattle.rungs.specs.Records.{longest}
-use Rattle.ladder.specs.Kept.{Kept}
-use Rattle.ladder.specs.Questions.{ladderOf, ladderAnswer}
+use Rattle.drawing.specs.Kept.{Kept}
+use Rattle.drawing.specs.Questions.{ladderOf, ladderAnswer}
 use Rattle.ladder.specs.LadderScan.{ladderScan}
 use Rattle.ladder.specs.LadderScan.{ScanCall as LadderScanCall, scanned as ladderScanned}
 use Rattle.list.specs.Instruction.{instrWord}

@@ -8,10 +8,10 @@ use Rattle.table.specs.State.{scratchIndex}
 use Rattle.rungs.specs.Words.{word}
 use Rattle.rungs.specs.Records.{search, offsets, longest}
 use Rattle.rungs.specs.Buffers.{Buffers, putAll}
-use Rattle.ladder.specs.Tree.{Front, Rear, Rung, Ladder}
-use Rattle.ladder.specs.Kept.{frontWords, rearWords, rungWords}
+use Rattle.drawing.specs.Tree.{Front, Rear, Rung, Ladder}
+use Rattle.drawing.specs.Kept.{frontWords, rearWords, rungWords}
 use Rattle.ladder.specs.Held.{FrontAt, RearAt, RungAt, LadderHeld}
-use Rattle.ladder.specs.Questions.{Accepted}
+use Rattle.drawing.specs.Questions.{Accepted}
 use Rattle.list.specs.Instruction.{Instr, instrWord}
 use Rattle.translation.specs.Translate.{F, R, join, rungCode, listRecords, translate}
 use Rattle.translation.specs.TranslateKept.{listBuffers}

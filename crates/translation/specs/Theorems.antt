@@ -14,9 +14,9 @@ use Rattle.table.specs.Questions.{question11}
 use Rattle.table.specs.Laws.Alike.{alike-self}
 use Rattle.rungs.specs.Records.{longest}
 use Rattle.rungs.specs.Buffers.{Buffers}
-use Rattle.ladder.specs.Tree.{Ladder}
-use Rattle.ladder.specs.Kept.{Kept}
-use Rattle.ladder.specs.Questions.{question6, scratchInRange, question9, rungBelow, ladderOf, ladderAnswer, Accepted}
+use Rattle.drawing.specs.Tree.{Ladder}
+use Rattle.drawing.specs.Kept.{Kept}
+use Rattle.drawing.specs.Questions.{question6, scratchInRange, question9, rungBelow, ladderOf, ladderAnswer, Accepted}
 use Rattle.list.specs.Instruction.{instrWord, decodeCode}
 use Rattle.list.specs.Questions.{instrInRange, question10}
 use Rattle.translation.specs.Translate.{translate}

@@ -19,9 +19,9 @@ use Rattle.rows.specs.Rows.{mostRungs, gathered, scattered}
 use Rattle.rows.specs.Laws.Gathered.{gathered-whole}
 use Rattle.rows.specs.Laws.Written.{same-asked, few-written, within-written, fields, same-refused, same-written, scattered-none}
 use Rattle.rows.specs.declared.Rows.{Rows}
-use Rattle.ladder.specs.Kept.{Kept}
-use Rattle.ladder.specs.Questions.{ladderOf, sizesInRange, question5, ladderAnswer}
-use Rattle.ladder.specs.Laws.Accepting.{accepted}
+use Rattle.drawing.specs.Kept.{Kept}
+use Rattle.drawing.specs.Questions.{ladderOf, sizesInRange, question5, ladderAnswer}
+use Rattle.drawing.specs.Laws.Accepting.{accepted}
 use Rattle.list.specs.Instruction.{instrWord}
 use Rattle.list.specs.Machine.{InstructionList}
 use Rattle.translation.specs.Translate.{listRecords, translate}

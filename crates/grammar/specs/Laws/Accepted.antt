@@ -13,11 +13,11 @@ use Rattle.questions.specs.Laws.Tests.{all-one, all-cons}
 use Rattle.questions.specs.Laws.Answers.{passed-ask}
 use Rattle.table.specs.State.{scratchBytes}
 use Rattle.rungs.specs.Words.{isOperand}
-use Rattle.ladder.specs.Tree.{contact, contactn, Front, input, frontAnd, frontOr, coil, coiln, jump, jumpn, Rear, output, rearAnd, rearOr, frontAll, rearAll, rungAll, Rung, Ladder}
-use Rattle.ladder.specs.Kept.{encode, decode, inputFits, outputFits}
-use Rattle.ladder.specs.Questions.{joinScratch, frontScratch, rearScratch, rungScratch, scratchInRange, question4, question9}
-use Rattle.ladder.specs.Theorems.{decoded-exactly}
-use Rattle.ladder.specs.Laws.Accepting.{ladder-is, some-question4}
+use Rattle.drawing.specs.Tree.{contact, contactn, Front, input, frontAnd, frontOr, coil, coiln, jump, jumpn, Rear, output, rearAnd, rearOr, frontAll, rearAll, rungAll, Rung, Ladder}
+use Rattle.drawing.specs.Kept.{encode, decode, inputFits, outputFits}
+use Rattle.drawing.specs.Questions.{joinScratch, frontScratch, rearScratch, rungScratch, scratchInRange, question4, question9}
+use Rattle.drawing.specs.Theorems.{decoded-exactly}
+use Rattle.drawing.specs.Laws.Accepting.{ladder-is, some-question4}
 use Rattle.grammar.specs.Grammar.{IsNumber, nought, digits, IsFront, oneTerm, moreTerm, IsTerm, oneFactor, moreFactor, IsFactor, cNumber, nNumber, inRound, IsRear, oneBranch, moreBranch, IsBranch, atEnd, factorAnd, IsEnd, oNumber, qNumber, jNumber, kNumber, inSquare, IsLine, line, IsText, oneLine, moreLines}
 
 number-fits : {w : List ℕ} {v : ℕ} → IsNumber w v → T (isOperand v)

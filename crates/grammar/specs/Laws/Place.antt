@@ -6,7 +6,7 @@ use native.Mathlib.Omega.{arith}
 use native.Mathlib.Decide.{decLt}
 use lib.ListN.{length, take, drop, length-append, List·getD-append}
 use lib.Seq.{take-at, length-take-le, getD-take, drop-length}
-use Rattle.ladder.specs.Tree.{Ladder}
+use Rattle.drawing.specs.Tree.{Ladder}
 use Rattle.grammar.specs.Grammar.{IsText}
 use Rattle.grammar.specs.Place.{Shared, IsPlace}
 use Rattle.grammar.specs.Reader.{read, stuck, textOf}

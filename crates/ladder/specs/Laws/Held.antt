@@ -11,10 +11,10 @@ use Rattle.rungs.specs.Records.{rowOf}
 use Rattle.rungs.specs.Records.{labels as recordLabels, offsets}
 use Rattle.rungs.specs.Laws.Rows.{Even, row-even, row-labels, row-offsets}
 use Rattle.rungs.specs.Laws.Layout.{lay-length, lay-labels, sizes, offset-at, drop-pieces}
-use Rattle.ladder.specs.Tree.{Rung, Ladder, rungAll}
-use Rattle.ladder.specs.Kept.{Kept, rungWords, encode, decode, inputFits, outputFits}
+use Rattle.drawing.specs.Tree.{Rung, Ladder, rungAll}
+use Rattle.drawing.specs.Kept.{Kept, rungWords, encode, decode, inputFits, outputFits}
 use Rattle.ladder.specs.Held.{RungAt, LadderHeld}
-use Rattle.ladder.specs.Laws.Accepting.{encode-decode}
+use Rattle.drawing.specs.Laws.Accepting.{encode-decode}
 
 pub kept-held : (k : Kept) (gs : Ladder) → decode k ≡ some gs → LadderHeld (k .words) (recordLabels (k .records)) (offsets (k .records)) gs
 unfolding encode

@@ -12,9 +12,9 @@ use lib.Seq.{slice, take-add, drop-at, drop-drop, length-take-le}
 use borrow.Author.Tests.{eq-eqb, ne-eqb, le-leb}
 use Rattle.rungs.specs.Words.{numberOf, operandOf}
 use Rattle.rungs.specs.Records.{RungRecord}
-use Rattle.ladder.specs.Tree.{Input, Front, Output, Rung, Ladder}
-use Rattle.ladder.specs.Kept.{Trees, trees, putInput, putFront, putOutput, putRearAnd, putRearOr, noKind, kinds, decodeWords, oneRung, decodeRung, decodeFrom, decode}
-use Rattle.ladder.specs.Questions.{ladderOf, holdsLadder}
+use Rattle.drawing.specs.Tree.{Input, Front, Output, Rung, Ladder}
+use Rattle.drawing.specs.Kept.{Trees, trees, putInput, putFront, putOutput, putRearAnd, putRearOr, noKind, kinds, decodeWords, oneRung, decodeRung, decodeFrom, decode}
+use Rattle.drawing.specs.Questions.{ladderOf, holdsLadder}
 use Rattle.ladder.specs.Owing.{Debt, broken, owing, takeFront, splitFront, takeRear, frontRear, splitRear, turns, turn, owes, holdsFrom}
 
 -- ---- words and trees

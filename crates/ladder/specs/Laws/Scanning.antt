@@ -9,8 +9,8 @@ use lib.ListN.{length, getD, drop, drop-of-length-le}
 use Rattle.table.specs.State.{State}
 use Rattle.table.specs.Halt.{Ended, Stopped}
 use Rattle.rungs.specs.Records.{search}
-use Rattle.ladder.specs.Tree.{Rung, Ladder}
-use Rattle.ladder.specs.Meaning.{Run, left, runRung, from, follow, LadderScan, scanFrom, scanLadder}
+use Rattle.drawing.specs.Tree.{Rung, Ladder}
+use Rattle.drawing.specs.Meaning.{Run, left, runRung, from, follow, LadderScan, scanFrom, scanLadder}
 use Rattle.ladder.specs.LadderScan.{scanEnds, answerOf}
 use Rattle.ladder.specs.Walking.{RungRun, runOf}
 use Rattle.ladder.specs.Held.{LadderHeld}

@@ -7,11 +7,11 @@ use Rattle.questions.specs.Refusals.{refusalOf}
 use Rattle.questions.specs.Laws.Answers.{first-yes}
 use Rattle.questions.specs.declared.Refusal.{Refusal as RefusalCase}
 use Rattle.rungs.specs.Records.{labels, offsets}
-use Rattle.ladder.specs.Kept.{Kept, decode}
-use Rattle.ladder.specs.Questions.{ladderOf, ladderAnswer, Accepted}
+use Rattle.drawing.specs.Kept.{Kept, decode}
+use Rattle.drawing.specs.Questions.{ladderOf, ladderAnswer, Accepted}
 use Rattle.ladder.specs.LadderScan.{scanAnswer, ladderScan, answerOf, LadderScanDone}
 use Rattle.ladder.specs.Scanned.{Scanned}
-use Rattle.ladder.specs.Laws.Accepting.{accepted}
+use Rattle.drawing.specs.Laws.Accepting.{accepted}
 use Rattle.ladder.specs.Laws.Held.{kept-held}
 use Rattle.ladder.specs.declared.LadderScanned.{LadderScanned}
 use Rattle.ladder.specs.declared.LadderScanned.the-variants.{Refused as RefusedCase}

@@ -10,8 +10,8 @@ use lib.ListN.{length, drop, getD, List·getD-eq-default}
 use lib.Seq.{drop-append-seam, drop-drop, getD-drop}
 use mir.Facts.{and-yes}
 use Rattle.rungs.specs.Words.{operands, word, numberOf, operandOf}
-use Rattle.ladder.specs.Tree.{Input, contact, contactn, Front, input, frontAnd, frontOr, Output, coil, coiln, jump, jumpn, Rear, output, rearAnd, rearOr, Rung, frontAll, rearAll, rungAll}
-use Rattle.ladder.specs.Kept.{inputWord, outputWord, frontWords, rearWords, rungWords, inputFits, outputFits}
+use Rattle.drawing.specs.Tree.{Input, contact, contactn, Front, input, frontAnd, frontOr, Output, coil, coiln, jump, jumpn, Rear, output, rearAnd, rearOr, Rung, frontAll, rearAll, rungAll}
+use Rattle.drawing.specs.Kept.{inputWord, outputWord, frontWords, rearWords, rungWords, inputFits, outputFits}
 use Rattle.ladder.specs.Held.{FrontAt, RearAt, RungAt}
 
 -- ---- words from a position on

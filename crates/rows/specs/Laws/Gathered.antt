@@ -1,17 +1,13 @@
 -- The arrays of a row taken apart begin with its first 256 records; all of them, where it has no more. Assumes nothing.
-use mathlib.Core.Path.{_≡_, refl, ap, _∙_}
-use Prim.Native.Nat.{ℕ, zero, suc, _≤_, min}
-use mathlib.Core.List.{List, [], _∷_, map}
+use mathlib.Core.Path.{_≡_, ap, _∙_}
+use Prim.Native.Nat.{ℕ, _≤_, min}
+use mathlib.Core.List.{List, map}
 use lib.ListN.{length, take, drop, replicate, length-take, length-map}
 use lib.Seq.{take-at, take-all}
+use Rattle.questions.specs.Laws.Maps.{take-map}
 use Rattle.rungs.specs.Records.{RungRecord, rowOf}
 use Rattle.rungs.specs.Laws.Rows.{row-back}
 use Rattle.rows.specs.Rows.{mostRungs, overZeros, gathered}
-
-take-map : (f : RungRecord → ℕ) (k : ℕ) (rs : List RungRecord) → take k (map f rs) ≡ map f (take k rs)
-take-map f zero rs = refl
-take-map f (suc k) [] = refl
-take-map f (suc k) (r ∷ rs) = ap (λ (l : List ℕ). f r ∷ l) (take-map f k rs)
 
 kept-fields : (f : RungRecord → ℕ) (rs : List RungRecord) → take (min mostRungs (length rs)) (overZeros (map f rs)) ≡ map f (take mostRungs rs)
 unfolding overZeros

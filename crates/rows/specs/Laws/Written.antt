@@ -1,6 +1,6 @@
 -- Records written from the start of a row of structs are those written into a copy of its fields. Assumes nothing.
 use mathlib.Core.Path.{_≡_, refl, ap, sym, _∙_}
-use Prim.Native.Nat.{ℕ, zero, suc, _+_, _≤_, min}
+use Prim.Native.Nat.{ℕ, _+_, _≤_, min}
 use native.Mathlib.Omega.{arith}
 use native.Mathlib.Decide.{decLe}
 use mathlib.Core.Option.{none, some}
@@ -9,6 +9,7 @@ use borrow.Author.Tests.{le-leb, lt-leb}
 use lib.Dec.{leb}
 use lib.ListN.{length, take, drop, length-map, length-append}
 use lib.Seq.{take-append-seam}
+use Rattle.questions.specs.Laws.Maps.{drop-map}
 use Rattle.questions.specs.Tests.{all}
 use Rattle.questions.specs.Questions.{Answer, firstNo, longEnough, question13}
 use Rattle.questions.specs.Laws.Answers.{first-yes, later-yes}
@@ -76,11 +77,6 @@ scattered-begins rows ks rs b =
     (row-take (rows .labels) (rows .offsets) (rows .lengths) (b .even) (length ks)
     ∙ (λ i. rowOf (b .first-labels i) (b .first-offsets i) (b .first-lengths i))
     ∙ row-back ks)
-
-drop-map : (f : RungRecord → ℕ) (k : ℕ) (rs : List RungRecord) → drop k (map f rs) ≡ map f (drop k rs)
-drop-map f zero rs = refl
-drop-map f (suc k) [] = refl
-drop-map f (suc k) (r ∷ rs) = drop-map f k rs
 
 written-field : (f : RungRecord → ℕ) (ks rs : List RungRecord) → map f (ks ++ drop (length ks) rs) ≡ written (map f ks) (map f rs)
 unfolding written

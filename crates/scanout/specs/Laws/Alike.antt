@@ -11,8 +11,8 @@ use Rattle.questions.specs.Laws.Answers.{first-yes, later-yes}
 use Rattle.table.specs.Halt.{Halt, Ended, Stopped}
 use Rattle.rungs.specs.Records.{RungRecord}
 use Rattle.rungs.specs.Buffers.{Buffers, writtenWords, writtenRecords}
-use Rattle.ladder.specs.Kept.{Kept}
-use Rattle.ladder.specs.Questions.{ladderAnswer}
+use Rattle.drawing.specs.Kept.{Kept}
+use Rattle.drawing.specs.Questions.{ladderAnswer}
 use Rattle.ladder.specs.LadderScan.{ladderScan}
 use Rattle.ladder.specs.LadderScan.{ScanAnswer as LadderAnswer, scanned as ladderScanned, refused as ladderRefused}
 use Rattle.text.specs.Read.{ReadAnswer, readText, kept}

@@ -11,10 +11,10 @@ use Rattle.rungs.specs.Records.{rowOf}
 use Rattle.rungs.specs.Buffers.{Buffers, asBuffers, needs, written, writtenOver, writtenWords, writtenRecords}
 use Rattle.rungs.specs.Laws.Layout.{lay-length}
 use Rattle.rungs.specs.Laws.Filling.{written-first, row-of-buffers, labels-count, offsets-count, lengths-count, roomy}
-use Rattle.ladder.specs.Tree.{Ladder}
-use Rattle.ladder.specs.Kept.{rungWords, encode}
-use Rattle.ladder.specs.Questions.{question5, question6, question7, question8, ladderAnswer, Accepted}
-use Rattle.ladder.specs.Laws.Accepting.{ladder-is, accepting}
+use Rattle.drawing.specs.Tree.{Ladder}
+use Rattle.drawing.specs.Kept.{rungWords, encode}
+use Rattle.drawing.specs.Questions.{question5, question6, question7, question8, ladderAnswer, Accepted}
+use Rattle.drawing.specs.Laws.Accepting.{ladder-is, accepting}
 use Rattle.grammar.specs.Grammar.{IsText}
 use Rattle.grammar.specs.Questions.{question3}
 use Rattle.grammar.specs.Theorems.{read-exactly, yes-exactly, scratch-always, some-rung, decoded-always}

@@ -9,8 +9,8 @@ use Rattle.questions.specs.Questions.{Answer, Refusal, firstNo, question13}
 use Rattle.questions.specs.Laws.Answers.{first-yes, later-yes}
 use Rattle.rungs.specs.Buffers.{Buffers, asBuffers, needs, writtenOver}
 use Rattle.rungs.specs.Laws.Filling.{labels-count, offsets-count, lengths-count, roomy}
-use Rattle.ladder.specs.Kept.{Kept}
-use Rattle.ladder.specs.Questions.{ladderOf, ladderAnswer}
+use Rattle.drawing.specs.Kept.{Kept}
+use Rattle.drawing.specs.Questions.{ladderOf, ladderAnswer}
 use Rattle.list.specs.Instruction.{instrWord}
 use Rattle.list.specs.Machine.{InstructionList}
 use Rattle.translation.specs.Translate.{translate}

@@ -6,7 +6,7 @@ use mathlib.Core.List.{List, append-nil}
 use lib.ListN.{length, drop-of-length-le}
 use lib.Seq.{take-all}
 use Rattle.rungs.specs.Buffers.{writtenWords, writtenRecords}
-use Rattle.ladder.specs.Kept.{Kept}
+use Rattle.drawing.specs.Kept.{Kept}
 use Rattle.ladder.specs.LadderScan.{ladderScan}
 use Rattle.list.specs.ListScan.{listScan}
 use Rattle.list.specs.ListScan.{ScanCall as ListScanCall}

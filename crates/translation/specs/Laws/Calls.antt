@@ -15,15 +15,15 @@ use Rattle.table.specs.Laws.Alike.{alike-self}
 use Rattle.rungs.specs.Records.{longest}
 use Rattle.rungs.specs.Buffers.{Buffers, asBuffers, needs, written, writtenOver, writtenWords, writtenRecords}
 use Rattle.rungs.specs.Laws.Filling.{written-first, row-of-buffers, labels-count, offsets-count, lengths-count}
-use Rattle.ladder.specs.Tree.{Ladder}
-use Rattle.ladder.specs.Meaning.{LadderScan, scanLadder}
-use Rattle.ladder.specs.Kept.{Kept}
-use Rattle.ladder.specs.Questions.{ladderOf, ladderAnswer, Accepted}
+use Rattle.drawing.specs.Tree.{Ladder}
+use Rattle.drawing.specs.Meaning.{LadderScan, scanLadder}
+use Rattle.drawing.specs.Kept.{Kept}
+use Rattle.drawing.specs.Questions.{ladderOf, ladderAnswer, Accepted}
 use Rattle.ladder.specs.LadderScan.{ladderScan}
 use Rattle.ladder.specs.LadderScan.{scanEnds as ladderEnds, scanAnswer as ladderScanAnswer}
-use Rattle.ladder.specs.Laws.Accepting.{accepted}
-use Rattle.ladder.specs.Laws.Scratch.{scan-stays}
-use Rattle.ladder.specs.Laws.Watchdog.{stopped-stands, ended-stands}
+use Rattle.drawing.specs.Laws.Accepting.{accepted}
+use Rattle.drawing.specs.Laws.Scratch.{scan-stays}
+use Rattle.drawing.specs.Laws.Watchdog.{stopped-stands, ended-stands}
 use Rattle.list.specs.Instruction.{Instr, LD, LDN, ST, STN, AND, ANDN, OR, ORN, XOR, XORN, NOT, JMP, JMPC, JMPCN, instrWord, codeOf}
 use Rattle.list.specs.Machine.{InstructionList, Machine, does, step, halted, ListScan, scanMachine, scanList}
 use Rattle.list.specs.Questions.{question10, listAnswer}

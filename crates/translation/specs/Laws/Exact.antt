@@ -9,8 +9,8 @@ use lib.Dec.{T, ltb→lt, leb, le→leb}
 use Rattle.questions.specs.Tests.{all}
 use Rattle.questions.specs.Laws.Tests.{all-head, all-tail, all-cons, all-first, all-second}
 use Rattle.table.specs.State.{scratchBytes}
-use Rattle.ladder.specs.Tree.{contact, contactn, Front, input, frontAnd, frontOr, Rear, output, rearAnd, rearOr, Rung, Ladder}
-use Rattle.ladder.specs.Questions.{joinScratch, frontScratch, rearScratch, rungScratch}
+use Rattle.drawing.specs.Tree.{contact, contactn, Front, input, frontAnd, frontOr, Rear, output, rearAnd, rearOr, Rung, Ladder}
+use Rattle.drawing.specs.Questions.{joinScratch, frontScratch, rearScratch, rungScratch}
 use Rattle.list.specs.Instruction.{Instr, LD, ST, AND, ANDN, OR, ORN, tableIndex, operand}
 use Rattle.list.specs.Questions.{operandInRange, instrInRange}
 use Rattle.translation.specs.Translate.{F, R, join, rungCode}

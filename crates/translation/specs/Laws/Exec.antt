@@ -10,7 +10,7 @@ use native.Mathlib.Omega.{arith}
 use lib.ListN.{drop, getElem?}
 use Rattle.table.specs.State.{State, bit}
 use Rattle.rungs.specs.Records.{isStart}
-use Rattle.ladder.specs.Meaning.{Run, onward, jumped, left}
+use Rattle.drawing.specs.Meaning.{Run, onward, jumped, left}
 use Rattle.list.specs.Instruction.{Instr, LD, LDN, ST, STN, AND, ANDN, OR, ORN, XOR, XORN, NOT, JMP, JMPC, JMPCN}
 use Rattle.list.specs.Machine.{InstructionList, Counts, Machine, ListScan, does, count, step, scanMachine}
 use Rattle.list.specs.Laws.Watchdog.{scan-step}

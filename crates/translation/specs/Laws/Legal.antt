@@ -17,9 +17,9 @@ use Rattle.table.specs.State.{scratchBytes}
 use Rattle.rungs.specs.Words.{operands}
 use Rattle.rungs.specs.Records.{RungRecord, laid, lay, longest}
 use Rattle.rungs.specs.Laws.Layout.{sizes, lay-length, lay-laid, longest-most, pieces-length}
-use Rattle.ladder.specs.Tree.{contact, contactn, Front, input, frontAnd, frontOr, Output, coil, coiln, jump, jumpn, Rear, output, rearAnd, rearOr, Rung, Ladder, frontAll, rearAll, rungAll}
-use Rattle.ladder.specs.Kept.{frontWords, rearWords, rungWords, encode}
-use Rattle.ladder.specs.Questions.{inputBelow, outputBelow, rungBelow, joinScratch, frontScratch, rearScratch, rungScratch, sizesInRange, question5, mostRungs, mostRungWords, mostWords, Accepted}
+use Rattle.drawing.specs.Tree.{contact, contactn, Front, input, frontAnd, frontOr, Output, coil, coiln, jump, jumpn, Rear, output, rearAnd, rearOr, Rung, Ladder, frontAll, rearAll, rungAll}
+use Rattle.drawing.specs.Kept.{frontWords, rearWords, rungWords, encode}
+use Rattle.drawing.specs.Questions.{inputBelow, outputBelow, rungBelow, joinScratch, frontScratch, rearScratch, rungScratch, sizesInRange, question5, mostRungs, mostRungWords, mostWords, Accepted}
 use Rattle.list.specs.Instruction.{Instr, LD, LDN, ST, STN, AND, ANDN, OR, ORN, JMPC, JMPCN, Operand, tableIndex, noOperand, instructionIndex, operand, operandFits, instrFits, instrWord, decodeCode}
 use Rattle.list.specs.Questions.{operandInRange, instrInRange, wordInRange, mostInstructions, mostRecords, recordsLaid, listInRange, question10}
 use Rattle.list.specs.Laws.Decoding.{decode-instr, decode-code}

@@ -14,9 +14,9 @@ use Rattle.table.specs.Laws.Alike.{Alike}
 use Rattle.rungs.specs.Records.{lay, present, startOf}
 use Rattle.rungs.specs.Laws.Rows.{present-below}
 use Rattle.rungs.specs.Laws.Layout.{sizes, start-at, start-most, lay-same, pieces-length}
-use Rattle.ladder.specs.Tree.{Rung, Ladder, labels}
-use Rattle.ladder.specs.Meaning.{runRung}
-use Rattle.ladder.specs.Questions.{rungBelow, rungLeads, rungScratch, question6, question8, scratchInRange, question9, Accepted}
+use Rattle.drawing.specs.Tree.{Rung, Ladder, labels}
+use Rattle.drawing.specs.Meaning.{runRung}
+use Rattle.drawing.specs.Questions.{rungBelow, rungLeads, rungScratch, question6, question8, scratchInRange, question9, Accepted}
 use Rattle.list.specs.Instruction.{Instr}
 use Rattle.translation.specs.Translate.{rungCode, listRecords, translate}
 use Rattle.translation.specs.Agreement.{Agreement}

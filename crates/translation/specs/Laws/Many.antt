@@ -17,13 +17,13 @@ use Rattle.table.specs.State.{State, scratchBytes, variables, bit, writtenAt, w
 use Rattle.table.specs.Halt.{Halt, Ended}
 use Rattle.table.specs.Questions.{isBit, tableInRange, question11}
 use Rattle.rungs.specs.Records.{RungRecord}
-use Rattle.ladder.specs.Meaning.{scanLadder}
-use Rattle.ladder.specs.Kept.{Kept}
-use Rattle.ladder.specs.Questions.{ladderOf, ladderAnswer}
+use Rattle.drawing.specs.Meaning.{scanLadder}
+use Rattle.drawing.specs.Kept.{Kept}
+use Rattle.drawing.specs.Questions.{ladderOf, ladderAnswer}
 use Rattle.ladder.specs.LadderScan.{ladderScan, scanAnswer, ScanCall, scanned, refused, scanEnds}
-use Rattle.ladder.specs.Laws.Accepting.{accepted}
-use Rattle.ladder.specs.Laws.Scratch.{scan-stays}
-use Rattle.ladder.specs.Theorems.{scratch-not-read}
+use Rattle.drawing.specs.Laws.Accepting.{accepted}
+use Rattle.drawing.specs.Laws.Scratch.{scan-stays}
+use Rattle.drawing.specs.Theorems.{scratch-not-read}
 use Rattle.list.specs.Instruction.{Instr, LD, LDN, ST, STN, AND, ANDN, OR, ORN, XOR, XORN, NOT, JMP, JMPC, JMPCN, instrWord}
 use Rattle.list.specs.Machine.{InstructionList, Machine, does, step, halted, begin, scanMachine, scanList}
 use Rattle.list.specs.Questions.{question10}

@@ -12,9 +12,9 @@ use mir.Facts.{and-yes}
 use Rattle.table.specs.State.{State, scratchBytes, value, write}
 use Rattle.table.specs.Laws.Alike.{Alike, Keeps, value-alike, write-both, write-scratch, value-written, keeps-all, keeps-variable, keeps-scratch, value-kept, keeps-less, keeps-both}
 use Rattle.rungs.specs.Records.{present}
-use Rattle.ladder.specs.Tree.{contact, contactn, Front, input, frontAnd, frontOr, Output, coil, coiln, jump, jumpn, Rear, output, rearAnd, rearOr, Rung, Ladder, frontAll, rearAll, rungAll}
-use Rattle.ladder.specs.Meaning.{workInput, workFront, Run, onward, jumped, left, jumpIf, unlessJumped, runOutput, runRear, runRung}
-use Rattle.ladder.specs.Questions.{inputBelow, outputBelow, rungBelow, outputLeads, rungLeads, joinScratch, frontScratch, rearScratch, rungScratch}
+use Rattle.drawing.specs.Tree.{contact, contactn, Front, input, frontAnd, frontOr, Output, coil, coiln, jump, jumpn, Rear, output, rearAnd, rearOr, Rung, Ladder, frontAll, rearAll, rungAll}
+use Rattle.drawing.specs.Meaning.{workInput, workFront, Run, onward, jumped, left, jumpIf, unlessJumped, runOutput, runRear, runRung}
+use Rattle.drawing.specs.Questions.{inputBelow, outputBelow, rungBelow, outputLeads, rungLeads, joinScratch, frontScratch, rearScratch, rungScratch}
 use Rattle.list.specs.Instruction.{Instr, LD, ST, AND, ANDN, OR, ORN}
 use Rattle.list.specs.Machine.{does}
 use Rattle.translation.specs.Translate.{F, R, join, outputCode, rungCode}

@@ -6,8 +6,8 @@ use native.Mathlib.Omega.{arith}
 use lib.ListN.{length, take, take-append-drop}
 use Rattle.rungs.specs.Records.{lay, search}
 use Rattle.rungs.specs.Laws.Layout.{sizes, sizes-snoc, start-first, start-only}
-use Rattle.ladder.specs.Tree.{Rung, Ladder, labels}
-use Rattle.ladder.specs.Meaning.{Run, onward, jumped, from, follow}
+use Rattle.drawing.specs.Tree.{Rung, Ladder, labels}
+use Rattle.drawing.specs.Meaning.{Run, onward, jumped, from, follow}
 use Rattle.list.specs.Instruction.{Instr}
 use Rattle.list.specs.Machine.{InstructionList}
 use Rattle.translation.specs.Laws.Exec.{entered}

@@ -12,8 +12,8 @@ use Rattle.table.specs.Halt.{Halt, Ended, Stopped}
 use Rattle.table.specs.Laws.Alike.{Alike, variables-alike}
 use Rattle.rungs.specs.Records.{longest}
 use Rattle.rungs.specs.Laws.Layout.{sizes, drop-pieces, longest-at}
-use Rattle.ladder.specs.Tree.{Rung, Ladder}
-use Rattle.ladder.specs.Meaning.{Run, left, runRung, follow, LadderScan, scanFrom, scanLadder}
+use Rattle.drawing.specs.Tree.{Rung, Ladder}
+use Rattle.drawing.specs.Meaning.{Run, left, runRung, follow, LadderScan, scanFrom, scanLadder}
 use Rattle.list.specs.Instruction.{Instr}
 use Rattle.list.specs.Machine.{InstructionList, Counts, Machine, begin, halted, scanMachine, scanList}
 use Rattle.list.specs.Laws.Watchdog.{scan-end, scan-stop, stops-sooner}

@@ -6,7 +6,7 @@ use native.Mathlib.Omega.{arith}
 use borrow.Author.Needs.{needs}
 use borrow.Author.Tests.{not-true, not-false}
 use lib.ListN.{length}
-use Rattle.ladder.specs.Questions.{rungLeads}
+use Rattle.drawing.specs.Questions.{rungLeads}
 use Rattle.ladder.proofs.Asked.{Walked, walk-start, walk-failed, walk-more, walk-end, words-pass, leads-tests, stays-leads}
 use Rattle.ladder.proofs.question.missing_label.Statement.{statement}
 use Rattle.ladder.proofs.question.missing_label.Tie as tie

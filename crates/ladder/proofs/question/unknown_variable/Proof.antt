@@ -6,7 +6,7 @@ use native.Mathlib.Omega.{arith}
 use borrow.Author.Needs.{needs}
 use borrow.Author.Tests.{not-true, not-false}
 use lib.ListN.{length}
-use Rattle.ladder.specs.Questions.{rungBelow}
+use Rattle.drawing.specs.Questions.{rungBelow}
 use Rattle.ladder.proofs.Asked.{Walked, walk-start, walk-failed, walk-more, walk-end, words-pass, below-tests}
 use Rattle.ladder.proofs.question.unknown_variable.Statement.{statement}
 use Rattle.ladder.proofs.question.unknown_variable.Tie as tie

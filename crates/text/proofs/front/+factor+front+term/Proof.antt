@@ -4,8 +4,8 @@ use Prim.Native.Nat.{ℕ, _+_, _-_, _*_, _<_}
 use native.Mathlib.Omega.{arith}
 use borrow.Author.Needs.{needs}
 use lib.ListN.{length}
-use Rattle.ladder.specs.Tree.{frontAnd, frontOr}
-use Rattle.ladder.specs.Kept.{frontWords}
+use Rattle.drawing.specs.Tree.{frontAnd, frontOr}
+use Rattle.drawing.specs.Kept.{frontWords}
 use Rattle.grammar.specs.Reader.{factorOf, termOf, frontOf}
 use Rattle.text.proofs.Parts.{found, closed, not-closed, inner-stuck}
 use Rattle.text.proofs.Factors.{inside-by, term-law, front-law, factor-contact, factor-contactn, factor-none, factor-deep, factor-open}

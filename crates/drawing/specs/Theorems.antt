@@ -11,14 +11,14 @@ use Rattle.table.specs.State.{State, variables, scratch}
 use Rattle.table.specs.Halt.{Ended, Stopped}
 use Rattle.table.specs.Questions.{question11}
 use Rattle.table.specs.Laws.Alike.{alike-tables, variables-alike}
-use Rattle.ladder.specs.Tree.{Rung, Ladder, rungAll}
-use Rattle.ladder.specs.Meaning.{LadderScan, scanLadder}
-use Rattle.ladder.specs.Standing.{Stands}
-use Rattle.ladder.specs.Kept.{Kept, encode, decode, inputFits, outputFits}
-use Rattle.ladder.specs.Questions.{question6, rungBelow, ladderOf, ladderAnswer, Accepted}
-use Rattle.ladder.specs.Laws.Watchdog.{stopped-stands, stands-stopped, ended-stands, stands-ended}
-use Rattle.ladder.specs.Laws.Scratch.{scan-alike, scan-stays}
-use Rattle.ladder.specs.Laws.Accepting.{decode-encode, encode-decode, ladder-is, accepted, accepting}
+use Rattle.drawing.specs.Tree.{Rung, Ladder, rungAll}
+use Rattle.drawing.specs.Meaning.{LadderScan, scanLadder}
+use Rattle.drawing.specs.Standing.{Stands}
+use Rattle.drawing.specs.Kept.{Kept, encode, decode, inputFits, outputFits}
+use Rattle.drawing.specs.Questions.{question6, rungBelow, ladderOf, ladderAnswer, Accepted}
+use Rattle.drawing.specs.Laws.Watchdog.{stopped-stands, stands-stopped, ended-stands, stands-ended}
+use Rattle.drawing.specs.Laws.Scratch.{scan-alike, scan-stays}
+use Rattle.drawing.specs.Laws.Accepting.{decode-encode, encode-decode, ladder-is, accepted, accepting}
 
 -- words and records are those of a ladder, whose operands all have 16 bits
 pub record IsKept (k : Kept) (gs : Ladder) : Type 0 where

@@ -10,8 +10,8 @@ use Rattle.questions.specs.Tests.{all}
 use Rattle.questions.specs.Questions.{Answer, ask, askEach, firstNo, question1}
 use Rattle.table.specs.State.{scratchBytes}
 use Rattle.rungs.specs.Records.{mostRecords, present}
-use Rattle.ladder.specs.Tree.{Input, contact, contactn, Front, input, frontAnd, frontOr, Output, coil, coiln, jump, jumpn, Rear, output, rearAnd, rearOr, Rung, Ladder, labels, rungAll}
-use Rattle.ladder.specs.Kept.{Kept, rungWords, encode, decode}
+use Rattle.drawing.specs.Tree.{Input, contact, contactn, Front, input, frontAnd, frontOr, Output, coil, coiln, jump, jumpn, Rear, output, rearAnd, rearOr, Rung, Ladder, labels, rungAll}
+use Rattle.drawing.specs.Kept.{Kept, rungWords, encode, decode}
 
 -- the ladder that words and records hold; no rung where they hold none
 unfoldable pub ladderOf : Kept → Ladder

@@ -11,9 +11,9 @@ use Rattle.questions.specs.Laws.Tests.{all-head, all-tail, all-second}
 use Rattle.table.specs.State.{State}
 use Rattle.table.specs.Laws.Alike.{Alike, value-alike, write-both, ScratchStays, scratch-self, scratch-both, scratch-written}
 use Rattle.rungs.specs.Records.{search}
-use Rattle.ladder.specs.Tree.{contact, contactn, Front, input, frontAnd, frontOr, Output, coil, coiln, jump, jumpn, Rear, output, rearAnd, rearOr, Rung, Ladder, labels, frontAll, rearAll, rungAll}
-use Rattle.ladder.specs.Meaning.{Worked, workInput, workFront, Run, onward, jumped, left, jumpIf, unlessJumped, runOutput, runRear, runRung, from, follow, LadderScan, scanFrom, scanLadder}
-use Rattle.ladder.specs.Questions.{inputBelow, outputBelow, rungBelow}
+use Rattle.drawing.specs.Tree.{contact, contactn, Front, input, frontAnd, frontOr, Output, coil, coiln, jump, jumpn, Rear, output, rearAnd, rearOr, Rung, Ladder, labels, frontAll, rearAll, rungAll}
+use Rattle.drawing.specs.Meaning.{Worked, workInput, workFront, Run, onward, jumped, left, jumpIf, unlessJumped, runOutput, runRear, runRung, from, follow, LadderScan, scanFrom, scanLadder}
+use Rattle.drawing.specs.Questions.{inputBelow, outputBelow, rungBelow}
 
 -- rungs that follow are of the ladder
 pub all-follow : (test : Rung → Bool) (gs rest : Ladder) (x : Run) → T (all test gs) → T (all test rest) → T (all test (follow gs rest x))

@@ -12,9 +12,9 @@ use mir.Facts.{and-yes, yes-and}
 use Rattle.questions.specs.Tests.{all}
 use Rattle.questions.specs.Laws.Tests.{none-some, T→true, all-head, all-tail, all-cons}
 use Rattle.rungs.specs.Records.{RungRecord, lay}
-use Rattle.ladder.specs.Tree.{Input, contact, contactn, Front, input, frontAnd, frontOr, Output, coil, coiln, jump, jumpn, Rear, output, rearAnd, rearOr, Rung, Ladder, frontAll, rearAll, rungAll}
+use Rattle.drawing.specs.Tree.{Input, contact, contactn, Front, input, frontAnd, frontOr, Output, coil, coiln, jump, jumpn, Rear, output, rearAnd, rearOr, Rung, Ladder, frontAll, rearAll, rungAll}
 use Rattle.rungs.specs.Words.{operands, word}
-use Rattle.ladder.specs.Kept.{inputWord, outputWord, frontWords, rearWords, rungWords, Trees, trees, putInput, putFront, putOutput, putRearAnd, putRearOr, noKind, kinds, decodeWords, oneRung, decodeRung, decodeFrom, inputFits, outputFits}
+use Rattle.drawing.specs.Kept.{inputWord, outputWord, frontWords, rearWords, rungWords, Trees, trees, putInput, putFront, putOutput, putRearAnd, putRearOr, noKind, kinds, decodeWords, oneRung, decodeRung, decodeFrom, inputFits, outputFits}
 
 abbrev frontFits : Front → Bool
 frontFits = frontAll inputFits

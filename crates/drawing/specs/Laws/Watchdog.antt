@@ -7,9 +7,9 @@ use mathlib.Core.Logic.{_⊎_, inl, inr}
 use mathlib.Core.List.{[], _∷_}
 use Rattle.table.specs.State.{State}
 use Rattle.table.specs.Halt.{Ended, Stopped}
-use Rattle.ladder.specs.Tree.{Rung, Ladder}
-use Rattle.ladder.specs.Meaning.{runRung, follow, left, LadderScan, scanFrom, scanLadder}
-use Rattle.ladder.specs.Standing.{Stands, atFirst, afterRung}
+use Rattle.drawing.specs.Tree.{Rung, Ladder}
+use Rattle.drawing.specs.Meaning.{runRung, follow, left, LadderScan, scanFrom, scanLadder}
+use Rattle.drawing.specs.Standing.{Stands, atFirst, afterRung}
 
 -- with n more before the watchdog the scan goes on from where it stands
 goes-on : {gs : Ladder} {s : State} {k : ℕ} {rest : Ladder} {t : State} → Stands gs s k rest t → (n : ℕ) → scanLadder gs (k + n) s ≡ scanFrom gs n k rest t

@@ -6,10 +6,10 @@ use Prim.Native.Nat.{ℕ, zero, suc}
 use Rattle.rungs.specs.Records.{search, present, lay}
 use Rattle.questions.specs.Tests.{all, firstFailed}
 use Rattle.questions.specs.Questions.{Answer, ask, askEach, varsInRange, question1, firstNo}
-use Rattle.ladder.specs.Tree.{Front, frontAnd, rearOr, Ladder, frontAll, rearAll, rungAll}
-use Rattle.ladder.specs.Kept.{inputWord, outputWord, frontWords, rearWords, rungWords, encode, decode, decodeFrom, decodeRung, decodeWords, oneRung, kinds, putInput, putFront, putOutput, putRearAnd, putRearOr}
-use Rattle.ladder.specs.Questions.{ladderOf, holdsLadder, question4, sizesInRange, question5, question6, question7, question8, scratchInRange, question9, newLabels, inputBelow, outputBelow, outputLeads, joinScratch, frontScratch, rearScratch, rungScratch, ladderAnswer}
-use Rattle.ladder.specs.Bench.{rung, c, o, j, k, ladderA}
+use Rattle.drawing.specs.Tree.{Front, frontAnd, rearOr, Ladder, frontAll, rearAll, rungAll}
+use Rattle.drawing.specs.Kept.{inputWord, outputWord, frontWords, rearWords, rungWords, encode, decode, decodeFrom, decodeRung, decodeWords, oneRung, kinds, putInput, putFront, putOutput, putRearAnd, putRearOr}
+use Rattle.drawing.specs.Questions.{ladderOf, holdsLadder, question4, sizesInRange, question5, question6, question7, question8, scratchInRange, question9, newLabels, inputBelow, outputBelow, outputLeads, joinScratch, frontScratch, rearScratch, rungScratch, ladderAnswer}
+use Rattle.drawing.specs.Bench.{rung, c, o, j, k, ladderA}
 
 -- the kept words and records of case A
 A-encoded : encode ladderA ≡ record {

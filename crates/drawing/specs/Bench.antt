@@ -7,8 +7,8 @@ use lib.ListN.{replicate, length}
 use Rattle.table.specs.State.{State, scratchBytes, variables, valueAt, value, writtenAt, write}
 use Rattle.table.specs.Halt.{Halt, Ended, Stopped}
 use Rattle.rungs.specs.Records.{search}
-use Rattle.ladder.specs.Tree.{contact, contactn, Front, input, frontAnd, frontOr, coil, coiln, jump, jumpn, Rear, output, rearAnd, rearOr, Rung, Ladder}
-use Rattle.ladder.specs.Meaning.{scanLadder, scanFrom, runRung, runRear, runOutput, workFront, workInput, jumpIf, unlessJumped, from, follow, left}
+use Rattle.drawing.specs.Tree.{contact, contactn, Front, input, frontAnd, frontOr, coil, coiln, jump, jumpn, Rear, output, rearAnd, rearOr, Rung, Ladder}
+use Rattle.drawing.specs.Meaning.{scanLadder, scanFrom, runRung, runRear, runOutput, workFront, workInput, jumpIf, unlessJumped, from, follow, left}
 
 -- a rung and its parts, by the letters of document 01, "Text"
 abbrev pub rung : ℕ → Front → Rear → Rung

@@ -9,10 +9,10 @@ use lib.ListN.{length}
 use Rattle.questions.specs.Tests.{all}
 use Rattle.questions.specs.Questions.{firstNo, question1}
 use Rattle.questions.specs.Laws.Answers.{ask-passed, passed-ask, first-yes, later-yes}
-use Rattle.ladder.specs.Tree.{Ladder}
-use Rattle.ladder.specs.Kept.{Kept, encode, decode}
-use Rattle.ladder.specs.Questions.{ladderOf, holdsLadder, question4, question5, question6, question7, question8, question9, ladderAnswer, Accepted}
-use Rattle.ladder.specs.Laws.Decoding.{rungFits, ladder-back, ladder-held}
+use Rattle.drawing.specs.Tree.{Ladder}
+use Rattle.drawing.specs.Kept.{Kept, encode, decode}
+use Rattle.drawing.specs.Questions.{ladderOf, holdsLadder, question4, question5, question6, question7, question8, question9, ladderAnswer, Accepted}
+use Rattle.drawing.specs.Laws.Decoding.{rungFits, ladder-back, ladder-held}
 
 pub decode-encode : (gs : Ladder) → T (all rungFits gs) → decode (encode gs) ≡ some gs
 unfolding decode encode

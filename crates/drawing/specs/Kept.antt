@@ -8,7 +8,7 @@ use lib.Dec.{eqb, leb}
 use lib.ListN.{length, take, drop, getD}
 use Rattle.rungs.specs.Words.{word, numberOf, operandOf, isOperand}
 use Rattle.rungs.specs.Records.{RungRecord, lay}
-use Rattle.ladder.specs.Tree.{Input, contact, contactn, Front, input, frontAnd, frontOr, Output, coil, coiln, jump, jumpn, Rear, output, rearAnd, rearOr, Rung, Ladder}
+use Rattle.drawing.specs.Tree.{Input, contact, contactn, Front, input, frontAnd, frontOr, Output, coil, coiln, jump, jumpn, Rear, output, rearAnd, rearOr, Rung, Ladder}
 
 pub record Kept : Type 0 where
   pub words : List ℕ

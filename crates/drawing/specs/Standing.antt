@@ -3,8 +3,8 @@
 use Prim.Native.Nat.{ℕ, _+_}
 use mathlib.Core.List.{_∷_}
 use Rattle.table.specs.State.{State}
-use Rattle.ladder.specs.Tree.{Rung, Ladder}
-use Rattle.ladder.specs.Meaning.{runRung, follow, left}
+use Rattle.drawing.specs.Tree.{Rung, Ladder}
+use Rattle.drawing.specs.Meaning.{runRung, follow, left}
 
 -- the scan of gs that begins in state s has entered k rungs, and stands before the rungs `rest` in state t; past the last where these are none
 pub data Stands (gs : Ladder) (s : State) : ℕ → Ladder → State → Type 0 where
