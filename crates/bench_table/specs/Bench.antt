@@ -14,24 +14,20 @@ use Rattle.table.specs.Halt.{Halt, Ended, Stopped}
 use Rattle.table.specs.Questions.{tableInRange, question11}
 use Rattle.rungs.specs.Records.{RungRecord, laid, lay, search, present, startOf, isStart, longest, rowOf}
 use Rattle.rungs.specs.Buffers.{Buffers, buffers, asBuffers, needs, written, writtenOver, writtenWords, writtenRecords}
-use Rattle.drawing.specs.Tree.{frontAll, rearAll, rungAll}
+use Rattle.drawing.specs.Tree.{frontAll, rearAll, rungAll, inputVariable, outputNames, number}
 use Rattle.drawing.specs.Meaning.{scanLadder, scanFrom, runRung, runRear, runOutput, workFront, workInput, jumpIf, unlessJumped, from, follow, left}
-use Rattle.drawing.specs.Kept.{Kept, inputWord, outputWord, frontWords, rearWords, rungWords, encode, putInput, putFront, putOutput, putRearAnd, putRearOr, kinds, decodeWords, oneRung, decodeRung, decodeFrom, decode}
-use Rattle.drawing.specs.Questions.{ladderOf, holdsLadder, question4, sizesInRange, question5, inputBelow, outputBelow, question6, newLabels, question7, outputLeads, question8, joinScratch, frontScratch, rearScratch, rungScratch, scratchInRange, question9, ladderAnswer}
-use Rattle.ladder.specs.LadderScan.{ladderScan, scanned, refused}
-use Rattle.ladder.specs.LadderScan.{scanEnds as ladderScanEnds, scanAnswer as ladderScanAnswer}
-use Rattle.grammar.specs.Reader.{mapP, bind, followed, digitOf, digitsFrom, numberOf, chain, termBy, frontBy, factorBy, factorOf, termOf, frontOf, opensFactor, branchBy, rearBy, endBy, endOf, rearOf, lineOf, linesOf, textOf}
+use Rattle.drawing.specs.Kept.{Kept, inputKind, outputKind, inputWord, outputWord, frontWords, rearWords, rungWords, encode, putInput, putFront, putOutput, putRearAnd, putRearOr, kinds, decodeWords, oneRung, decodeRung, decodeFrom, decode}
+use Rattle.drawing.specs.Questions.{ladderOf, holdsLadder, question4, sizesInRange, question5, inputBelow, outputBelow, question6, newLabels, question7, outputLeads, question8, joinScratch, frontScratch, rearScratch, rungScratch, scratchInRange, question9, namedBelow, namedLeads, ladderQuestions, ladderAnswer}
+use Rattle.ladder.specs.LadderScan.{callLadderScan, scanned, refused, scanEnds as ladderScanEnds, scanQuestions as ladderScanQuestions}
+use Rattle.grammar.specs.Reader.{mapP, bind, followed, digitOf, digitsFrom, numeralOf, chain, termBy, frontBy, factorBy, factorOf, termOf, frontOf, opensFactor, branchBy, rearBy, endBy, endOf, rearOf, lineOf, linesOf, textOf}
 use Rattle.grammar.specs.Questions.{question3}
-use Rattle.text.specs.Read.{readText, kept, writtenKept}
-use Rattle.text.specs.Read.{ladderOf as ladderOfText, refused as readRefused}
+use Rattle.text.specs.Read.{readText, kept, writtenKept, textLadder, refused as readRefused}
 use Rattle.list.specs.Instruction.{LD, LDN, ST, AND, ANDN, OR, JMPC, operand, opOf, operandNumber, onlyNot, ops, instrWord, decodeInstr, decodeCode, codeOf}
-use Rattle.list.specs.Machine.{scanList, scanMachine, begin, step, count, does, halted}
+use Rattle.list.specs.Machine.{scanList, scanMachine, begin, fresh, step, count, does, halted}
 use Rattle.list.specs.Questions.{operandInRange, wordInRange, recordsLaid, listInRange, question10}
-use Rattle.list.specs.ListScan.{listOf, listScan}
-use Rattle.list.specs.ListScan.{scanned as listScanned, refused as listRefused, scanEnds as listScanEnds, scanAnswer as listScanAnswer}
+use Rattle.list.specs.ListScan.{listOf, callListScan, scanned as listScanned, refused as listRefused, scanEnds as listScanEnds, scanQuestions as listScanQuestions}
 use Rattle.translation.specs.Translate.{F, R, join, outputCode, rungCode, listRecords, translate}
-use Rattle.translation.specs.TranslateKept.{Counts, countsOf, translateKept, translated}
-use Rattle.translation.specs.TranslateKept.{refused as translateRefused}
+use Rattle.translation.specs.TranslateKept.{Counts, countsOf, translateKept, translated, refused as translateRefused}
 
 -- how a scan halted, its rungs entered and the variables that it left
 record Scan : Type 0 where
@@ -106,7 +102,7 @@ variablesOf r bytes = take (length (r .before)) bytes
 -- List scan, after Ladder scan gave x and Translate wrote a list with its counts
 byListScan : Row → Scan → Counts → List ℕ → List RungRecord → Outcome
 byListScan r x counts words records =
-    let c = listScan (length (r .before)) words records (start r) (watchdog (x .halt) (x .rungs) (counts .longest)) in
+    let c = callListScan (length (r .before)) words records (start r) (watchdog (x .halt) (x .rungs) (counts .longest)) in
     elim (c .answer) [
       | listRefused refusal ↦ refusedAt (refusal .number) (refusal .place)
       | listScanned halt n ↦ scans x (record { halt = halt; rungs = n .rungs; variables = variablesOf r (c .table) }) (some words)
@@ -124,10 +120,10 @@ byTranslate r x k =
 -- Ladder scan, after Read wrote a kept ladder
 byLadderScan : Row → Kept → Outcome
 byLadderScan r k =
-    let c = ladderScan (length (r .before)) k (start r) (r .watchdog) in
+    let c = callLadderScan (length (r .before)) k (start r) (r .watchdog) in
     elim (c .answer) [
       | refused refusal ↦ refusedAt (refusal .number) (refusal .place)
-      | scanned halt rungs ↦ byTranslate r (record { halt = halt; rungs = rungs; variables = variablesOf r (c .table) }) k
+      | scanned halt n ↦ byTranslate r (record { halt = halt; rungs = n .rungs; variables = variablesOf r (c .table) }) k
     ]
 
 run : Row → Outcome
@@ -151,9 +147,9 @@ unfolding table listA outcomeA run asFar start room watchdog variablesOf byListS
     all firstFailed ask askEach firstNo varsInRange question1 question2 question3 question4 question5 question6 question7 question8 question9 question10 question11 question12 question13 longEnough
     valueAt value writtenAt write tableInRange laid lay search present startOf isStart longest rowOf asBuffers needs written writtenOver writtenWords writtenRecords zipWith flatMap
     frontAll rearAll rungAll scanLadder scanFrom runRung runRear runOutput workFront workInput jumpIf unlessJumped from follow left
-    inputWord outputWord frontWords rearWords rungWords encode putInput putFront putOutput putRearAnd putRearOr kinds decodeWords oneRung decodeRung decodeFrom decode
-    ladderOf holdsLadder sizesInRange inputBelow outputBelow newLabels outputLeads joinScratch frontScratch rearScratch rungScratch scratchInRange ladderAnswer ladderScan ladderScanAnswer ladderScanEnds
-    mapP bind followed digitOf digitsFrom numberOf chain termBy frontBy factorBy factorOf termOf frontOf opensFactor branchBy rearBy endBy endOf rearOf lineOf linesOf textOf
-    readText writtenKept ladderOfText operand opOf operandNumber onlyNot ops instrWord decodeInstr decodeCode codeOf scanList scanMachine begin step count does halted
-    operandInRange wordInRange recordsLaid listInRange listOf listScan listScanAnswer listScanEnds F R join outputCode rungCode listRecords translate countsOf translateKept
+    inputKind inputVariable inputWord outputKind outputNames number outputWord frontWords rearWords rungWords encode putInput putFront putOutput putRearAnd putRearOr kinds decodeWords oneRung decodeRung decodeFrom decode
+    ladderOf holdsLadder sizesInRange inputBelow namedBelow outputBelow newLabels namedLeads outputLeads joinScratch frontScratch rearScratch rungScratch scratchInRange ladderQuestions ladderAnswer callLadderScan ladderScanQuestions ladderScanEnds
+    mapP bind followed digitOf digitsFrom numeralOf chain termBy frontBy factorBy factorOf termOf frontOf opensFactor branchBy rearBy endBy endOf rearOf lineOf linesOf textOf
+    readText writtenKept textLadder operand opOf operandNumber onlyNot ops instrWord decodeInstr decodeCode codeOf scanList scanMachine begin fresh step count does halted
+    operandInRange wordInRange recordsLaid listInRange listOf callListScan listScanQuestions listScanEnds F R join outputCode rungCode listRecords translate countsOf translateKept
 bench = refl

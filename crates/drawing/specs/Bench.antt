@@ -4,7 +4,7 @@ use mathlib.Core.Path.{_≡_, refl}
 use mathlib.Core.List.{List, [], _∷_, _++_, map}
 use Prim.Native.Nat.{ℕ}
 use lib.ListN.{replicate, length}
-use Rattle.table.specs.State.{State, scratchBytes, variables, valueAt, value, writtenAt, write}
+use Rattle.table.specs.State.{State, stateOf, scratchBytes, variables, valueAt, value, writtenAt, write}
 use Rattle.table.specs.Halt.{Halt, Ended, Stopped}
 use Rattle.rungs.specs.Records.{search}
 use Rattle.drawing.specs.Tree.{contact, contactn, Front, input, frontAnd, frontOr, coil, coiln, jump, jumpn, Rear, output, rearAnd, rearOr, Rung, Ladder}
@@ -90,7 +90,7 @@ expected r = record { halt = r .halt; rungs = r .rungs; variables = r .after }
 
 -- "scratch is 0"
 unfoldable pub start : Row → State
-start r = record { vars = length (r .before); bytes = r .before ++ replicate scratchBytes 0 }
+start r = stateOf (length (r .before)) (r .before ++ replicate scratchBytes 0)
 
 unfoldable pub ladderOutcome : Row → Outcome
 ladderOutcome r = let x = scanLadder (r .ladder) (r .watchdog) (start r) in record { halt = x .halt; rungs = x .rungs; variables = variables (x .state) }

@@ -8,7 +8,7 @@ use lib.Dec.{eqb, leb}
 use lib.ListN.{length, take, drop, getD}
 use Rattle.rungs.specs.Words.{word, numberOf, operandOf, isOperand}
 use Rattle.rungs.specs.Records.{RungRecord, lay}
-use Rattle.drawing.specs.Tree.{Input, contact, contactn, Front, input, frontAnd, frontOr, Output, coil, coiln, jump, jumpn, Rear, output, rearAnd, rearOr, Rung, Ladder}
+use Rattle.drawing.specs.Tree.{Input, contact, contactn, Front, input, frontAnd, frontOr, Output, coil, coiln, jump, jumpn, Rear, output, rearAnd, rearOr, Rung, Ladder, inputVariable, outputNames, number}
 
 pub record Kept : Type 0 where
   pub words : List ℕ
@@ -16,15 +16,43 @@ pub record Kept : Type 0 where
 
 -- "Kinds: 1 contact, 2 negated contact, 3 front-and, 4 front-or, 5 coil, 6 negated coil, 7 jump, 8 negated jump, 9 rear-and, 10 rear-or.
 -- Operand: a variable for 1, 2, 5, 6; a label for 7, 8; 0 otherwise."
+unfoldable pub inputKind : Input → ℕ
+inputKind (contact v) = 1
+inputKind (contactn v) = 2
+
+unfoldable pub outputKind : Output → ℕ
+outputKind (coil v) = 5
+outputKind (coiln v) = 6
+outputKind (jump l) = 7
+outputKind (jumpn l) = 8
+
 unfoldable pub inputWord : Input → ℕ
-inputWord (contact v) = word 1 v
-inputWord (contactn v) = word 2 v
+inputWord i = word (inputKind i) (inputVariable i)
 
 unfoldable pub outputWord : Output → ℕ
-outputWord (coil v) = word 5 v
-outputWord (coiln v) = word 6 v
-outputWord (jump l) = word 7 l
-outputWord (jumpn l) = word 8 l
+outputWord o = word (outputKind o) (number (outputNames o))
+
+-- the sort of a word, by its kind: "A front is built of 1 to 4. A rear is an output (5 to 8), or 9 with a front and a rear, or 10 with two rears."
+pub data KindSort : Type 0 where
+  contactSort joinedSort outputSort rearAndSort rearOrSort noSort : KindSort
+
+-- by kind, from 0 to 10
+unfoldable pub kindSorts : List KindSort
+kindSorts = noSort ∷ contactSort ∷ contactSort ∷ joinedSort ∷ joinedSort ∷ outputSort ∷ outputSort ∷ outputSort ∷ outputSort ∷ rearAndSort ∷ rearOrSort ∷ []
+
+unfoldable pub kindSort : ℕ → KindSort
+kindSort kind = getD kindSorts kind noSort
+
+-- what a word's operand names, by its kind
+pub data NameSort : Type 0 where
+  variableName labelName noName : NameSort
+
+-- by kind, from 0 to 10
+unfoldable pub nameSorts : List NameSort
+nameSorts = noName ∷ variableName ∷ variableName ∷ noName ∷ noName ∷ variableName ∷ variableName ∷ labelName ∷ labelName ∷ noName ∷ noName ∷ []
+
+unfoldable pub nameSort : ℕ → NameSort
+nameSort kind = getD nameSorts kind noName
 
 -- "A tree is its root word, then its first part, then its second."
 unfoldable pub frontWords : Front → List ℕ
@@ -116,11 +144,7 @@ decode k = decodeFrom 0 (k .records) (k .words)
 
 -- an operand has 16 bits
 unfoldable pub inputFits : Input → Bool
-inputFits (contact v) = isOperand v
-inputFits (contactn v) = isOperand v
+inputFits i = isOperand (inputVariable i)
 
 unfoldable pub outputFits : Output → Bool
-outputFits (coil v) = isOperand v
-outputFits (coiln v) = isOperand v
-outputFits (jump l) = isOperand l
-outputFits (jumpn l) = isOperand l
+outputFits o = isOperand (number (outputNames o))

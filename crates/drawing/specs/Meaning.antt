@@ -76,18 +76,18 @@ follow all rest (onward s) = rest
 follow all rest (jumped l s) = from l all
 
 -- how a scan halted, the rungs entered, and the state that it left
-pub record LadderScan : Type 0 where
+pub record LadderResult : Type 0 where
   pub halt : Halt
   pub rungs : ℕ
   pub state : State
 
 -- "Before each rung: past the last, answer Ended with the rungs entered; else if the rungs entered equal the watchdog, answer Stopped with that count.":
 -- the scan of the ladder `all` from the rungs given on, with k rungs entered and n left before the watchdog; figure 4, rungs
-unfoldable pub scanFrom : Ladder → ℕ → ℕ → Ladder → State → LadderScan
+unfoldable pub scanFrom : Ladder → ℕ → ℕ → Ladder → State → LadderResult
 scanFrom all zero k [] s = record { halt = Ended; rungs = k; state = s }
 scanFrom all zero k (g ∷ rest) s = record { halt = Stopped; rungs = k; state = s }
 scanFrom all (suc n) k [] s = record { halt = Ended; rungs = k; state = s }
 scanFrom all (suc n) k (g ∷ rest) s = let x = runRung g s in scanFrom all n (k + 1) (follow all rest x) (left x)
 
-unfoldable pub scanLadder : Ladder → ℕ → State → LadderScan
+unfoldable pub scanLadder : Ladder → ℕ → State → LadderResult
 scanLadder gs watchdog s = scanFrom gs watchdog 0 gs s

@@ -7,10 +7,10 @@ use mathlib.Core.List.{List, [], _∷_, _++_, map}
 use lib.Dec.{leb, ltb}
 use lib.ListN.{length}
 use Rattle.questions.specs.Tests.{all}
-use Rattle.questions.specs.Questions.{Answer, ask, askEach, firstNo, question1}
+use Rattle.questions.specs.Questions.{Answer, yes, ask, askEach, firstNo, question1}
 use Rattle.table.specs.State.{scratchBytes}
 use Rattle.rungs.specs.Records.{mostRecords, present}
-use Rattle.drawing.specs.Tree.{Input, contact, contactn, Front, input, frontAnd, frontOr, Output, coil, coiln, jump, jumpn, Rear, output, rearAnd, rearOr, Rung, Ladder, labels, rungAll}
+use Rattle.drawing.specs.Tree.{Input, contact, contactn, Front, input, frontAnd, frontOr, Output, Rear, output, rearAnd, rearOr, Rung, Ladder, labels, rungAll, Named, aVariable, aLabel, inputVariable, outputNames}
 use Rattle.drawing.specs.Kept.{Kept, rungWords, encode, decode}
 
 -- the ladder that words and records hold; no rung where they hold none
@@ -42,14 +42,14 @@ question5 gs = ask 5 (sizesInRange gs)
 
 -- 6. "Every variable below V?"
 unfoldable pub inputBelow : ℕ → Input → Bool
-inputBelow vars (contact v) = ltb v vars
-inputBelow vars (contactn v) = ltb v vars
+inputBelow vars i = ltb (inputVariable i) vars
+
+unfoldable pub namedBelow : ℕ → Named → Bool
+namedBelow vars (aVariable v) = ltb v vars
+namedBelow vars (aLabel l) = true
 
 unfoldable pub outputBelow : ℕ → Output → Bool
-outputBelow vars (coil v) = ltb v vars
-outputBelow vars (coiln v) = ltb v vars
-outputBelow vars (jump l) = true
-outputBelow vars (jumpn l) = true
+outputBelow vars o = namedBelow vars (outputNames o)
 
 abbrev pub rungBelow : ℕ → Rung → Bool
 rungBelow vars = rungAll (inputBelow vars) (outputBelow vars)
@@ -66,11 +66,12 @@ unfoldable pub question7 : Ladder → Answer
 question7 gs = askEach 7 (newLabels [] (labels gs))
 
 -- 8. "Every jump's label present?"
+unfoldable pub namedLeads : List ℕ → Named → Bool
+namedLeads ls (aVariable v) = true
+namedLeads ls (aLabel l) = present l ls
+
 unfoldable pub outputLeads : List ℕ → Output → Bool
-outputLeads ls (coil v) = true
-outputLeads ls (coiln v) = true
-outputLeads ls (jump l) = present l ls
-outputLeads ls (jumpn l) = present l ls
+outputLeads ls o = namedLeads ls (outputNames o)
 
 abbrev pub rungLeads : List ℕ → Rung → Bool
 rungLeads ls = rungAll (λ i. true) (outputLeads ls)
@@ -106,18 +107,22 @@ scratchInRange gs = all (λ g. leb (rungScratch g) scratchBytes) gs
 unfoldable pub question9 : Ladder → Answer
 question9 gs = ask 9 (scratchInRange gs)
 
+-- questions 4 to 9, in order
+unfoldable pub ladderQuestions : ℕ → Kept → List Answer
+ladderQuestions vars k =
+    let gs = ladderOf k in
+    question4 k ∷ question5 gs ∷ question6 vars gs ∷ question7 gs ∷ question8 gs ∷ question9 gs ∷ []
+
 -- the questions that Translate and Ladder scan both put first, in order
 unfoldable pub ladderAnswer : ℕ → Kept → Answer
-ladderAnswer vars k =
-    let gs = ladderOf k in
-    firstNo (question1 vars ∷ question4 k ∷ question5 gs ∷ question6 vars gs ∷ question7 gs ∷ question8 gs ∷ question9 gs ∷ [])
+ladderAnswer vars k = firstNo (question1 vars ∷ ladderQuestions vars k)
 
 -- "A ladder is accepted when no question that Translate puts, 13 apart, gets a "no"." Of question 4 a tree leaves "at least one rung".
 pub record Accepted (vars : ℕ) (gs : Ladder) : Type 0 where
-  pub range : question1 vars ≡ none
+  pub range : question1 vars ≡ yes
   pub some-rung : 1 ≤ length gs
-  pub sizes : question5 gs ≡ none
-  pub variables : question6 vars gs ≡ none
-  pub differ : question7 gs ≡ none
-  pub jumps : question8 gs ≡ none
-  pub scratch : question9 gs ≡ none
+  pub sizes : question5 gs ≡ yes
+  pub variables : question6 vars gs ≡ yes
+  pub differ : question7 gs ≡ yes
+  pub jumps : question8 gs ≡ yes
+  pub scratch : question9 gs ≡ yes

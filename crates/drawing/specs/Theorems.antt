@@ -2,17 +2,18 @@
 use Prim.Native.Nat.{ℕ, _≤_}
 use mathlib.Core.Path.{_≡_, refl, _∙_}
 use mathlib.Core.Logic.{_↔_}
-use mathlib.Core.Option.{none, some}
+use mathlib.Core.Option.{some}
 use mathlib.Core.List.{[], _∷_}
 use lib.Dec.{T}
 use Rattle.questions.specs.Tests.{all}
+use Rattle.questions.specs.Questions.{yes}
 use Rattle.questions.specs.Laws.Answers.{each-passed}
-use Rattle.table.specs.State.{State, variables, scratch}
+use Rattle.table.specs.State.{State, beyondVariables, SameButScratch}
 use Rattle.table.specs.Halt.{Ended, Stopped}
-use Rattle.table.specs.Questions.{question11}
-use Rattle.table.specs.Laws.Alike.{alike-tables, variables-alike}
+use Rattle.table.specs.Questions.{Legal}
+use Rattle.table.specs.Laws.Alike.{alike-legal, alike-same}
 use Rattle.drawing.specs.Tree.{Rung, Ladder, rungAll}
-use Rattle.drawing.specs.Meaning.{LadderScan, scanLadder}
+use Rattle.drawing.specs.Meaning.{LadderResult, scanLadder}
 use Rattle.drawing.specs.Standing.{Stands}
 use Rattle.drawing.specs.Kept.{Kept, encode, decode, inputFits, outputFits}
 use Rattle.drawing.specs.Questions.{question6, rungBelow, ladderOf, ladderAnswer, Accepted}
@@ -37,7 +38,7 @@ pub one-ladder : (k : Kept) (gs hs : Ladder) → IsKept k gs → IsKept k hs →
 one-ladder k gs hs g h = let p = decoded-exactly k gs .1 g in let q = decoded-exactly k hs .1 h in cc
 
 -- Question 1 and questions 4 to 9 all get a "yes" exactly when the words and records are those of an accepted ladder.
-pub accepted-exactly : (vars : ℕ) (k : Kept) → (ladderAnswer vars k ≡ none) ↔ ((gs : Ladder) × IsKept k gs × Accepted vars gs)
+pub accepted-exactly : (vars : ℕ) (k : Kept) → (ladderAnswer vars k ≡ yes) ↔ ((gs : Ladder) × IsKept k gs × Accepted vars gs)
 accepted-exactly vars k = (
   (λ e. let h = accepted vars k e in (ladderOf k, decoded-exactly k (ladderOf k) .0 (h .0), h .1)),
   (λ h. accepting vars k (rw (ladder-is k (h .0) (decoded-exactly k (h .0) .1 (h .1))) (h .2))),
@@ -56,20 +57,20 @@ pub ended-exactly : (gs : Ladder) (watchdog : ℕ) (s : State) (k : ℕ) (t : St
     → (scanLadder gs watchdog s ≡ record { halt = Ended; rungs = k; state = t }) ↔ ((k ≤ watchdog) × Stands gs s k [] t)
 ended-exactly gs watchdog s k t = (ended-stands gs s watchdog k t, (λ h. stands-ended gs s watchdog k t (h .0) (h .1)))
 
--- A ladder scan's answer and variables do not depend on scratch.
-pub record SameButScratch (x y : LadderScan) : Type 0 where
+-- A ladder scan's answer, and all that it leaves but scratch, do not depend on scratch.
+pub record ScansSame (x y : LadderResult) : Type 0 where
   pub halt : x .halt ≡ y .halt
   pub rungs : x .rungs ≡ y .rungs
-  pub same-variables : variables (x .state) ≡ variables (y .state)
+  pub same : SameButScratch (x .state) (y .state)
 
-pub scratch-not-read : (gs : Ladder) (watchdog : ℕ) (s t : State) → question6 (t .vars) gs ≡ none → question11 s ≡ none → question11 t ≡ none
-    → s .vars ≡ t .vars → variables s ≡ variables t → SameButScratch (scanLadder gs watchdog s) (scanLadder gs watchdog t)
+pub scratch-not-read : (gs : Ladder) (watchdog : ℕ) (s t : State) → question6 (t .vars) gs ≡ yes → Legal s → Legal t
+    → SameButScratch s t → ScansSame (scanLadder gs watchdog s) (scanLadder gs watchdog t)
 unfolding question6
-scratch-not-read gs watchdog s t q6 hs ht e v =
-    let x = scan-alike (t .vars) gs watchdog s t (each-passed 6 (rungBelow (t .vars)) gs q6) (alike-tables s t hs ht e v) in
-    record { halt = x .halt; rungs = x .rungs; same-variables = variables-alike (x .state) }
+scratch-not-read gs watchdog s t q6 hs ht e =
+    let x = scan-alike (t .vars) gs watchdog s t (each-passed 6 (rungBelow (t .vars)) gs q6) (alike-legal s t hs ht e) in
+    record { halt = x .halt; rungs = x .rungs; same = alike-same (x .state) }
 
--- Scratch stays.
-pub scratch-not-written : (gs : Ladder) (watchdog : ℕ) (s : State) → question6 (s .vars) gs ≡ none → scratch (scanLadder gs watchdog s .state) ≡ scratch s
+-- Scratch stays, and with it every byte from V on.
+pub scratch-not-written : (gs : Ladder) (watchdog : ℕ) (s : State) → question6 (s .vars) gs ≡ yes → beyondVariables (scanLadder gs watchdog s .state) ≡ beyondVariables s
 unfolding question6
-scratch-not-written gs watchdog s q6 = scan-stays gs watchdog s (each-passed 6 (rungBelow (s .vars)) gs q6) .same-scratch
+scratch-not-written gs watchdog s q6 = scan-stays gs watchdog s (each-passed 6 (rungBelow (s .vars)) gs q6) .same-beyond

@@ -15,6 +15,25 @@ pub data Front : Type 0 where
 pub data Output : Type 0 where
   coil coiln jump jumpn : ℕ → Output
 
+-- what an output names
+pub data Named : Type 0 where
+  aVariable aLabel : ℕ → Named
+
+-- document 01, "The kept ladder": "Operand: a variable for 1, 2, 5, 6; a label for 7, 8"
+unfoldable pub inputVariable : Input → ℕ
+inputVariable (contact v) = v
+inputVariable (contactn v) = v
+
+unfoldable pub outputNames : Output → Named
+outputNames (coil v) = aVariable v
+outputNames (coiln v) = aVariable v
+outputNames (jump l) = aLabel l
+outputNames (jumpn l) = aLabel l
+
+unfoldable pub number : Named → ℕ
+number (aVariable v) = v
+number (aLabel l) = l
+
 -- document 01: "A rear is an output (5 to 8), or 9 with a front and a rear, or 10 with two rears."
 pub data Rear : Type 0 where
   output : Output → Rear

@@ -5,28 +5,27 @@ use Prim.Native.Nat.{ℕ, zero, suc, _+_, _-_, _*_, _≤_, _<_}
 use native.Mathlib.Omega.{arith}
 use native.Mathlib.Numerals.{sub-one}
 use borrow.Author.Tests.{lt-ltb, le-ltb, le-leb, lt-leb, eq-eqb, ne-eqb}
-use lib.ListN.{length}
-use lib.ListN.{getD}
-use Rattle.grammar.specs.Reader.{read, stuck, digitOf, digitsFrom, numberOf}
+use lib.ListN.{length, getD}
+use Rattle.grammar.specs.Reader.{read, stuck, digitOf, digitsFrom, numeralOf}
 
 -- the loop's invariant: what is read so far, with the digits that may follow, is the number
 pub record Reading (s : List ℕ) (at v n k : ℕ) : Type 0 where
-  pub same : digitsFrom s k v n ≡ numberOf s at
+  pub same : digitsFrom s k v n ≡ numeralOf s at
   pub past : at < n
   pub within : n ≤ length s
   pub small : v ≤ 65535
 
 module _ (s : List ℕ) (at d : ℕ) (e : d ≡ digitOf (getD s at 0)) where
-  pub number-missing : 10 ≤ d → stuck at ≡ numberOf s at
-  unfolding numberOf
+  pub number-missing : 10 ≤ d → stuck at ≡ numeralOf s at
+  unfolding numeralOf
   number-missing h = simp (← e, le-leb _ _ h)
 
-  pub number-zero : d < 10 → d ≡ 0 → read (at + 1) d ≡ numberOf s at
-  unfolding numberOf
+  pub number-zero : d < 10 → d ≡ 0 → read (at + 1) d ≡ numeralOf s at
+  unfolding numeralOf
   number-zero h z = simp (← e, lt-leb _ _ h, eq-eqb _ _ z) (ap (read (at + 1)) z)
 
-  pub number-start : d < 10 → (d ≡ 0 → ⊥) → digitsFrom s 4 d (at + 1) ≡ numberOf s at
-  unfolding numberOf
+  pub number-start : d < 10 → (d ≡ 0 → ⊥) → digitsFrom s 4 d (at + 1) ≡ numeralOf s at
+  unfolding numeralOf
   number-start h z = simp (← e, lt-leb _ _ h, ne-eqb _ _ z)
 
 module _ (s : List ℕ) (v n d : ℕ) (e : d ≡ digitOf (getD s n 0)) where

@@ -9,10 +9,18 @@ pub data IsDigits : List ℕ → ℕ → Type 0 where
   first : (d : ℕ) → 1 ≤ d → d ≤ 9 → IsDigits ((byte "0" + d) ∷ []) d
   next : {s : List ℕ} {v : ℕ} → IsDigits s v → (d : ℕ) → d ≤ 9 → IsDigits (s ++ ((byte "0" + d) ∷ [])) (v * 10 + d)
 
+-- "Numbers are 0 to 65,535"
+abbrev pub mostNumber : ℕ
+mostNumber = 65535
+
+-- "at most 15 brackets of both sorts open together"
+abbrev pub mostBrackets : ℕ
+mostBrackets = 15
+
 -- number: 0 to 65,535 without leading zeros
 pub data IsNumber : List ℕ → ℕ → Type 0 where
   nought : IsNumber (byte "0" ∷ []) 0
-  digits : {s : List ℕ} {v : ℕ} → IsDigits s v → v ≤ 65535 → IsNumber s v
+  digits : {s : List ℕ} {v : ℕ} → IsDigits s v → v ≤ mostNumber → IsNumber s v
 
 -- In all that follows d is how many brackets may be open together, of both sorts.
 mutual
@@ -53,7 +61,7 @@ mutual
 
 -- line = number ":" front ">" rear LF; at most 15 brackets open together
 pub data IsLine : List ℕ → Rung → Type 0 where
-  line : {s t u : List ℕ} {l : ℕ} {f : Front} {r : Rear} → IsNumber s l → IsFront 15 t f → IsRear 15 u r
+  line : {s t u : List ℕ} {l : ℕ} {f : Front} {r : Rear} → IsNumber s l → IsFront mostBrackets t f → IsRear mostBrackets u r
       → IsLine (s ++ byte ":" ∷ (t ++ byte ">" ∷ (u ++ byte "\n" ∷ []))) (record { label = l; front = f; rear = r })
 
 -- text = line, one or more

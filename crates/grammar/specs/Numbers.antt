@@ -3,9 +3,10 @@ use Prim.Native.Nat.{ℕ, _≤_, _<_}
 use mathlib.Core.Path.{_≡_}
 use mathlib.Core.List.{List}
 use lib.ListN.{length, getD}
-use Rattle.grammar.specs.Reader.{Parse, read, stuck, digitOf, numberOf}
+use Rattle.grammar.specs.Reader.{Parse, read, stuck, digitOf, numeralOf}
 use Rattle.grammar.specs.declared.Numeral.{Numeral}
 use Rattle.grammar.specs.declared.Numeral.the-variants.{Value, Missing}
+use Rattle.grammar.specs.Grammar.{mostNumber}
 
 -- the digit at a position, which lies within the text
 pub record DigitRead (s : List ℕ) (at r : ℕ) : Type 0 where
@@ -20,9 +21,9 @@ parseOf at Missing = stuck at
 
 -- a number that was read ends after its beginning and within the text
 abbrev pub NumberWithin : List ℕ → ℕ → Numeral → Type 0
-NumberWithin s at (Value v n) = (at < n) × (n ≤ length s) × (v ≤ 65535)
+NumberWithin s at (Value v n) = (at < n) × (n ≤ length s) × (v ≤ mostNumber)
 NumberWithin s at Missing = Unit {0}
 
 pub record NumberRead (s : List ℕ) (at : ℕ) (r : Numeral) : Type 0 where
-  pub same : parseOf at r ≡ numberOf s at
+  pub same : parseOf at r ≡ numeralOf s at
   pub within : NumberWithin s at r

@@ -6,6 +6,7 @@ use lib.Dec.{eqb, leb, ltb}
 use lib.ListN.{length, getD}
 use Rattle.questions.specs.Bytes.{byte}
 use Rattle.drawing.specs.Tree.{contact, contactn, Front, input, frontAnd, frontOr, Output, coil, coiln, jump, jumpn, Rear, output, rearAnd, rearOr, Rung, Ladder}
+use Rattle.grammar.specs.Grammar.{mostNumber, mostBrackets}
 
 abbrev pub pick : {A : Type 0} → Bool → A → A → A
 pick true a b = a
@@ -40,10 +41,10 @@ digitsFrom s zero v n = read n v
 digitsFrom s (suc k) v n =
     let x = digitOf (getD s n 0) in
     let more = digitsFrom s k (v * 10 + x) (n + 1) in
-    pick (leb 10 x) (read n v) (pick (ltb 65535 (v * 10 + x)) (read n v) more)
+    pick (leb 10 x) (read n v) (pick (ltb mostNumber (v * 10 + x)) (read n v) more)
 
-unfoldable pub numberOf : List ℕ → ℕ → Parse ℕ
-numberOf s at =
+unfoldable pub numeralOf : List ℕ → ℕ → Parse ℕ
+numeralOf s at =
     let x = digitOf (getD s at 0) in
     let more = digitsFrom s 4 x (at + 1) in
     pick (leb 10 x) (stuck at) (pick (eqb x 0) (read (at + 1) 0) more)
@@ -65,8 +66,8 @@ frontBy factor s at = chain (termBy factor s) (byte "|") frontOr s (length s) (t
 -- a factor by its first byte, with what a bracket there gives
 unfoldable pub factorBy : Parse Front → List ℕ → ℕ → Parse Front
 factorBy inner s at =
-    let contacts = mapP (λ v. input (contact v)) (numberOf s (at + 1)) in
-    let negated = mapP (λ v. input (contactn v)) (numberOf s (at + 1)) in
+    let contacts = mapP (λ v. input (contact v)) (numeralOf s (at + 1)) in
+    let negated = mapP (λ v. input (contactn v)) (numeralOf s (at + 1)) in
     pick (eqb (getD s at 0) (byte "c")) contacts (pick (eqb (getD s at 0) (byte "n")) negated (pick (eqb (getD s at 0) (byte "(")) inner (stuck at)))
 
 -- with at most d brackets open below it
@@ -98,7 +99,7 @@ rearBy branch s (suc k) at =
 
 unfoldable pub endBy : Parse Rear → List ℕ → ℕ → Parse Rear
 endBy inner s at =
-    let out : (ℕ → Output) → Parse Rear = λ make. mapP (λ v. output (make v)) (numberOf s (at + 1)) in
+    let out : (ℕ → Output) → Parse Rear = λ make. mapP (λ v. output (make v)) (numeralOf s (at + 1)) in
     pick (eqb (getD s at 0) (byte "o")) (out coil)
     (pick (eqb (getD s at 0) (byte "q")) (out coiln)
     (pick (eqb (getD s at 0) (byte "j")) (out jump)
@@ -121,9 +122,9 @@ rung l f r = record { label = l; front = f; rear = r }
 
 unfoldable pub lineOf : List ℕ → ℕ → Parse Rung
 lineOf s at =
-    bind (followed s (byte ":") (numberOf s at)) (λ n l.
-    bind (followed s (byte ">") (frontOf 15 s n)) (λ m f.
-    mapP (rung l f) (followed s (byte "\n") (rearOf 15 s m))))
+    bind (followed s (byte ":") (numeralOf s at)) (λ n l.
+    bind (followed s (byte ">") (frontOf mostBrackets s n)) (λ m f.
+    mapP (rung l f) (followed s (byte "\n") (rearOf mostBrackets s m))))
 
 -- lines up to the end of the text, at most k
 unfoldable pub linesOf : List ℕ → ℕ → ℕ → Parse Ladder

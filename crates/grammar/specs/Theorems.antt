@@ -8,7 +8,7 @@ use mathlib.Core.List.{List}
 use lib.Dec.{T}
 use lib.ListN.{length}
 use Rattle.questions.specs.Tests.{all}
-use Rattle.questions.specs.Questions.{Answer}
+use Rattle.questions.specs.Questions.{Answer, yes}
 use Rattle.drawing.specs.Tree.{Ladder, rungAll}
 use Rattle.drawing.specs.Kept.{encode, decode, inputFits, outputFits}
 use Rattle.drawing.specs.Questions.{question4, question9}
@@ -45,11 +45,11 @@ placed none = 0
 placed (some refusal) = refusal .place
 
 -- Question 3 gets a "yes" exactly when the text is in the grammar, with some ladder.
-pub yes-exactly : (s : List ℕ) → (question3 s ≡ none) ↔ ((gs : Ladder) × IsText s gs)
+pub yes-exactly : (s : List ℕ) → (question3 s ≡ yes) ↔ ((gs : Ladder) × IsText s gs)
 unfolding question3
 yes-exactly s = (λ e. go (textOf s) refl e, λ x. rw (laws.complete (x .1), question3))
   where
-    go : (r : Parse Ladder) → textOf s ≡ r → question3 s ≡ none → (gs : Ladder) × IsText s gs
+    go : (r : Parse Ladder) → textOf s ≡ r → question3 s ≡ yes → (gs : Ladder) × IsText s gs
     go (read n gs) q e = (gs, places.sound s n gs q)
     go (stuck p) q e = let f : question3 s ≡ some (record { number = 3; place = p }) = rw (q, question3) in let z : _≡_ {A = ℕ} 0 1 = cc in absurd (omega arith)
 
@@ -62,7 +62,7 @@ no-exactly s p = (λ e. go (textOf s) refl e, λ x. back (textOf s) refl x)
     stuck-no o q = rw (q, question3)
 
     go : (r : Parse Ladder) → textOf s ≡ r → question3 s ≡ some (record { number = 3; place = p }) → ((gs : Ladder) → IsText s gs → ⊥) × IsPlace s p
-    go (read n gs) q e = let f : question3 s ≡ none = rw (q, question3) in let z : _≡_ {A = ℕ} 0 1 = cc in absurd (omega arith)
+    go (read n gs) q e = let f : question3 s ≡ yes = rw (q, question3) in let z : _≡_ {A = ℕ} 0 1 = cc in absurd (omega arith)
     go (stuck o) q e =
         let same : o ≡ p = ap placed (sym (stuck-no o q) ∙ e) in
         (λ gs x. places.none s o gs q x, rw (← same) (places.place s o q))
@@ -72,7 +72,7 @@ no-exactly s p = (λ e. go (textOf s) refl e, λ x. back (textOf s) refl x)
     back (stuck o) q x = stuck-no o q ∙ ap (λ i. some (record { number = 3; place = i })) (places.one-place (places.place s o q) (x .1))
 
 -- "Translation within t0 to t31? (.. text always is)": the ladder of a text always gets a "yes" to question 9.
-pub scratch-always : {s : List ℕ} {gs : Ladder} → IsText s gs → question9 gs ≡ none
+pub scratch-always : {s : List ℕ} {gs : Ladder} → IsText s gs → question9 gs ≡ yes
 scratch-always x = accepted.scratch-always x
 
 -- A text has at least one rung.
@@ -87,5 +87,5 @@ operands-fit x = accepted.operands-fit x
 pub decoded-always : {s : List ℕ} {gs : Ladder} → IsText s gs → decode (encode gs) ≡ some gs
 decoded-always x = accepted.decoded-always x
 
-pub kept-always : {s : List ℕ} {gs : Ladder} → IsText s gs → question4 (encode gs) ≡ none
+pub kept-always : {s : List ℕ} {gs : Ladder} → IsText s gs → question4 (encode gs) ≡ yes
 kept-always x = accepted.kept-always x

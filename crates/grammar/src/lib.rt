@@ -3,6 +3,9 @@ ghost use mathlib.Core.Path.{_≡_};
 ghost use lib.ListN.{getD};
 ghost use Rattle.grammar.specs.Numbers.{DigitRead, NumberRead};
 
+// Numbers are 0 to 65,535.
+pub const MOST_NUMBER: u32 = 65535;
+
 // A number and the position after it, or none.
 pub enum Numeral {
     Value { value: u32, next: usize },
@@ -52,7 +55,7 @@ pub fn number(text: &[u8], at: usize) -> Numeral
             return Numeral::Value { value, next };
         }
         let more = value * 10 + d;
-        if 65535 < more {
+        if MOST_NUMBER < more {
             return Numeral::Value { value, next };
         }
         value = more;

@@ -8,25 +8,25 @@ use lib.Dec.{leb}
 use lib.ListN.{length}
 use Rattle.questions.specs.Questions.{ask, askEach, firstNo, varsInRange, question1, question12, mostRungWatchdog}
 use Rattle.questions.specs.Tests.{firstFailed}
-use Rattle.questions.specs.Refusals.{refusalOf, answerOf}
+use Rattle.questions.specs.Refusals.{refusalOf, verdictAnswer}
 use Rattle.questions.specs.declared.Refusal.{Refusal as RefusalCase}
 use Rattle.questions.specs.declared.Refusal.the-variants.{Variables, Kept as KeptCase, Sizes, Variable, Label, Jump, Scratch, Table, Watchdog}
 use Rattle.questions.specs.declared.Verdict.the-variants.{Accepted, Refused}
-use Rattle.table.specs.State.{State}
+use Rattle.table.specs.State.{State, stateOf}
 use Rattle.table.specs.Questions.{tableInRange, question11}
 use Rattle.rungs.specs.Records.{rowOf}
 use Rattle.rungs.specs.Laws.Rows.{row-labels, row-offsets, row-lengths}
 use Rattle.rungs.specs.Laws.Layout.{lay-lengths}
 use Rattle.drawing.specs.Tree.{Ladder, labels}
 use Rattle.drawing.specs.Kept.{Kept, rungWords, encode, decode}
-use Rattle.drawing.specs.Questions.{ladderOf, holdsLadder, question4, sizesInRange, question5, rungBelow, question6, newLabels, question7, rungLeads, question8, scratchInRange, question9, ladderAnswer}
+use Rattle.drawing.specs.Questions.{ladderOf, holdsLadder, question4, sizesInRange, question5, rungBelow, question6, newLabels, question7, rungLeads, question8, scratchInRange, question9, ladderQuestions, ladderAnswer}
 use Rattle.drawing.specs.Laws.Accepting.{encode-decode, holds}
 use Rattle.ladder.specs.Asking.{LadderIn, placeOf, SizesAsked, VariablesAsked, LabelsAsked, JumpsAsked}
 use Rattle.ladder.specs.Held.{LadderHeld}
 use Rattle.ladder.specs.Scanned.{ScratchAsked, Scanned}
 use Rattle.ladder.specs.Laws.Held.{keptOf, rows, even, held}
-use Rattle.ladder.specs.LadderScan.{scanAnswer, ladderScan, LadderScanDone}
-use Rattle.ladder.specs.Laws.Scans.{scan-taken, scan-scans}
+use Rattle.ladder.specs.LadderScan.{scanQuestions, callLadderScan, LadderScanDone}
+use Rattle.ladder.specs.Laws.Scans.{scan-first, scan-taken, scan-scans}
 use Rattle.ladder.specs.declared.Found.{Found}
 use Rattle.ladder.specs.declared.Found.the-variants.{At, Nothing}
 use Rattle.ladder.specs.declared.LadderScanned.{LadderScanned}
@@ -75,12 +75,12 @@ module _ (vars : ℕ) (ws ls os ns : List ℕ) where
     pub past : Past7
     pub yes8 : firstFailed (map (rungLeads (labels gs)) gs) ≡ none
 
-  pub refused1 : varsInRange vars ≡ false → answerOf (Refused Variables) ≡ ladderAnswer vars kept
-  unfolding answerOf refusalOf ladderAnswer firstNo question1 ask
+  pub refused1 : varsInRange vars ≡ false → verdictAnswer (Refused Variables) ≡ ladderAnswer vars kept
+  unfolding verdictAnswer refusalOf ladderAnswer firstNo question1 ask
   refused1 e = rw e
 
-  pub refused4 : Past1 → holdsLadder kept ≡ false → answerOf (Refused KeptCase) ≡ ladderAnswer vars kept
-  unfolding answerOf refusalOf ladderAnswer firstNo question1 question4 ask
+  pub refused4 : Past1 → holdsLadder kept ≡ false → verdictAnswer (Refused KeptCase) ≡ ladderAnswer vars kept
+  unfolding verdictAnswer refusalOf ladderAnswer ladderQuestions firstNo question1 question4 ask
   refused4 p e = rw (p .yes1, e)
 
   module _ (p : Past4) where
@@ -94,16 +94,16 @@ module _ (vars : ℕ) (ws ls os ns : List ℕ) where
     stands : LadderHeld ws ls os gs
     stands = held ws ls os ns gs (holding .0) (holding .1)
 
-    pub refused5 : (r : Bool) → SizesAsked ws ns r → r ≡ false → answerOf (Refused Sizes) ≡ ladderAnswer vars kept
-    unfolding answerOf refusalOf ladderAnswer firstNo question1 question4 question5 ask
+    pub refused5 : (r : Bool) → SizesAsked ws ns r → r ≡ false → verdictAnswer (Refused Sizes) ≡ ladderAnswer vars kept
+    unfolding verdictAnswer refusalOf ladderAnswer ladderQuestions firstNo question1 question4 question5 ask
     refused5 r a e = let n : sizesInRange gs ≡ false = sym (a .same gs inside) ∙ e in rw (p .past .yes1, p .yes4, n)
 
     pub past5 : (r : Bool) → SizesAsked ws ns r → r ≡ true → Past5
     past5 r a e = record { past = p; yes5 = sym (a .same gs inside) ∙ e }
 
   module _ (p : Past5) where
-    pub refused6 : (r : Found) (i : ℕ) → VariablesAsked vars ws ns r → r ≡ At i → answerOf (Refused (Variable i)) ≡ ladderAnswer vars kept
-    unfolding answerOf refusalOf ladderAnswer firstNo question1 question4 question5 question6 ask askEach placeOf
+    pub refused6 : (r : Found) (i : ℕ) → VariablesAsked vars ws ns r → r ≡ At i → verdictAnswer (Refused (Variable i)) ≡ ladderAnswer vars kept
+    unfolding verdictAnswer refusalOf ladderAnswer ladderQuestions firstNo question1 question4 question5 question6 ask askEach placeOf
     refused6 r i a e =
         let n : firstFailed (map (rungBelow vars) gs) ≡ some i = sym (a .same gs (inside (p .past))) ∙ ap placeOf e in
         rw (p .past .past .yes1, p .past .yes4, p .yes5, n)
@@ -116,8 +116,8 @@ module _ (vars : ℕ) (ws ls os ns : List ℕ) where
     labelled : ls ≡ labels gs
     labelled = stands (p .past .past) .same-labels
 
-    pub refused7 : (r : Found) (i : ℕ) → LabelsAsked ls r → r ≡ At i → answerOf (Refused (Label i)) ≡ ladderAnswer vars kept
-    unfolding answerOf refusalOf ladderAnswer firstNo question1 question4 question5 question6 question7 ask askEach placeOf
+    pub refused7 : (r : Found) (i : ℕ) → LabelsAsked ls r → r ≡ At i → verdictAnswer (Refused (Label i)) ≡ ladderAnswer vars kept
+    unfolding verdictAnswer refusalOf ladderAnswer ladderQuestions firstNo question1 question4 question5 question6 question7 ask askEach placeOf
     refused7 r i a e =
         let n : firstFailed (newLabels [] (labels gs)) ≡ some i = sym (ap (λ l. firstFailed (newLabels [] l)) labelled) ∙ sym (a .same) ∙ ap placeOf e in
         rw (p .past .past .past .yes1, p .past .past .yes4, p .past .yes5, p .yes6, n)
@@ -130,8 +130,8 @@ module _ (vars : ℕ) (ws ls os ns : List ℕ) where
     leads : (r : Found) → JumpsAsked ls ws ns r → placeOf r ≡ firstFailed (map (rungLeads (labels gs)) gs)
     leads r a = a .same gs (inside (p .past .past .past)) ∙ ap (λ l. firstFailed (map (rungLeads l) gs)) (labelled (p .past))
 
-    pub refused8 : (r : Found) (i : ℕ) → JumpsAsked ls ws ns r → r ≡ At i → answerOf (Refused (Jump i)) ≡ ladderAnswer vars kept
-    unfolding answerOf refusalOf ladderAnswer firstNo question1 question4 question5 question6 question7 question8 ask askEach placeOf
+    pub refused8 : (r : Found) (i : ℕ) → JumpsAsked ls ws ns r → r ≡ At i → verdictAnswer (Refused (Jump i)) ≡ ladderAnswer vars kept
+    unfolding verdictAnswer refusalOf ladderAnswer ladderQuestions firstNo question1 question4 question5 question6 question7 question8 ask askEach placeOf
     refused8 r i a e =
         let n : firstFailed (map (rungLeads (labels gs)) gs) ≡ some i = sym (leads r a) ∙ ap placeOf e in
         rw (p .past .past .past .past .yes1, p .past .past .past .yes4, p .past .past .yes5, p .past .yes6, p .yes7, n)
@@ -144,14 +144,14 @@ module _ (vars : ℕ) (ws ls os ns : List ℕ) where
     scratch : r ≡ scratchInRange gs
     scratch = a .same ls gs (stands (p .past .past .past .past)) (inside (p .past .past .past .past) .lengths)
 
-    pub refused9 : r ≡ false → answerOf (Refused Scratch) ≡ ladderAnswer vars kept
-    unfolding answerOf refusalOf ladderAnswer firstNo question1 question4 question5 question6 question7 question8 question9 ask askEach
+    pub refused9 : r ≡ false → verdictAnswer (Refused Scratch) ≡ ladderAnswer vars kept
+    unfolding verdictAnswer refusalOf ladderAnswer ladderQuestions firstNo question1 question4 question5 question6 question7 question8 question9 ask askEach
     refused9 e =
         let n : scratchInRange gs ≡ false = sym scratch ∙ e in
         rw (p .past .past .past .past .past .yes1, p .past .past .past .past .yes4, p .past .past .past .yes5, p .past .past .yes6, p .past .yes7, p .yes8, n)
 
-    pub accepted9 : r ≡ true → answerOf Accepted ≡ ladderAnswer vars kept
-    unfolding answerOf ladderAnswer firstNo question1 question4 question5 question6 question7 question8 question9 ask askEach
+    pub accepted9 : r ≡ true → verdictAnswer Accepted ≡ ladderAnswer vars kept
+    unfolding verdictAnswer ladderAnswer ladderQuestions firstNo question1 question4 question5 question6 question7 question8 question9 ask askEach
     accepted9 e =
         let n : scratchInRange gs ≡ true = sym scratch ∙ e in
         rw (p .past .past .past .past .past .yes1, p .past .past .past .past .yes4, p .past .past .past .yes5, p .past .past .yes6, p .past .yes7, p .yes8, n)
@@ -160,28 +160,28 @@ module _ (vars : ℕ) (ws ls os ns : List ℕ) where
 
 module _ (vars : ℕ) (k : Kept) (t : List ℕ) (w : ℕ) where
   abbrev s : State
-  s = record { vars = vars; bytes = t }
+  s = stateOf vars t
 
-  pub scan-refused : (refusal : RefusalCase) → ladderAnswer vars k ≡ some (refusalOf refusal) → answerOf (Refused refusal) ≡ scanAnswer vars k t w
-  unfolding answerOf scanAnswer firstNo
-  scan-refused refusal e = rw e
+  pub scan-refused : (refusal : RefusalCase) → ladderAnswer vars k ≡ some (refusalOf refusal) → verdictAnswer (Refused refusal) ≡ scanQuestions vars k t w
+  unfolding verdictAnswer firstNo
+  scan-refused refusal e = rw (scan-first vars k t w, e)
 
   module _ (ok : ladderAnswer vars k ≡ none) where
-    pub scan-refused-table : tableInRange s ≡ false → answerOf (Refused Table) ≡ scanAnswer vars k t w
-    unfolding answerOf refusalOf scanAnswer firstNo question11 ask
-    scan-refused-table e = rw (ok, e)
+    pub scan-refused-table : tableInRange s ≡ false → verdictAnswer (Refused Table) ≡ scanQuestions vars k t w
+    unfolding verdictAnswer refusalOf firstNo question11 ask
+    scan-refused-table e = rw (scan-first vars k t w, ok, e)
 
-    pub scan-refused-watchdog : tableInRange s ≡ true → leb w mostRungWatchdog ≡ false → answerOf (Refused Watchdog) ≡ scanAnswer vars k t w
-    unfolding answerOf refusalOf scanAnswer firstNo question11 question12 ask
-    scan-refused-watchdog e f = rw (ok, e, f)
+    pub scan-refused-watchdog : tableInRange s ≡ true → leb w mostRungWatchdog ≡ false → verdictAnswer (Refused Watchdog) ≡ scanQuestions vars k t w
+    unfolding verdictAnswer refusalOf firstNo question11 question12 ask
+    scan-refused-watchdog e f = rw (scan-first vars k t w, ok, e, f)
 
-    pub scan-accepted : tableInRange s ≡ true → leb w mostRungWatchdog ≡ true → answerOf Accepted ≡ scanAnswer vars k t w
-    unfolding answerOf scanAnswer firstNo question11 question12 ask
-    scan-accepted e f = rw (ok, e, f)
+    pub scan-accepted : tableInRange s ≡ true → leb w mostRungWatchdog ≡ true → verdictAnswer Accepted ≡ scanQuestions vars k t w
+    unfolding verdictAnswer firstNo question11 question12 ask
+    scan-accepted e f = rw (scan-first vars k t w, ok, e, f)
 
 -- the scan of three number slices that the questions took, as the scan of their row
-pub scan-done : (vars : ℕ) (ws ls os ns t : List ℕ) (w : ℕ) (r : LadderScanned) (u : List ℕ) → scanAnswer vars (record { words = ws; records = rowOf ls os ns }) t w ≡ none
-    → Scanned ws ls os t w r u → LadderScanDone (ladderScan vars (record { words = ws; records = rowOf ls os ns }) t w) r u
+pub scan-done : (vars : ℕ) (ws ls os ns t : List ℕ) (w : ℕ) (r : LadderScanned) (u : List ℕ) → scanQuestions vars (record { words = ws; records = rowOf ls os ns }) t w ≡ none
+    → Scanned ws ls os t w r u → LadderScanDone (callLadderScan vars (record { words = ws; records = rowOf ls os ns }) t w) r u
 scan-done vars ws ls os ns t w r u ok scanned =
     let k = keptOf ws ls os ns in
     let a = scan-taken vars k t w ok in

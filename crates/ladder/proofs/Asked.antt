@@ -15,12 +15,14 @@ use borrow.Author.Count.{below-more}
 use borrow.Author.Tests.{eq-eqb, ne-eqb, lt-ltb, le-ltb, le-leb, lt-leb}
 use Rattle.questions.specs.Tests.{all, firstFailed}
 use Rattle.questions.specs.Laws.Tests.{T→true, all-head, all-tail, all-cons, all-ends, failed-none}
-use Rattle.rungs.specs.Words.{operands, word, operandOf}
+use Rattle.rungs.specs.Words.{operands, word, numberOf, operandOf}
 use Rattle.rungs.specs.Records.{search, present}
-use Rattle.drawing.specs.Tree.{Input, contact, contactn, Front, input, frontAnd, frontOr, Output, coil, coiln, jump, jumpn, Rear, output, rearAnd, rearOr, Rung, Ladder, frontAll, rearAll, rungAll}
-use Rattle.drawing.specs.Kept.{inputWord, outputWord, frontWords, rearWords, rungWords, encode, inputFits, outputFits}
-use Rattle.drawing.specs.Questions.{mostRungs, mostWords, sizesInRange, inputBelow, outputBelow, newLabels, outputLeads}
-use Rattle.ladder.specs.Asking.{LadderIn, placeOf, RungEnd, lengthInRange, namesVariable, namesLabel, operandBelow, operandLeads, wordBelow, wordStays, wordLeads, SizesAsked, RiseAsked, LabelsAsked}
+use Rattle.drawing.specs.Tree.{Input, contact, contactn, Front, input, frontAnd, frontOr, Output, coil, coiln, jump, jumpn, Rear, output, rearAnd, rearOr, Rung, Ladder, inputVariable, outputNames, number, frontAll, rearAll, rungAll}
+use Rattle.drawing.specs.Kept.{inputKind, outputKind, noName, nameSorts, nameSort, inputWord, outputWord, frontWords, rearWords, rungWords, encode, inputFits, outputFits}
+use Rattle.drawing.specs.Questions.{mostRungs, mostWords, sizesInRange, inputBelow, namedBelow, outputBelow, newLabels, namedLeads, outputLeads}
+use Rattle.kinds.specs.Kinds.{namesVariable, namesLabel}
+use Rattle.ladder.specs.Asking.{LadderIn, placeOf, RungEnd, lengthInRange, operandBelow, operandLeads, wordBelow, wordStays, wordLeads, SizesAsked, RiseAsked, LabelsAsked}
+use Rattle.ladder.specs.Walking.{frontKind, rearKind}
 use Rattle.ladder.specs.declared.Found.{Found}
 use Rattle.ladder.specs.declared.Found.the-variants.{At, Nothing}
 
@@ -102,31 +104,28 @@ all-map test f (x ∷ xs) = rw (all-map test f xs)
 pub record Tests (test : ℕ → Bool) (inputs : Input → Bool) (outputs : Output → Bool) : Type 0 where
   pub of-input : (i : Input) → T (inputFits i) → test (inputWord i) ≡ inputs i
   pub of-output : (o : Output) → T (outputFits o) → test (outputWord o) ≡ outputs o
-  pub front-and : test (word 3 0) ≡ true
-  pub front-or : test (word 4 0) ≡ true
-  pub rear-and : test (word 9 0) ≡ true
-  pub rear-or : test (word 10 0) ≡ true
+  pub of-root : (k : ℕ) → nameSort k ≡ noName → test (word k 0) ≡ true
 
 module _ {test : ℕ → Bool} {inputs : Input → Bool} {outputs : Output → Bool} (t : Tests test inputs outputs) where
   front-tested : (f : Front) → T (frontAll inputFits f) → all test (frontWords f) ≡ frontAll inputs f
-  unfolding frontWords frontAll all
+  unfolding frontWords frontAll all nameSort nameSorts
   front-tested (input i) h = rw (t .of-input i h) (and-true (inputs i))
   front-tested (frontAnd f g) h =
       let b = and-yes (frontAll inputFits f) (frontAll inputFits g) h in
-      rw (t .front-and, all-both test (frontWords f) (frontWords g), front-tested f (b .0), front-tested g (b .1))
+      rw (t .of-root (frontKind (frontAnd f g)) refl, all-both test (frontWords f) (frontWords g), front-tested f (b .0), front-tested g (b .1))
   front-tested (frontOr f g) h =
       let b = and-yes (frontAll inputFits f) (frontAll inputFits g) h in
-      rw (t .front-or, all-both test (frontWords f) (frontWords g), front-tested f (b .0), front-tested g (b .1))
+      rw (t .of-root (frontKind (frontOr f g)) refl, all-both test (frontWords f) (frontWords g), front-tested f (b .0), front-tested g (b .1))
 
   rear-tested : (r : Rear) → T (rearAll inputFits outputFits r) → all test (rearWords r) ≡ rearAll inputs outputs r
-  unfolding rearWords rearAll all
+  unfolding rearWords rearAll all nameSort nameSorts
   rear-tested (output o) h = rw (t .of-output o h) (and-true (outputs o))
   rear-tested (rearAnd f r) h =
       let b = and-yes (frontAll inputFits f) (rearAll inputFits outputFits r) h in
-      rw (t .rear-and, all-both test (frontWords f) (rearWords r), front-tested f (b .0), rear-tested r (b .1))
+      rw (t .of-root (rearKind (rearAnd f r)) refl, all-both test (frontWords f) (rearWords r), front-tested f (b .0), rear-tested r (b .1))
   rear-tested (rearOr p q) h =
       let b = and-yes (rearAll inputFits outputFits p) (rearAll inputFits outputFits q) h in
-      rw (t .rear-or, all-both test (rearWords p) (rearWords q), rear-tested p (b .0), rear-tested q (b .1))
+      rw (t .of-root (rearKind (rearOr p q)) refl, all-both test (rearWords p) (rearWords q), rear-tested p (b .0), rear-tested q (b .1))
 
   rung-tested : (g : Rung) → T (rungAll inputFits outputFits g) → all test (rungWords g) ≡ rungAll inputs outputs g
   unfolding rungWords rungAll
@@ -156,47 +155,51 @@ kept test k o h =
     let q : word k o % operands ≡ o = omega arith in
     rw (p, q)
 
-pub below-tests : (vars : ℕ) → Tests (wordBelow vars) (inputBelow vars) (outputBelow vars)
-unfolding operandBelow inputFits outputFits inputWord outputWord inputBelow outputBelow
-below-tests vars = record {
-  of-input = inputs;
-  of-output = outputs;
-  front-and = refl;
-  front-or = refl;
-  rear-and = refl;
-  rear-or = refl;
+-- such a test by kind and operand; a root names nothing
+tests-of : (test : ℕ → ℕ → Bool) (inputs : Input → Bool) (outputs : Output → Bool)
+    → ((i : Input) → test (inputKind i) (inputVariable i) ≡ inputs i) → ((o : Output) → test (outputKind o) (number (outputNames o)) ≡ outputs o)
+    → ((k : ℕ) → nameSort k ≡ noName → test k 0 ≡ true)
+    → Tests (λ w. test (numberOf w) (operandOf w)) inputs outputs
+unfolding inputFits outputFits inputWord outputWord
+tests-of test inputs outputs of-input of-output of-root = record {
+  of-input = λ i h. kept test (inputKind i) (inputVariable i) h ∙ of-input i;
+  of-output = λ o h. kept test (outputKind o) (number (outputNames o)) h ∙ of-output o;
+  of-root = λ k e. kept test k 0 tt ∙ of-root k e;
 }
-  where
-    inputs : (i : Input) → T (inputFits i) → wordBelow vars (inputWord i) ≡ inputBelow vars i
-    inputs (contact v) h = kept (operandBelow vars) 1 v h
-    inputs (contactn v) h = kept (operandBelow vars) 2 v h
 
-    outputs : (o : Output) → T (outputFits o) → wordBelow vars (outputWord o) ≡ outputBelow vars o
-    outputs (coil v) h = kept (operandBelow vars) 5 v h
-    outputs (coiln v) h = kept (operandBelow vars) 6 v h
-    outputs (jump l) h = kept (operandBelow vars) 7 l h
-    outputs (jumpn l) h = kept (operandBelow vars) 8 l h
+pub below-tests : (vars : ℕ) → Tests (wordBelow vars) (inputBelow vars) (outputBelow vars)
+unfolding operandBelow namesVariable nameSort nameSorts inputKind inputVariable inputBelow outputKind outputNames number outputBelow namedBelow
+below-tests vars = tests-of (operandBelow vars) (inputBelow vars) (outputBelow vars) inputs outputs roots
+  where
+    roots : (k : ℕ) → nameSort k ≡ noName → operandBelow vars k 0 ≡ true
+    roots k e = rw (e, namesVariable)
+
+    inputs : (i : Input) → operandBelow vars (inputKind i) (inputVariable i) ≡ inputBelow vars i
+    inputs (contact v) = refl
+    inputs (contactn v) = refl
+
+    outputs : (o : Output) → operandBelow vars (outputKind o) (number (outputNames o)) ≡ outputBelow vars o
+    outputs (coil v) = refl
+    outputs (coiln v) = refl
+    outputs (jump l) = refl
+    outputs (jumpn l) = refl
 
 pub leads-tests : (ls : List ℕ) → Tests (wordLeads ls) (λ i. true) (outputLeads ls)
-unfolding operandLeads inputFits outputFits inputWord outputWord outputLeads
-leads-tests ls = record {
-  of-input = inputs;
-  of-output = outputs;
-  front-and = refl;
-  front-or = refl;
-  rear-and = refl;
-  rear-or = refl;
-}
+unfolding operandLeads namesLabel nameSort nameSorts inputKind outputKind outputNames number outputLeads namedLeads
+leads-tests ls = tests-of (operandLeads ls) (λ i. true) (outputLeads ls) inputs outputs roots
   where
-    inputs : (i : Input) → T (inputFits i) → wordLeads ls (inputWord i) ≡ true
-    inputs (contact v) h = kept (operandLeads ls) 1 v h
-    inputs (contactn v) h = kept (operandLeads ls) 2 v h
+    roots : (k : ℕ) → nameSort k ≡ noName → operandLeads ls k 0 ≡ true
+    roots k e = rw (e, namesLabel)
 
-    outputs : (o : Output) → T (outputFits o) → wordLeads ls (outputWord o) ≡ outputLeads ls o
-    outputs (coil v) h = kept (operandLeads ls) 5 v h
-    outputs (coiln v) h = kept (operandLeads ls) 6 v h
-    outputs (jump l) h = kept (operandLeads ls) 7 l h
-    outputs (jumpn l) h = kept (operandLeads ls) 8 l h
+    inputs : (i : Input) → operandLeads ls (inputKind i) (inputVariable i) ≡ true
+    inputs (contact v) = refl
+    inputs (contactn v) = refl
+
+    outputs : (o : Output) → operandLeads ls (outputKind o) (number (outputNames o)) ≡ outputLeads ls o
+    outputs (coil v) = refl
+    outputs (coiln v) = refl
+    outputs (jump l) = refl
+    outputs (jumpn l) = refl
 
 -- what the code asks of a kind and an operand
 pub below-operand : (vars k o : ℕ) (r : Bool) → r ≡ namesVariable k → (not r || ltb o vars) ≡ operandBelow vars k o

@@ -2,216 +2,164 @@
 use Prim.Native.Nat.{ℕ, zero, suc, _+_, _-_, _≤_, _<_}
 use native.Mathlib.Numerals.{add-one}
 use native.Mathlib.Omega.{arith}
-use native.Mathlib.Decide.{ℕ-discrete}
-use mathlib.Core.Path.{_≡_, refl, sym, _∙_}
-use mathlib.Core.Bool.{Bool, true, false, _&&_}
+use mathlib.Core.Path.{_≡_, refl, sym, ap, _∙_}
+use mathlib.Core.Bool.{Bool, true, false, true≢false, _&&_}
 use mathlib.Core.List.{List, [], _∷_}
 use lib.Dec.{eqb, leb}
-use lib.ListN.{length, drop, getD, List·getD-eq-default}
+use lib.ListN.{length, drop, getD}
 use lib.Seq.{slice, slice-empty, slice-cons}
 use borrow.Author.Tests.{eq-eqb, ne-eqb, le-leb, lt-leb}
 use Rattle.rungs.specs.Words.{numberOf, operandOf}
 use Rattle.rungs.specs.Records.{RungRecord, rowOf}
 use Rattle.rungs.specs.Laws.Rows.{Even, row-length, row-at, row-uneven-first, row-uneven-second}
-use Rattle.drawing.specs.Kept.{decodeFrom, decode}
+use Rattle.drawing.specs.Kept.{KindSort, contactSort, joinedSort, outputSort, rearAndSort, rearOrSort, noSort, kindSort, decodeFrom, decode}
 use Rattle.drawing.specs.Questions.{ladderOf, holdsLadder}
-use Rattle.ladder.specs.Owing.{broken, owing, takeFront, splitFront, takeRear, frontRear, splitRear, noTurn, turns, turn, owes, debtOf, Turned, holdsFrom}
-use Rattle.ladder.specs.Laws.Owing.{holds-counted, holds-next, holds-last}
-use Rattle.ladder.specs.declared.holds.Owed.{Owed}
+use Rattle.ladder.specs.Pending.{misplaced, pending, takeFront, splitFront, takeRear, frontRear, splitRear, pendingAfter, completes, pendingIn, WordTaken, holdsFrom}
+use Rattle.ladder.specs.Laws.Trees.{startsFront, startsRear}
+use Rattle.ladder.specs.Laws.Pending.{holds-counted, holds-next, holds-last}
+use Rattle.ladder.specs.declared.holds.PendingParts.{PendingParts}
 
--- ---- a word, by what its kind asks
+-- ---- a word, by the sort of its kind
 
-abbrev outOfPlace : Owed
-outOfPlace = record { fronts = 0; rears = 0; broken = true }
+abbrev outOfPlace : PendingParts
+outOfPlace = record { fronts = 0; rears = 0; misplaced = true }
 
-abbrev still : ℕ → ℕ → Owed
-still f r = record { fronts = f; rears = r; broken = false }
+abbrev still : ℕ → ℕ → PendingParts
+still f r = record { fronts = f; rears = r; misplaced = false }
 
-turned-broken : (k o f r : ℕ) → turn k o f r ≡ broken → Turned k o f r outOfPlace
-unfolding debtOf
-turned-broken k o f r e = record { same = sym e; fronts = omega arith; rears = omega arith }
+module _ (k o f r : ℕ) where
+  taken-misplaced : pendingAfter (kindSort k) o f r ≡ misplaced → WordTaken k o f r outOfPlace
+  unfolding pendingIn
+  taken-misplaced e = record { same = sym e; fronts = omega arith; rears = omega arith }
 
--- kinds from 5 on where a front is owed
-rear-kinds : (k o f r : ℕ) → turn (suc (suc (suc (suc (suc k))))) o (suc f) r ≡ broken
-unfolding turns takeRear frontRear splitRear
-rear-kinds zero o f r = refl
-rear-kinds (suc zero) o f r = refl
-rear-kinds (suc (suc zero)) o f r = refl
-rear-kinds (suc (suc (suc zero))) o f r = refl
-rear-kinds (suc (suc (suc (suc zero)))) zero f r = refl
-rear-kinds (suc (suc (suc (suc zero)))) (suc o) f r = refl
-rear-kinds (suc (suc (suc (suc (suc zero))))) zero f r = refl
-rear-kinds (suc (suc (suc (suc (suc zero))))) (suc o) f r = refl
-rear-kinds (suc (suc (suc (suc (suc (suc k)))))) o f r = refl
+  pub front-taken : kindSort k ≡ contactSort → 0 < f → WordTaken k o f r (still (f - 1) r)
+  unfolding pendingIn pendingAfter takeFront
+  front-taken e h = let n : f ≡ suc (f - 1) = omega arith in record { same = rw e (sym (ap (λ n. takeFront n r) n)); fronts = omega arith; rears = omega arith }
 
-pub no-kind : (k o f r : ℕ) → k < 1 → Turned k o f r outOfPlace
-unfolding turns
-no-kind k o f r h = let e : k ≡ 0 = omega arith in turned-broken k o f r (rw e)
+  -- a root whose operand is not 0
+  pub front-operand : kindSort k ≡ joinedSort → (o ≡ 0 → ⊥) → WordTaken k o f r outOfPlace
+  unfolding pendingAfter splitFront
+  front-operand e n = let p : o ≡ suc (o - 1) = omega arith in taken-misplaced (rw e (ap (λ o. splitFront o f r) p))
+
+  pub front-split : kindSort k ≡ joinedSort → o ≡ 0 → 0 < f → WordTaken k o f r (still (f + 1) r)
+  unfolding pendingIn pendingAfter splitFront
+  front-split e z h =
+      let n : f ≡ suc (f - 1) = omega arith in
+      let m : f + 1 ≡ suc (suc (f - 1)) = omega arith in
+      record { same = rw (e, z, m) (sym (ap (λ n. splitFront 0 n r) n)); fronts = omega arith; rears = omega arith }
+
+  -- a word where a front is pending and none begins with it
+  pub front-past : startsFront (kindSort k) ≡ false → 0 < f → WordTaken k o f r outOfPlace
+  unfolding pendingAfter takeRear frontRear splitRear
+  front-past n h = let m : f ≡ suc (f - 1) = omega arith in taken-misplaced (rw m (none (kindSort k) n o))
+    where
+      none : (s : KindSort) → startsFront s ≡ false → (o : ℕ) → pendingAfter s o (suc (f - 1)) r ≡ misplaced
+      none contactSort q o = absurd (true≢false q)
+      none joinedSort q o = absurd (true≢false q)
+      none outputSort q o = refl
+      none rearAndSort q zero = refl
+      none rearAndSort q (suc o) = refl
+      none rearOrSort q zero = refl
+      none rearOrSort q (suc o) = refl
+      none noSort q o = refl
 
 module _ (k o r : ℕ) where
-  -- where a front is owed
-  takes-front : (f : ℕ) → 1 ≤ k → k ≤ 2 → turn k o (suc f) r ≡ owing f r
-  unfolding turns takeFront
-  takes-front f lo hi = go (ℕ-discrete k 1)
+  pub rear-taken : kindSort k ≡ outputSort → 0 < r → WordTaken k o 0 r (still 0 (r - 1))
+  unfolding pendingIn pendingAfter takeRear
+  rear-taken e h = let n : r ≡ suc (r - 1) = omega arith in record { same = rw e (sym (ap (λ n. takeRear 0 n) n)); fronts = omega arith; rears = omega arith }
+
+  pub rear-and-operand : kindSort k ≡ rearAndSort → (o ≡ 0 → ⊥) → WordTaken k o 0 r outOfPlace
+  unfolding pendingAfter frontRear
+  rear-and-operand e n = let p : o ≡ suc (o - 1) = omega arith in taken-misplaced k o 0 r (rw e (ap (λ o. frontRear o 0 r) p))
+
+  pub rear-front : kindSort k ≡ rearAndSort → o ≡ 0 → 0 < r → WordTaken k o 0 r (still 1 r)
+  unfolding pendingIn pendingAfter frontRear
+  rear-front e z h =
+      let n : r ≡ suc (r - 1) = omega arith in
+      record { same = rw (e, z) (sym (ap (λ n. frontRear 0 0 n) n ∙ ap (λ n. pending 1 n) (sym n))); fronts = omega arith; rears = omega arith }
+
+  pub rear-or-operand : kindSort k ≡ rearOrSort → (o ≡ 0 → ⊥) → WordTaken k o 0 r outOfPlace
+  unfolding pendingAfter splitRear
+  rear-or-operand e n = let p : o ≡ suc (o - 1) = omega arith in taken-misplaced k o 0 r (rw e (ap (λ o. splitRear o 0 r) p))
+
+  pub rear-split : kindSort k ≡ rearOrSort → o ≡ 0 → 0 < r → WordTaken k o 0 r (still 0 (r + 1))
+  unfolding pendingIn pendingAfter splitRear
+  rear-split e z h =
+      let n : r ≡ suc (r - 1) = omega arith in
+      let m : r + 1 ≡ suc (suc (r - 1)) = omega arith in
+      record { same = rw (e, z, m) (sym (ap (λ n. splitRear 0 0 n) n)); fronts = omega arith; rears = omega arith }
+
+  -- a word where a rear is pending and none begins with it
+  pub rear-past : startsRear (kindSort k) ≡ false → WordTaken k o 0 r outOfPlace
+  unfolding pendingAfter takeFront splitFront
+  rear-past n = taken-misplaced k o 0 r (none (kindSort k) n o)
     where
-      go : Dec (k ≡ 1) → turn k o (suc f) r ≡ owing f r
-      go (yes e) = rw e
-      go (no n) = let e : k ≡ 2 = omega arith in rw e
+      none : (s : KindSort) → startsRear s ≡ false → (o : ℕ) → pendingAfter s o 0 r ≡ misplaced
+      none contactSort q o = refl
+      none joinedSort q zero = refl
+      none joinedSort q (suc o) = refl
+      none outputSort q o = absurd (true≢false q)
+      none rearAndSort q o = absurd (true≢false q)
+      none rearOrSort q o = absurd (true≢false q)
+      none noSort q o = refl
 
-  pub front-taken : (f : ℕ) → 1 ≤ k → k ≤ 2 → 0 < f → Turned k o f r (still (f - 1) r)
-  unfolding debtOf
-  front-taken zero lo hi h = absurd (omega arith)
-  front-taken (suc f) lo hi h =
-      let e : suc f - 1 ≡ f = omega arith in
-      record { same = rw e (sym (takes-front f lo hi)); fronts = omega arith; rears = omega arith }
+-- a word where no front, and where nothing is pending
+nothing-follows : (s : KindSort) (o : ℕ) → pendingAfter s o 0 0 ≡ misplaced
+unfolding pendingAfter takeFront splitFront takeRear frontRear splitRear
+nothing-follows contactSort o = refl
+nothing-follows joinedSort zero = refl
+nothing-follows joinedSort (suc o) = refl
+nothing-follows outputSort o = refl
+nothing-follows rearAndSort zero = refl
+nothing-follows rearAndSort (suc o) = refl
+nothing-follows rearOrSort zero = refl
+nothing-follows rearOrSort (suc o) = refl
+nothing-follows noSort o = refl
 
-  pub front-past : (f : ℕ) → 4 < k → 0 < f → Turned k o f r outOfPlace
-  front-past zero hi h = absurd (omega arith)
-  front-past (suc f) hi h =
-      let e : k ≡ suc (suc (suc (suc (suc (k - 5))))) = omega arith in
-      turned-broken k o (suc f) r (rw e (rear-kinds (k - 5) o f r))
+pub no-front-pending : (k o f r : ℕ) (s : PendingParts) → f ≤ 0 → WordTaken k o 0 r s → WordTaken k o f r s
+no-front-pending k o f r s h t = let e : f ≡ 0 = omega arith in rw e t
 
-  -- a front in two parts, and what it asks of the operand
-  splits : (f : ℕ) → 2 < k → k ≤ 4 → turn k o f r ≡ splitFront o f r
-  unfolding turns
-  splits f lo hi = go (ℕ-discrete k 3)
-    where
-      go : Dec (k ≡ 3) → turn k o f r ≡ splitFront o f r
-      go (yes e) = rw e
-      go (no n) = let e : k ≡ 4 = omega arith in rw e
-
-  pub front-operand : (f : ℕ) → 2 < k → k ≤ 4 → (o ≡ 0 → ⊥) → Turned k o f r outOfPlace
-  unfolding splitFront
-  front-operand f lo hi n = let e : o ≡ suc (o - 1) = omega arith in turned-broken k o f r (splits f lo hi ∙ rw e)
-
-  pub front-split : (f : ℕ) → 2 < k → k ≤ 4 → o ≡ 0 → 0 < f → Turned k o f r (still (f + 1) r)
-  unfolding debtOf splitFront
-  front-split zero lo hi z h = absurd (omega arith)
-  front-split (suc f) lo hi z h = record { same = sym (splits (suc f) lo hi ∙ rw z (rw add-one)); fronts = omega arith; rears = omega arith }
-
-  -- where no front is owed, and a rear is
-  pub rear-low : k < 5 → Turned k o 0 r outOfPlace
-  unfolding turns takeFront splitFront
-  rear-low hi = turned-broken k o 0 r (front-kinds k o hi)
-    where
-      front-kinds : (k o : ℕ) → k < 5 → turn k o 0 r ≡ broken
-      front-kinds zero o hi = refl
-      front-kinds (suc zero) o hi = refl
-      front-kinds (suc (suc zero)) o hi = refl
-      front-kinds (suc (suc (suc zero))) zero hi = refl
-      front-kinds (suc (suc (suc zero))) (suc o) hi = refl
-      front-kinds (suc (suc (suc (suc zero)))) zero hi = refl
-      front-kinds (suc (suc (suc (suc zero)))) (suc o) hi = refl
-      front-kinds (suc (suc (suc (suc (suc k))))) o hi = absurd (omega arith)
-
-module _ (k o : ℕ) where
-  takes-rear : (r : ℕ) → 5 ≤ k → k ≤ 8 → turn k o 0 (suc r) ≡ owing 0 r
-  unfolding turns takeRear
-  takes-rear r lo hi = go (ℕ-discrete k 5) (ℕ-discrete k 6) (ℕ-discrete k 7)
-    where
-      go : Dec (k ≡ 5) → Dec (k ≡ 6) → Dec (k ≡ 7) → turn k o 0 (suc r) ≡ owing 0 r
-      go (yes e) b c = rw e
-      go (no m) (yes e) c = rw e
-      go (no m) (no n) (yes e) = rw e
-      go (no m) (no n) (no p) = let e : k ≡ 8 = omega arith in rw e
-
-  pub rear-taken : (r : ℕ) → 5 ≤ k → k ≤ 8 → 0 < r → Turned k o 0 r (still 0 (r - 1))
-  unfolding debtOf
-  rear-taken zero lo hi h = absurd (omega arith)
-  rear-taken (suc r) lo hi h =
-      let e : suc r - 1 ≡ r = omega arith in
-      record { same = rw e (sym (takes-rear r lo hi)); fronts = omega arith; rears = omega arith }
-
-  past-kinds : (f r : ℕ) → 10 < k → turn k o f r ≡ broken
-  unfolding turns
-  past-kinds f r h = rw (List·getD-eq-default turns noTurn {n = k} (omega arith))
-
-  pub rear-operand : (r : ℕ) → 8 < k → (o ≡ 0 → ⊥) → Turned k o 0 r outOfPlace
-  unfolding turns frontRear splitRear
-  rear-operand r lo n = let e : o ≡ suc (o - 1) = omega arith in turned-broken k o 0 r (go e (ℕ-discrete k 9) (ℕ-discrete k 10))
-    where
-      go : o ≡ suc (o - 1) → Dec (k ≡ 9) → Dec (k ≡ 10) → turn k o 0 r ≡ broken
-      go e (yes p) q = rw p (rw e)
-      go e (no p) (yes q) = rw q (rw e)
-      go e (no p) (no q) = past-kinds 0 r (omega arith)
-
-  pub rear-front : (r : ℕ) → k ≡ 9 → o ≡ 0 → 0 < r → Turned k o 0 r (still 1 r)
-  unfolding turns frontRear debtOf
-  rear-front zero e z h = absurd (omega arith)
-  rear-front (suc r) e z h = record { same = rw (e, z); fronts = omega arith; rears = omega arith }
-
-  pub rear-past : (r : ℕ) → 8 < k → (k ≡ 9 → ⊥) → (k ≡ 10 → ⊥) → Turned k o 0 r outOfPlace
-  rear-past r lo n m = turned-broken k o 0 r (past-kinds 0 r (omega arith))
-
-  pub rear-split : (r : ℕ) → k ≡ 10 → o ≡ 0 → 0 < r → Turned k o 0 r (still 0 (r + 1))
-  unfolding turns splitRear debtOf
-  rear-split zero e z h = absurd (omega arith)
-  rear-split (suc r) e z h = record { same = rw (e, z, add-one); fronts = omega arith; rears = omega arith }
-
--- a word where no front, and where nothing is owed
-no-turn : (k o : ℕ) → turn k o 0 0 ≡ broken
-unfolding turns takeFront splitFront takeRear frontRear splitRear
-no-turn zero o = refl
-no-turn (suc zero) o = refl
-no-turn (suc (suc zero)) o = refl
-no-turn (suc (suc (suc zero))) zero = refl
-no-turn (suc (suc (suc zero))) (suc o) = refl
-no-turn (suc (suc (suc (suc zero)))) zero = refl
-no-turn (suc (suc (suc (suc zero)))) (suc o) = refl
-no-turn (suc (suc (suc (suc (suc zero))))) o = refl
-no-turn (suc (suc (suc (suc (suc (suc zero)))))) o = refl
-no-turn (suc (suc (suc (suc (suc (suc (suc zero))))))) o = refl
-no-turn (suc (suc (suc (suc (suc (suc (suc (suc zero)))))))) o = refl
-no-turn (suc (suc (suc (suc (suc (suc (suc (suc (suc zero))))))))) zero = refl
-no-turn (suc (suc (suc (suc (suc (suc (suc (suc (suc zero))))))))) (suc o) = refl
-no-turn (suc (suc (suc (suc (suc (suc (suc (suc (suc (suc zero)))))))))) zero = refl
-no-turn (suc (suc (suc (suc (suc (suc (suc (suc (suc (suc zero)))))))))) (suc o) = refl
-no-turn (suc (suc (suc (suc (suc (suc (suc (suc (suc (suc (suc k))))))))))) o = refl
-
-pub no-front-owed : (k o f r : ℕ) (s : Owed) → f ≤ 0 → Turned k o 0 r s → Turned k o f r s
-no-front-owed k o f r s h t = let e : f ≡ 0 = omega arith in rw e t
-
-pub nothing-owed : (k o f r : ℕ) → f ≤ 0 → r ≤ 0 → Turned k o f r outOfPlace
-nothing-owed k o f r h g =
+pub nothing-pending : (k o f r : ℕ) → f ≤ 0 → r ≤ 0 → WordTaken k o f r outOfPlace
+nothing-pending k o f r h g =
     let e : f ≡ 0 = omega arith in
     let q : r ≡ 0 = omega arith in
-    rw (e, q) (turned-broken k o 0 0 (no-turn k o))
+    rw (e, q) (taken-misplaced k o 0 0 (nothing-follows (kindSort k) o))
 
 -- ---- a rung's words, one after the other
 
--- the loop's invariant: the words from i on are what is still owed just when the rung's are a front and a rear
+-- the loop's invariant: the words from i on are the parts that are still pending just when the rung's are a front and a rear
 pub record Counting (ws : List ℕ) (from to f r i : ℕ) : Type 0 where
-  pub same : owes f r (slice i to ws) ≡ owes 1 1 (slice from to ws)
+  pub same : completes f r (slice i to ws) ≡ completes 1 1 (slice from to ws)
   pub within : i ≤ to
   pub fronts : f ≤ i + 1
   pub rears : r ≤ i + 1
 
 module _ (ws : List ℕ) (from to f r i : ℕ) (inv : Counting ws from to f r i) where
-  module _ (h : i < to) (long : to ≤ length ws) (s : Owed) (t : Turned (numberOf (getD ws i 0)) (operandOf (getD ws i 0)) f r s) where
-    pub word-broken : s .broken ≡ true → false ≡ owes 1 1 (slice from to ws)
-    unfolding owes debtOf
-    word-broken b =
-        let e : turn (numberOf (getD ws i 0)) (operandOf (getD ws i 0)) f r ≡ broken = sym (t .same) ∙ rw (b, debtOf) in
-        let q : owes f r (slice i to ws) ≡ false = rw (slice-cons i to ws 0 h long) (rw (e, owes)) in
+  module _ (h : i < to) (long : to ≤ length ws) (s : PendingParts) (t : WordTaken (numberOf (getD ws i 0)) (operandOf (getD ws i 0)) f r s) where
+    pub word-misplaced : s .misplaced ≡ true → false ≡ completes 1 1 (slice from to ws)
+    unfolding completes pendingIn
+    word-misplaced b =
+        let e : pendingAfter (kindSort (numberOf (getD ws i 0))) (operandOf (getD ws i 0)) f r ≡ misplaced = sym (t .same) ∙ rw (b, pendingIn) in
+        let q : completes f r (slice i to ws) ≡ false = rw (slice-cons i to ws 0 h long) (rw (e, completes)) in
         sym q ∙ inv .same
 
-    pub word-counted : s .broken ≡ false → Counting ws from to (s .fronts) (s .rears) (i + 1)
-    unfolding owes debtOf
+    pub word-counted : s .misplaced ≡ false → Counting ws from to (s .fronts) (s .rears) (i + 1)
+    unfolding completes pendingIn
     word-counted b =
-        let e : turn (numberOf (getD ws i 0)) (operandOf (getD ws i 0)) f r ≡ owing (s .fronts) (s .rears) = sym (t .same) ∙ rw (b, debtOf) in
-        let q : owes f r (slice i to ws) ≡ owes (s .fronts) (s .rears) (slice (suc i) to ws) = rw (slice-cons i to ws 0 h long) (rw (e, owes)) in
+        let e : pendingAfter (kindSort (numberOf (getD ws i 0))) (operandOf (getD ws i 0)) f r ≡ pending (s .fronts) (s .rears) = sym (t .same) ∙ rw (b, pendingIn) in
+        let q : completes f r (slice i to ws) ≡ completes (s .fronts) (s .rears) (slice (suc i) to ws) = rw (slice-cons i to ws 0 h long) (rw (e, completes)) in
         let a = t .fronts in let d = t .rears in let g = inv .fronts in let j = inv .rears in
         record { same = rw add-one (sym q ∙ inv .same); within = omega arith; fronts = omega arith; rears = omega arith }
 
   module _ (h : to ≤ i) where
-    ended : owes 1 1 (slice from to ws) ≡ (eqb f 0 && eqb r 0)
-    unfolding owes
+    ended : completes 1 1 (slice from to ws) ≡ (eqb f 0 && eqb r 0)
+    unfolding completes
     ended = let w = inv .within in let e : i ≡ to = omega arith in sym (inv .same) ∙ rw (e, slice-empty to ws)
 
-    pub fronts-left : (f ≡ 0 → ⊥) → false ≡ owes 1 1 (slice from to ws)
+    pub fronts-left : (f ≡ 0 → ⊥) → false ≡ completes 1 1 (slice from to ws)
     fronts-left n = sym (ended ∙ rw (ne-eqb f 0 n))
 
-    pub rears-tell : f ≡ 0 → eqb r 0 ≡ owes 1 1 (slice from to ws)
+    pub rears-tell : f ≡ 0 → eqb r 0 ≡ completes 1 1 (slice from to ws)
     rears-tell z = sym (ended ∙ rw (eq-eqb f 0 z))
 
 -- ---- records, one after the other
@@ -264,7 +212,7 @@ module _ (ws ls os ns : List ℕ) (p : length ls ≡ length os) (q : length os �
       size = getD ns i 0
 
       heads : holdsFrom start (drop i row) (drop start ws)
-          ≡ ((eqb (getD os i 0) start && leb size (length ws - start)) && (owes 1 1 (slice start (start + size) ws) && holdsFrom (start + size) (drop (i + 1) row) (drop (start + size) ws)))
+          ≡ ((eqb (getD os i 0) start && leb size (length ws - start)) && (completes 1 1 (slice start (start + size) ws) && holdsFrom (start + size) (drop (i + 1) row) (drop (start + size) ws)))
       heads = rw add-one (holds-next ws row start i (inv .within) (record { label = getD ls i 0; offset = getD os i 0; length = size }) (row-at ls os ns even i h))
 
       pub record-off : (getD os i 0 ≡ start → ⊥) → false ≡ asked ws ls os ns
@@ -275,10 +223,10 @@ module _ (ws ls os ns : List ℕ) (p : length ls ≡ length os) (q : length os �
         record-long l = sym (sym whole ∙ heads ∙ rw (eq-eqb _ _ e, lt-leb size (length ws - start) l))
 
         module _ (l : size ≤ length ws - start) where
-          pub rung-wrong : owes 1 1 (slice start (start + size) ws) ≡ false → false ≡ asked ws ls os ns
+          pub rung-wrong : completes 1 1 (slice start (start + size) ws) ≡ false → false ≡ asked ws ls os ns
           rung-wrong b = sym (sym whole ∙ heads ∙ rw (eq-eqb _ _ e, le-leb size (length ws - start) l, b))
 
-          pub rung-right : owes 1 1 (slice start (start + size) ws) ≡ true → Walking ws row (start + size) (i + 1)
+          pub rung-right : completes 1 1 (slice start (start + size) ws) ≡ true → Walking ws row (start + size) (i + 1)
           rung-right b =
               let w = inv .within in
               record { same = sym (rw (eq-eqb _ _ e, le-leb size (length ws - start) l, b) at heads) ∙ inv .same; within = omega arith }

@@ -1,35 +1,18 @@
 -- Laws of the way from a front's first word to its first contact and back. Assumes nothing.
 use Prim.Native.Nat.{ℕ, _+_, _-_, _≤_, _<_}
 use native.Mathlib.Omega.{arith}
-use mathlib.Core.Path.{_≡_, refl, sym, ap, subst}
-use mathlib.Core.Bool.{Bool, true, false, not, _&&_, true≢false}
+use mathlib.Core.Path.{_≡_, refl, sym, subst}
+use mathlib.Core.Bool.{Bool, true, false}
 use mathlib.Core.List.{List}
 use lib.Dec.{eqb}
 use lib.ListN.{length, getD, List·getD-eq-default}
 use borrow.Author.Tests.{eqb-true, eqb-false}
 use Rattle.rungs.specs.Words.{numberOf}
-use Rattle.ladder.specs.Walking.{FrontWorked, Root, ContactWorked, RootsPassed, joinedBy}
+use Rattle.drawing.specs.Kept.{joinedSort, kindSorts, kindSort}
+use Rattle.ladder.specs.Walking.{FrontWorked, Root, ContactWorked, RootsPassed, PartsJoined}
 use Rattle.ladder.specs.declared.walk.Worked.{Worked}
-use Rattle.ladder.specs.Laws.Trees.{inside}
+use Rattle.ladder.specs.Laws.Trees.{inside-sort}
 use Rattle.ladder.proofs.Walks.{worked-joined}
-
--- ---- what the code asks of a kind
-
-pub no-root : (n : ℕ) → (not (eqb n 3) && not (eqb n 4)) ≡ true → (3 ≤ n) × (n ≤ 4) → ⊥
-no-root n e h = go (eqb n 3) (eqb n 4) refl refl e
-  where
-    go : (x y : Bool) → eqb n 3 ≡ x → eqb n 4 ≡ y → (not x && not y) ≡ true → ⊥
-    go true y p q z = true≢false (sym z)
-    go false true p q z = true≢false (sym z)
-    go false false p q z = omega (arith, h .0, h .1, eqb-false n 3 p, eqb-false n 4 q)
-
-pub some-root : (n : ℕ) → (not (eqb n 3) && not (eqb n 4)) ≡ false → (3 ≤ n) × (n ≤ 4)
-some-root n e = go (eqb n 3) (eqb n 4) refl refl e
-  where
-    go : (x y : Bool) → eqb n 3 ≡ x → eqb n 4 ≡ y → (not x && not y) ≡ false → (3 ≤ n) × (n ≤ 4)
-    go true y p q z = (omega (arith, eqb-true n 3 p), omega (arith, eqb-true n 3 p))
-    go false true p q z = (omega (arith, eqb-true n 4 q), omega (arith, eqb-true n 4 q))
-    go false false p q z = absurd (true≢false z)
 
 -- ---- the way to the first contact
 
@@ -56,37 +39,38 @@ module _ {ws : List ℕ} {from at : ℕ} (p : Passing ws from at) where
   passed-leaf n = record { onward = p .onward; roots = p .roots; leaf = n }
 
   pub passed-end : length ws ≤ at → RootsPassed ws from at
-  passed-end h = passed-leaf (λ r. let z : getD ws at 0 ≡ 0 = List·getD-eq-default ws 0 h in omega (arith, r .0, ap numberOf z))
+  unfolding kindSort kindSorts
+  passed-end h = passed-leaf (λ r. let z : getD ws at 0 ≡ 0 = List·getD-eq-default ws 0 h in let q = rw z at r in let n : _≡_ {A = ℕ} 0 1 = cc in omega arith)
 
 -- ---- and back
 
--- the loop's invariant: what stands from `at` on is worked, and roots only are left before it
-pub record Climbing (ws : List ℕ) (from : ℕ) (t : List ℕ) (at : ℕ) (first : Worked) : Type 0 where
+-- the loop's invariant: what stands from `at` on is worked and left the bytes u, and roots only are left before it
+pub record Climbing (ws : List ℕ) (from : ℕ) (t : List ℕ) (at : ℕ) (first : Worked) (u : List ℕ) : Type 0 where
   pub onward : from ≤ at
   pub roots : (k : ℕ) → from ≤ k → k < at → Root ws k
-  pub worked : FrontWorked ws at t first
+  pub worked : FrontWorked ws at t first u
 
-pub climbing-first : {ws : List ℕ} {from at : ℕ} {t : List ℕ} {first : Worked} → RootsPassed ws from at → ContactWorked ws at t first → Climbing ws from t at first
+pub climbing-first : {ws : List ℕ} {from at : ℕ} {t : List ℕ} {first : Worked} {u : List ℕ} → RootsPassed ws from at → ContactWorked ws at t first u → Climbing ws from t at first u
 climbing-first p c = record { onward = p .onward; roots = p .roots; worked = c .leaf (p .leaf) }
 
-module _ {ws : List ℕ} {from : ℕ} {t : List ℕ} {at : ℕ} {first : Worked} (c : Climbing ws from t at first) where
+module _ {ws : List ℕ} {from : ℕ} {t : List ℕ} {at : ℕ} {first : Worked} {u : List ℕ} (c : Climbing ws from t at first u) where
   -- the first word stands within the words, and the worked part ends after it
   pub climbing-within : from < at → (from < length ws) × (from < first .next)
   climbing-within h =
       let r = c .roots from (omega arith) h in
-      (inside ws from (getD ws from 0) refl (omega (arith, r .0)), omega (arith, c .worked .onward))
+      (inside-sort ws from (getD ws from 0) refl joinedSort r (λ z. let n : _≡_ {A = ℕ} 0 1 = cc in omega arith), omega (arith, c .worked .onward))
 
-  pub climbing-more : from < at → (w : ℕ) → w ≡ getD ws (at - 1) 0 → (second : Worked) → FrontWorked ws (first .next) t second
-      → (v : Bool) → v ≡ joinedBy (numberOf w) (first .value) (second .value) → Climbing ws from t (at - 1) (record { value = v; next = second .next })
-  climbing-more h w e second s v q =
+  pub climbing-more : from < at → (w : ℕ) → w ≡ getD ws (at - 1) 0 → (second : Worked) (v : List ℕ) → FrontWorked ws (first .next) u second v
+      → (b : Bool) → PartsJoined (numberOf w) (first .value) (second .value) b → Climbing ws from t (at - 1) (record { value = b; next = second .next }) v
+  climbing-more h w e second v s b j =
       let r = c .roots (at - 1) (omega arith) (omega arith) in
       let back : at - 1 + 1 ≡ at = omega arith in
       record {
         onward = omega arith;
-        roots = λ k l u. c .roots k l (omega arith);
-        worked = worked-joined ws (at - 1) w t e first second (subst (λ (i : ℕ). FrontWorked ws i t first) (sym back) (c .worked)) s v q
-            (subst (λ (i : ℕ). 3 ≤ numberOf i) (sym e) (r .0)) (subst (λ (i : ℕ). numberOf i ≤ 4) (sym e) (r .1));
+        roots = λ k l m. c .roots k l (omega arith);
+        worked = worked-joined ws (at - 1) w t e first u second v (subst (λ (i : ℕ). FrontWorked ws i t first u) (sym back) (c .worked)) s b j
+            (subst (λ (i : ℕ). kindSort (numberOf i) ≡ joinedSort) (sym e) r);
       }
 
-  pub climbing-end : at ≤ from → FrontWorked ws from t first
-  climbing-end h = let q : at ≡ from = omega (arith, c .onward) in subst (λ (i : ℕ). FrontWorked ws i t first) q (c .worked)
+  pub climbing-end : at ≤ from → FrontWorked ws from t first u
+  climbing-end h = let q : at ≡ from = omega (arith, c .onward) in subst (λ (i : ℕ). FrontWorked ws i t first u) q (c .worked)

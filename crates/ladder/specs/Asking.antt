@@ -4,7 +4,7 @@ use mathlib.Core.Path.{_≡_}
 use mathlib.Core.Bool.{Bool, true, not, _||_}
 use mathlib.Core.Option.{Option, none, some}
 use mathlib.Core.List.{List, [], map, flatMap}
-use lib.Dec.{T, eqb, leb, ltb}
+use lib.Dec.{T, leb, ltb}
 use lib.ListN.{length}
 use Rattle.questions.specs.Tests.{all, firstFailed}
 use Rattle.rungs.specs.Words.{numberOf, operandOf}
@@ -12,6 +12,7 @@ use Rattle.rungs.specs.Records.{present}
 use Rattle.drawing.specs.Tree.{Ladder, rungAll}
 use Rattle.drawing.specs.Kept.{rungWords, inputFits, outputFits}
 use Rattle.drawing.specs.Questions.{mostRungWords, sizesInRange, rungBelow, newLabels, rungLeads}
+use Rattle.kinds.specs.Kinds.{namesVariable, namesLabel}
 use Rattle.ladder.specs.declared.Found.{Found}
 use Rattle.ladder.specs.declared.Found.the-variants.{At, Nothing}
 
@@ -33,13 +34,6 @@ pub record RungEnd (from n last r : ℕ) : Type 0 where
 
 abbrev pub lengthInRange : ℕ → Bool
 lengthInRange n = leb n mostRungWords
-
--- the kinds with a variable, and those with a label
-abbrev pub namesVariable : ℕ → Bool
-namesVariable k = eqb k 1 || eqb k 2 || eqb k 5 || eqb k 6
-
-abbrev pub namesLabel : ℕ → Bool
-namesLabel k = eqb k 7 || eqb k 8
 
 -- whether the operand o of a word of kind k is a variable below vars, or no variable; whether it is a label of ls, or no label
 unfoldable pub operandBelow : ℕ → ℕ → ℕ → Bool

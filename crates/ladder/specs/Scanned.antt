@@ -5,7 +5,7 @@ use mathlib.Core.Bool.{Bool}
 use mathlib.Core.List.{List, map}
 use lib.Dec.{leb}
 use lib.ListN.{length}
-use Rattle.table.specs.State.{scratchBytes}
+use Rattle.table.specs.State.{State, withBytes, scratchBytes}
 use Rattle.drawing.specs.Tree.{Rung, Ladder}
 use Rattle.drawing.specs.Kept.{rungWords}
 use Rattle.drawing.specs.Meaning.{scanLadder}
@@ -22,4 +22,4 @@ pub record ScratchAsked (ws os ns : List ℕ) (r : Bool) : Type 0 where
   pub same : (ls : List ℕ) (gs : Ladder) → LadderHeld ws ls os gs → ns ≡ map (λ g. length (rungWords g)) gs → r ≡ scratchInRange gs
 
 pub record Scanned (ws ls os t : List ℕ) (watchdog : ℕ) (r : LadderScanned) (u : List ℕ) : Type 0 where
-  pub same : (gs : Ladder) → LadderHeld ws ls os gs → (vars : ℕ) → LadderScanDone (scanEnds (scanLadder gs watchdog (record { vars = vars; bytes = t }))) r u
+  pub same : (gs : Ladder) → LadderHeld ws ls os gs → (s : State) → LadderScanDone (scanEnds (scanLadder gs watchdog (withBytes s t))) r u

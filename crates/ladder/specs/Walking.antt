@@ -1,15 +1,14 @@
 -- What the functions that walk a rung's kept words promise to each other. Nothing here is a sentence of document 01. Assumes nothing.
 use Prim.Native.Nat.{ℕ, _+_, _≤_, _<_}
 use mathlib.Core.Path.{_≡_}
-use mathlib.Core.Bool.{Bool, true, false, _&&_, _||_}
+use mathlib.Core.Bool.{Bool, _&&_, _||_}
 use mathlib.Core.List.{List}
-use lib.Dec.{eqb}
 use lib.ListN.{length, getD}
-use Rattle.table.specs.State.{State}
+use Rattle.table.specs.State.{State, withBytes}
 use Rattle.rungs.specs.Words.{numberOf}
-use Rattle.drawing.specs.Tree.{Front, Rear, Rung}
+use Rattle.drawing.specs.Tree.{Front, input, frontAnd, frontOr, Rear, output, rearAnd, rearOr, Rung}
 use Rattle.drawing.specs.Meaning.{workFront, Run, onward, jumped, runRear, runRung}
-use Rattle.drawing.specs.Kept.{frontWords, rearWords, rungWords}
+use Rattle.drawing.specs.Kept.{inputKind, outputKind, joinedSort, kindSort, frontWords, rearWords, rungWords}
 use Rattle.ladder.specs.Held.{FrontAt, RearAt, RungAt}
 use Rattle.drawing.specs.Questions.{joinScratch, frontScratch, rearScratch, rungScratch}
 use Rattle.ladder.specs.declared.walk.Worked.{Worked}
@@ -17,23 +16,23 @@ use Rattle.ladder.specs.declared.walk.Ran.{Ran}
 use Rattle.ladder.specs.declared.walk.Ran.the-variants.{Onward, Jumped}
 use Rattle.ladder.specs.declared.measure.Taken.{Taken}
 
--- a front worked: its value, over any number of variables, and the state stays
-pub record FrontDone (at : ℕ) (t : List ℕ) (r : Worked) (f : Front) : Type 0 where
-  pub same : (vars : ℕ) → workFront f (record { vars = vars; bytes = t }) ≡ record { power = r .value; state = record { vars = vars; bytes = t } }
+-- a front worked, in any state with the bytes t: its value, and the state that it leaves, with the bytes u
+pub record FrontDone (at : ℕ) (t : List ℕ) (r : Worked) (u : List ℕ) (f : Front) : Type 0 where
+  pub same : (s : State) → workFront f (withBytes s t) ≡ record { power = r .value; state = withBytes s u }
   pub next : r .next ≡ at + length (frontWords f)
 
-pub record FrontWorked (ws : List ℕ) (at : ℕ) (t : List ℕ) (r : Worked) : Type 0 where
+pub record FrontWorked (ws : List ℕ) (at : ℕ) (t : List ℕ) (r : Worked) (u : List ℕ) : Type 0 where
   pub onward : at ≤ r .next
-  pub done : (f : Front) → FrontAt ws at f → FrontDone at t r f
+  pub done : (f : Front) → FrontAt ws at f → FrontDone at t r u f
 
 -- a word of a front-and or a front-or stands at a position
 abbrev pub Root : List ℕ → ℕ → Type 0
-Root ws at = (3 ≤ numberOf (getD ws at 0)) × (numberOf (getD ws at 0) ≤ 4)
+Root ws at = kindSort (numberOf (getD ws at 0)) ≡ joinedSort
 
 -- a front that is a contact, where the position went on; what stands at a position where there is no root
-pub record ContactWorked (ws : List ℕ) (at : ℕ) (t : List ℕ) (r : Worked) : Type 0 where
-  pub worked : at < r .next → FrontWorked ws at t r
-  pub leaf : (Root ws at → ⊥) → FrontWorked ws at t r
+pub record ContactWorked (ws : List ℕ) (at : ℕ) (t : List ℕ) (r : Worked) (u : List ℕ) : Type 0 where
+  pub worked : at < r .next → FrontWorked ws at t r u
+  pub leaf : (Root ws at → ⊥) → FrontWorked ws at t r u
 
 -- roots only stand from `from` up to r, and none at r
 pub record RootsPassed (ws : List ℕ) (from r : ℕ) : Type 0 where
@@ -41,9 +40,21 @@ pub record RootsPassed (ws : List ℕ) (from r : ℕ) : Type 0 where
   pub roots : (k : ℕ) → from ≤ k → k < r → Root ws k
   pub leaf : Root ws r → ⊥
 
--- a front-and is kind 3, a front-or kind 4
-unfoldable pub joinedBy : ℕ → Bool → Bool → Bool
-joinedBy kind a b = elim (eqb kind 3) [ true ↦ a && b | false ↦ a || b ]
+-- the kind of a tree's first word
+abbrev pub frontKind : Front → ℕ
+frontKind (input i) = inputKind i
+frontKind (frontAnd f g) = 3
+frontKind (frontOr f g) = 4
+
+abbrev pub rearKind : Rear → ℕ
+rearKind (output o) = outputKind o
+rearKind (rearAnd f r) = 9
+rearKind (rearOr a b) = 10
+
+-- the value of a front of two parts, by its kind, from theirs
+pub record PartsJoined (kind : ℕ) (first second r : Bool) : Type 0 where
+  pub both : (f g : Front) → kind ≡ frontKind (frontAnd f g) → r ≡ (first && second)
+  pub either : (f g : Front) → kind ≡ frontKind (frontOr f g) → r ≡ (first || second)
 
 -- the run that an answer tells, with the state that it left
 unfoldable pub runOf : Ran → State → Run
@@ -52,7 +63,7 @@ runOf (Jumped l) s = jumped l s
 
 -- a run of a tree with n words: what it leaves, and where it ends if it takes no jump
 pub record RunDone (at n : ℕ) (run : State → Run) (t : List ℕ) (r : Ran) (u : List ℕ) : Type 0 where
-  pub same : (vars : ℕ) → run (record { vars = vars; bytes = t }) ≡ runOf r (record { vars = vars; bytes = u })
+  pub same : (s : State) → run (withBytes s t) ≡ runOf r (withBytes s u)
   pub next : (e : ℕ) → r ≡ Onward e → e ≡ at + n
 
 pub record RearRun (ws : List ℕ) (at : ℕ) (power : Bool) (t : List ℕ) (r : Ran) (u : List ℕ) : Type 0 where

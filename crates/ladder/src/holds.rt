@@ -1,134 +1,133 @@
-// Question 4. A rung's words are told by two counts: before each word some fronts and then some rears are owed, and each word says what
-// is owed after it.
+// Question 4. A rung's words are told by two counts: before each word some fronts and then some rears are pending, and each word says
+// what is pending after it.
 ghost use mathlib.Core.Path.{_≡_};
 ghost use Prim.Native.Nat.{_+_, _≤_, _<_, _/_, _%_, _^_};
 ghost use lib.ListN.{length};
 ghost use lib.Seq.{slice};
+ghost use Rattle.rungs.specs.Words.{operands};
 ghost use Rattle.rungs.specs.Records.{rowOf};
 ghost use Rattle.drawing.specs.Questions.{holdsLadder};
-ghost use Rattle.ladder.specs.Owing.{owes, Turned};
+ghost use Rattle.ladder.specs.Pending.{completes, WordTaken};
+use kinds::KindSort;
 
-// What is owed before a word; broken where a word before it was out of place.
-pub struct Owed {
+// What is pending before a word; misplaced where a word before it stood where none like it may.
+pub struct PendingParts {
     pub fronts: usize,
     pub rears: usize,
-    pub broken: bool,
+    pub misplaced: bool,
 }
 
-// A word where a front is owed.
-pub fn front_word(kind: u32, operand: u32, fronts: usize, rears: usize) -> Owed
+// A word where a front is pending.
+pub fn front_word(kind: u32, operand: u32, fronts: usize, rears: usize) -> PendingParts
     requires { ⌜ (0 < fronts) × (fronts + 1 < 2 ^ 64) ⌝ }
-    ensures { λ r. ⌜ Turned kind operand fronts rears r ⌝ }
+    ensures { λ r. ⌜ WordTaken kind operand fronts rears r ⌝ }
 {
-    let out_of_place = Owed {
+    let out_of_place = PendingParts {
         fronts: 0,
         rears: 0,
-        broken: true,
+        misplaced: true,
     };
-    if kind < 1 {
-        return out_of_place;
-    }
-    if kind <= 2 {
-        return Owed {
+    match kinds::sort_of(kind) {
+        KindSort::Contact => PendingParts {
             fronts: fronts - 1,
             rears,
-            broken: false,
-        };
-    }
-    if 4 < kind {
-        return out_of_place;
-    }
-    if operand != 0 {
-        return out_of_place;
-    }
-    Owed {
-        fronts: fronts + 1,
-        rears,
-        broken: false,
+            misplaced: false,
+        },
+        KindSort::Joined => {
+            if operand != 0 {
+                return out_of_place;
+            }
+            PendingParts {
+                fronts: fronts + 1,
+                rears,
+                misplaced: false,
+            }
+        }
+        _ => out_of_place,
     }
 }
 
-// A word where no front is owed, and a rear is.
-pub fn rear_word(kind: u32, operand: u32, rears: usize) -> Owed
+// A word where no front is pending, and a rear is.
+pub fn rear_word(kind: u32, operand: u32, rears: usize) -> PendingParts
     requires { ⌜ (0 < rears) × (rears + 1 < 2 ^ 64) ⌝ }
-    ensures { λ r. ⌜ Turned kind operand 0 rears r ⌝ }
+    ensures { λ r. ⌜ WordTaken kind operand 0 rears r ⌝ }
 {
-    let out_of_place = Owed {
+    let out_of_place = PendingParts {
         fronts: 0,
         rears: 0,
-        broken: true,
+        misplaced: true,
     };
-    if kind < 5 {
-        return out_of_place;
-    }
-    if kind <= 8 {
-        return Owed {
+    match kinds::sort_of(kind) {
+        KindSort::Output => PendingParts {
             fronts: 0,
             rears: rears - 1,
-            broken: false,
-        };
-    }
-    if operand != 0 {
-        return out_of_place;
-    }
-    if kind == 9 {
-        return Owed {
-            fronts: 1,
-            rears,
-            broken: false,
-        };
-    }
-    if kind != 10 {
-        return out_of_place;
-    }
-    Owed {
-        fronts: 0,
-        rears: rears + 1,
-        broken: false,
+            misplaced: false,
+        },
+        KindSort::RearAnd => {
+            if operand != 0 {
+                return out_of_place;
+            }
+            PendingParts {
+                fronts: 1,
+                rears,
+                misplaced: false,
+            }
+        }
+        KindSort::RearOr => {
+            if operand != 0 {
+                return out_of_place;
+            }
+            PendingParts {
+                fronts: 0,
+                rears: rears + 1,
+                misplaced: false,
+            }
+        }
+        _ => out_of_place,
     }
 }
 
-pub fn after_word(owed: Owed, word: u32) -> Owed
-    requires { ⌜ (owed .fronts + 1 < 2 ^ 64) × (owed .rears + 1 < 2 ^ 64) ⌝ }
-    ensures { λ r. ⌜ Turned (word / 65536) (word % 65536) (owed .fronts) (owed .rears) r ⌝ }
+pub fn after_word(pending: PendingParts, word: u32) -> PendingParts
+    requires { ⌜ (pending .fronts + 1 < 2 ^ 64) × (pending .rears + 1 < 2 ^ 64) ⌝ }
+    ensures { λ r. ⌜ WordTaken (word / operands) (word % operands) (pending .fronts) (pending .rears) r ⌝ }
 {
-    let kind = word / 65536;
-    let operand = word % 65536;
-    if 0 < owed.fronts {
-        return front_word(kind, operand, owed.fronts, owed.rears);
+    let kind = word / rungs::OPERANDS;
+    let operand = word % rungs::OPERANDS;
+    if 0 < pending.fronts {
+        return front_word(kind, operand, pending.fronts, pending.rears);
     }
-    if 0 < owed.rears {
-        return rear_word(kind, operand, owed.rears);
+    if 0 < pending.rears {
+        return rear_word(kind, operand, pending.rears);
     }
-    Owed {
+    PendingParts {
         fronts: 0,
         rears: 0,
-        broken: true,
+        misplaced: true,
     }
 }
 
 // Whether the words from `from` up to `to` are a front and then a rear.
 pub fn holds_rung(words: &[u32], from: usize, to: usize) -> bool
     requires { ⌜ (from ≤ to) × (to ≤ length (now words)) ⌝ }
-    ensures { λ r. ⌜ r ≡ owes 1 1 (slice from to (now (words .entry))) ⌝ }
+    ensures { λ r. ⌜ r ≡ completes 1 1 (slice from to (now (words .entry))) ⌝ }
 {
-    let mut owed = Owed {
+    let mut pending = PendingParts {
         fronts: 1,
         rears: 1,
-        broken: false,
+        misplaced: false,
     };
     let mut i: usize = from;
     while i < to {
-        owed = after_word(owed, words[i]);
-        if owed.broken {
+        pending = after_word(pending, words[i]);
+        if pending.misplaced {
             return false;
         }
         i += 1;
     }
-    if owed.fronts != 0 {
+    if pending.fronts != 0 {
         return false;
     }
-    owed.rears == 0
+    pending.rears == 0
 }
 
 // Question 4. No sum wraps: a record's length is compared with what is left of the words.

@@ -1,10 +1,10 @@
 // The ladder side: questions 4 to 9 and Ladder scan. Document 01, "The kept ladder", "What a ladder does".
 ghost use mathlib.Core.Path.{_≡_};
-ghost use Rattle.questions.specs.Refusals.{answerOf};
+ghost use Rattle.questions.specs.Refusals.{verdictAnswer};
 ghost use Rattle.rungs.specs.Records.{rowOf};
 ghost use Rattle.drawing.specs.Kept.{Kept};
 ghost use Rattle.drawing.specs.Questions.{ladderAnswer};
-ghost use Rattle.ladder.specs.LadderScan.{scanAnswer, ladderScan, LadderScanDone};
+ghost use Rattle.ladder.specs.LadderScan.{scanQuestions, callLadderScan, LadderScanDone};
 use questions::MOST_RUNG_WATCHDOG;
 use questions::Refusal;
 use questions::Verdict;
@@ -41,7 +41,7 @@ pub fn ladder_answer(
     offsets: &[u32],
     lengths: &[u32],
 ) -> Verdict
-    ensures { λ r. ⌜ answerOf r ≡ ladderAnswer vars
+    ensures { λ r. ⌜ verdictAnswer r ≡ ladderAnswer vars
         (record { words = now (words .entry); records = rowOf (now (labels .entry)) (now (offsets .entry)) (now (lengths .entry)) }) ⌝ }
 {
     if !questions::vars_in_range(vars) {
@@ -69,7 +69,7 @@ pub fn ladder_answer(
 }
 
 // Ladder scan's questions: 1, 4 to 9, 11 and 12, in order.
-pub fn scan_answer(
+pub fn scan_questions(
     vars: u32,
     words: &[u32],
     labels: &[u16],
@@ -78,7 +78,7 @@ pub fn scan_answer(
     table: &[u8],
     watchdog: u32,
 ) -> Verdict
-    ensures { λ r. ⌜ answerOf r ≡ scanAnswer vars
+    ensures { λ r. ⌜ verdictAnswer r ≡ scanQuestions vars
         (record { words = now (words .entry); records = rowOf (now (labels .entry)) (now (offsets .entry)) (now (lengths .entry)) })
         (now (table .entry)) watchdog ⌝ }
 {
@@ -107,11 +107,11 @@ pub fn ladder_scan(
     table: &mut [u8],
     watchdog: u32,
 ) -> LadderScanned
-    ensures { λ r. ⌜ LadderScanDone (ladderScan vars
+    ensures { λ r. ⌜ LadderScanDone (callLadderScan vars
         (record { words = now (words .entry); records = rowOf (now (labels .entry)) (now (offsets .entry)) (now (lengths .entry)) })
         (now (table .entry)) watchdog) r (now (table .exit)) ⌝ }
 {
-    match scan_answer(vars, words, labels, offsets, lengths, table, watchdog) {
+    match scan_questions(vars, words, labels, offsets, lengths, table, watchdog) {
         Verdict::Refused(refusal) => LadderScanned::Refused(refusal),
         Verdict::Accepted => scan::run(words, labels, offsets, table, watchdog),
     }

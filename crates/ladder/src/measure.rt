@@ -1,6 +1,7 @@
 // The scratch that a rung's code takes, along the prefix order of its kept words: question 9.
 ghost use Rattle.ladder.specs.Walking.{JoinMeasured, FrontMeasured, RearMeasured, RungMeasured};
 ghost use Rattle.ladder.specs.Scanned.{FewAsked, ScratchAsked};
+use kinds::KindSort;
 
 // A scratch byte takes two words: the root of the part that needs it and a part beside it. So 65 words need at most 32.
 const FEW_WORDS: u32 = 65;
@@ -15,8 +16,8 @@ pub struct Taken {
 pub fn join_scratch(words: &[u32], at: usize, through: usize) -> usize
     ensures { λ r. ⌜ JoinMeasured (now (words .entry)) at through r ⌝ }
 {
-    match rungs::word_at(words, at) / 65536 {
-        1 | 2 => 0,
+    match kinds::sort_of(rungs::word_at(words, at) / rungs::OPERANDS) {
+        KindSort::Contact => 0,
         _ => through,
     }
 }
@@ -25,12 +26,12 @@ pub fn join_scratch(words: &[u32], at: usize, through: usize) -> usize
 pub fn front_scratch(words: &[u32], at: usize) -> Taken
     ensures { λ r. ⌜ FrontMeasured (now (words .entry)) at r ⌝ }
 {
-    match rungs::word_at(words, at) / 65536 {
-        1 | 2 => Taken {
+    match kinds::sort_of(rungs::word_at(words, at) / rungs::OPERANDS) {
+        KindSort::Contact => Taken {
             bytes: 0,
             next: at + 1,
         },
-        3 | 4 => {
+        KindSort::Joined => {
             let first = front_scratch(words, at + 1);
             let second = front_scratch(words, first.next);
             let joined = join_scratch(words, first.next, second.bytes + 1);
@@ -47,12 +48,12 @@ pub fn front_scratch(words: &[u32], at: usize) -> Taken
 pub fn rear_scratch(words: &[u32], at: usize) -> Taken
     ensures { λ r. ⌜ RearMeasured (now (words .entry)) at r ⌝ }
 {
-    match rungs::word_at(words, at) / 65536 {
-        5 | 6 | 7 | 8 => Taken {
+    match kinds::sort_of(rungs::word_at(words, at) / rungs::OPERANDS) {
+        KindSort::Output => Taken {
             bytes: 0,
             next: at + 1,
         },
-        9 => {
+        KindSort::RearAnd => {
             let front = front_scratch(words, at + 1);
             let joined = join_scratch(words, at + 1, front.bytes + 1);
             let rear = rear_scratch(words, front.next);
@@ -61,7 +62,7 @@ pub fn rear_scratch(words: &[u32], at: usize) -> Taken
                 next: rear.next,
             }
         }
-        10 => {
+        KindSort::RearOr => {
             let first = rear_scratch(words, at + 1);
             let second = rear_scratch(words, first.next);
             Taken {

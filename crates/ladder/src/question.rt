@@ -1,16 +1,9 @@
 // Questions 5 to 8. The words of a rung are those from the end of the rung before it on, as many as its length says.
 ghost use mathlib.Core.Path.{_≡_};
 ghost use Rattle.questions.specs.Tests.{all};
-ghost use Rattle.ladder.specs.Asking.{RungEnd, lengthInRange, namesVariable, namesLabel, wordBelow, wordStays, wordLeads};
+ghost use Rattle.ladder.specs.Asking.{RungEnd, lengthInRange, wordBelow, wordStays, wordLeads};
 ghost use Rattle.ladder.specs.Asking.{SizesAsked, VariablesAsked, RiseAsked, LabelsAsked, JumpsAsked};
 use crate::Found;
-
-// At most 256 rungs, 128 words a rung, 8,192 words.
-const MOST_RUNGS: usize = 256;
-
-const MOST_RUNG_WORDS: u32 = 128;
-
-const MOST_WORDS: usize = 8192;
 
 // Where the rung of length n from `from` on ends, and `last` where that lies past it.
 fn rung_end(from: usize, n: u32, last: usize) -> usize
@@ -31,7 +24,7 @@ fn lengths_in_range(lengths: &[u32]) -> bool
 {
     let mut i: usize = 0;
     while i < lengths.len() {
-        if MOST_RUNG_WORDS < lengths[i] {
+        if (kinds::MOST_RUNG_WORDS as u32) < lengths[i] {
             return false;
         }
         i += 1;
@@ -43,25 +36,19 @@ fn lengths_in_range(lengths: &[u32]) -> bool
 pub fn sizes_in_range(words: &[u32], lengths: &[u32]) -> bool
     ensures { λ r. ⌜ SizesAsked (now (words .entry)) (now (lengths .entry)) r ⌝ }
 {
-    if MOST_RUNGS < lengths.len() {
+    if rungs::MOST_RECORDS < lengths.len() {
         return false;
     }
     if !lengths_in_range(lengths) {
         return false;
     }
-    words.len() <= MOST_WORDS
-}
-
-fn names_variable(kind: u32) -> bool
-    ensures { λ r. ⌜ r ≡ namesVariable kind ⌝ }
-{
-    (kind == 1) | (kind == 2) | (kind == 5) | (kind == 6)
+    words.len() <= kinds::MOST_WORDS
 }
 
 fn word_below(vars: u32, word: u32) -> bool
     ensures { λ r. ⌜ r ≡ wordBelow vars word ⌝ }
 {
-    !names_variable(word / 65536) | (word % 65536 < vars)
+    !kinds::names_variable(word / rungs::OPERANDS) | (word % rungs::OPERANDS < vars)
 }
 
 // Of all words: a loop with no exit, of which the compiler makes a few wide steps.
@@ -137,12 +124,6 @@ pub fn repeated_label(labels: &[u16]) -> Found
     first_repeated(labels)
 }
 
-fn names_label(kind: u32) -> bool
-    ensures { λ r. ⌜ r ≡ namesLabel kind ⌝ }
-{
-    (kind == 7) | (kind == 8)
-}
-
 // Whether no word names a label; a loop with no exit.
 fn without_jump(words: &[u32]) -> bool
     ensures { λ r. ⌜ r ≡ all wordStays (now (words .entry)) ⌝ }
@@ -150,7 +131,7 @@ fn without_jump(words: &[u32]) -> bool
     let mut none = true;
     let mut i: usize = 0;
     while i < words.len() {
-        none = none & !names_label(words[i] / 65536);
+        none = none & !kinds::names_label(words[i] / rungs::OPERANDS);
         i += 1;
     }
     none
@@ -159,8 +140,8 @@ fn without_jump(words: &[u32]) -> bool
 fn word_leads(labels: &[u16], word: u32) -> bool
     ensures { λ r. ⌜ r ≡ wordLeads (now (labels .entry)) word ⌝ }
 {
-    if names_label(word / 65536) {
-        return rungs::search_label(labels, word % 65536) < labels.len();
+    if kinds::names_label(word / rungs::OPERANDS) {
+        return rungs::search_label(labels, word % rungs::OPERANDS) < labels.len();
     }
     true
 }

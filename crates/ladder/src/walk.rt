@@ -1,7 +1,7 @@
 // A rung worked along the prefix order of its kept words: a tree is its root word, then its first part, then its second.
 // Words that hold no tree are passed over from the first that has no place there.
-ghost use mathlib.Core.Path.{_≡_};
-ghost use Rattle.ladder.specs.Walking.{joinedBy, ContactWorked, RootsPassed, FrontWorked, RearRun, RungRun};
+ghost use Rattle.ladder.specs.Walking.{ContactWorked, PartsJoined, RootsPassed, FrontWorked, RearRun, RungRun};
+use kinds::KindSort;
 
 // A front's value, and the position after its words.
 pub struct Worked {
@@ -17,16 +17,16 @@ pub enum Ran {
 
 // The contact at a position; where none stands there, the position stays.
 fn contact_at(words: &[u32], at: usize, table: &[u8]) -> Worked
-    ensures { λ r. ⌜ ContactWorked (now (words .entry)) at (now (table .entry)) r ⌝ }
+    ensures { λ r. ⌜ ContactWorked (now (words .entry)) at (now (table .entry)) r (now (table .entry)) ⌝ }
 {
     let word = rungs::word_at(words, at);
-    let value = table::value(table, (word % 65536) as usize);
-    match word / 65536 {
-        1 => Worked {
+    let value = table::value(table, (word % rungs::OPERANDS) as usize);
+    match word / rungs::OPERANDS {
+        kinds::CONTACT => Worked {
             value,
             next: at + 1,
         },
-        2 => Worked {
+        kinds::NEGATED_CONTACT => Worked {
             value: !value,
             next: at + 1,
         },
@@ -37,11 +37,11 @@ fn contact_at(words: &[u32], at: usize, table: &[u8]) -> Worked
     }
 }
 
-// The value of a front-and, kind 3, or of a front-or, from its parts'.
+// The value of a front-and or of a front-or, from its parts'.
 fn joined(kind: u32, first: bool, second: bool) -> bool
-    ensures { λ r. ⌜ r ≡ joinedBy kind first second ⌝ }
+    ensures { λ r. ⌜ PartsJoined kind first second r ⌝ }
 {
-    if kind == 3 {
+    if kind == kinds::FRONT_AND {
         return first & second;
     }
     first | second
@@ -53,11 +53,14 @@ fn first_contact(words: &[u32], from: usize) -> usize
 {
     let mut at = from;
     while at < words.len() {
-        let kind = words[at] / 65536;
-        if (kind != 3) & (kind != 4) {
-            return at;
+        match kinds::sort_of(words[at] / rungs::OPERANDS) {
+            KindSort::Joined => {
+                at += 1;
+            }
+            _ => {
+                return at;
+            }
         }
-        at += 1;
     }
     at
 }
@@ -65,13 +68,13 @@ fn first_contact(words: &[u32], from: usize) -> usize
 // The front whose words begin at a position: its first contact, and then, root by root towards that position, the parts joined with it.
 // The part before a root's second is worked when the root is reached, so only a second part that is no contact takes a call.
 pub fn front_at(words: &[u32], from: usize, table: &[u8]) -> Worked
-    ensures { λ r. ⌜ FrontWorked (now (words .entry)) from (now (table .entry)) r ⌝ }
+    ensures { λ r. ⌜ FrontWorked (now (words .entry)) from (now (table .entry)) r (now (table .entry)) ⌝ }
 {
     let mut at = first_contact(words, from);
     let mut first = contact_at(words, at, table);
     while from < at {
         at -= 1;
-        let kind = rungs::word_at(words, at) / 65536;
+        let kind = rungs::word_at(words, at) / rungs::OPERANDS;
         let contact = contact_at(words, first.next, table);
         let second = if first.next < contact.next {
             contact
@@ -91,35 +94,35 @@ pub fn rear_at(words: &[u32], at: usize, power: bool, table: &mut [u8]) -> Ran
     ensures { λ r. ⌜ RearRun (now (words .entry)) at power (now (table .entry)) r (now (table .exit)) ⌝ }
 {
     let word = rungs::word_at(words, at);
-    let operand = word % 65536;
-    match word / 65536 {
-        5 => {
+    let operand = word % rungs::OPERANDS;
+    match word / rungs::OPERANDS {
+        kinds::COIL => {
             table::write(table, operand as usize, power);
             Ran::Onward(at + 1)
         }
-        6 => {
+        kinds::NEGATED_COIL => {
             table::write(table, operand as usize, !power);
             Ran::Onward(at + 1)
         }
-        7 => {
+        kinds::JUMP => {
             if power {
                 Ran::Jumped(operand)
             } else {
                 Ran::Onward(at + 1)
             }
         }
-        8 => {
+        kinds::NEGATED_JUMP => {
             if power {
                 Ran::Onward(at + 1)
             } else {
                 Ran::Jumped(operand)
             }
         }
-        9 => {
+        kinds::REAR_AND => {
             let front = front_at(words, at + 1, table);
             rear_at(words, front.next, power & front.value, table)
         }
-        10 => match rear_at(words, at + 1, power, table) {
+        kinds::REAR_OR => match rear_at(words, at + 1, power, table) {
             Ran::Onward(next) => rear_at(words, next, power, table),
             Ran::Jumped(label) => Ran::Jumped(label),
         },

@@ -7,37 +7,37 @@ use mathlib.Core.Bool.{Bool}
 use mathlib.Core.List.{List}
 use lib.ListN.{length, take}
 use Rattle.questions.specs.Questions.{firstNo}
-use Rattle.questions.specs.Refusals.{answerOf}
+use Rattle.questions.specs.Refusals.{verdictAnswer}
 use Rattle.questions.specs.Laws.Answers.{verdict-refused, verdict-accepted}
 use Rattle.questions.specs.declared.Refusal.{Refusal}
 use Rattle.questions.specs.declared.Verdict.{Verdict}
 use Rattle.questions.specs.declared.Verdict.the-variants.{Accepted, Refused}
-use Rattle.rungs.specs.Records.{RungRecord, rowOf}
-use Rattle.rows.specs.Rows.{mostRungs, gathered}
+use Rattle.rungs.specs.Records.{RungRecord, rowOf, mostRecords}
+use Rattle.rows.specs.Parts.{gathered}
 use Rattle.rows.specs.Laws.Gathered.{gathered-whole}
 use Rattle.rows.specs.declared.Rows.{Rows}
-use Rattle.ladder.specs.LadderScan.{scanAnswer, ladderScan, LadderScanDone}
-use Rattle.ladder.specs.Laws.Scans.{scan-refuses, scan-scans}
+use Rattle.ladder.specs.LadderScan.{scanQuestions, callLadderScan, LadderScanDone}
+use Rattle.ladder.specs.Laws.Scans.{scan-first, scan-refuses, scan-scans}
 use Rattle.ladder.specs.declared.LadderScanned.{LadderScanned}
 use Rattle.ladder_rows.specs.Parts.{longHolds, LongRefused, RowAsked, RowScanned}
 
 module _ (vars : ℕ) (ws : List ℕ) (rows : Rows) (long : Bool) (t : List ℕ) (w : ℕ) where
   -- ---- the questions
 
-  pub asked-long : mostRungs < rows .n → (x : Refusal) → LongRefused vars long x → RowAsked vars ws rows long t w (Refused x)
-  unfolding gathered answerOf scanAnswer firstNo
+  pub asked-long : mostRecords < rows .n → (x : Refusal) → LongRefused vars long x → RowAsked vars ws rows long t w (Refused x)
+  unfolding gathered verdictAnswer firstNo
   asked-long h x refused = record {
     same = λ rs e l.
         let n : rows .n ≡ length rs = ap (λ r. r .n) e in
         let z = refused .same ws rs (omega arith) l in
-        rw z;
+        rw (scan-first vars (record { words = ws; records = rs }) t w, z);
   }
 
-  pub asked-short : rows .n ≤ mostRungs → (v : Verdict)
-      → answerOf v ≡ scanAnswer vars (record { words = ws; records = rowOf (take (rows .n) (rows .labels)) (take (rows .n) (rows .offsets)) (take (rows .n) (rows .lengths)) }) t w
+  pub asked-short : rows .n ≤ mostRecords → (v : Verdict)
+      → verdictAnswer v ≡ scanQuestions vars (record { words = ws; records = rowOf (take (rows .n) (rows .labels)) (take (rows .n) (rows .offsets)) (take (rows .n) (rows .lengths)) }) t w
       → RowAsked vars ws rows long t w v
   unfolding gathered
-  asked-short h v a = record { same = λ rs e l. a ∙ ap (λ r. scanAnswer vars (record { words = ws; records = r }) t w) (whole rs e) }
+  asked-short h v a = record { same = λ rs e l. a ∙ ap (λ r. scanQuestions vars (record { words = ws; records = r }) t w) (whole rs e) }
     where
       whole : (rs : List RungRecord) → rows ≡ gathered rs → rowOf (take (rows .n) (rows .labels)) (take (rows .n) (rows .offsets)) (take (rows .n) (rows .lengths)) ≡ rs
       whole rs e =
@@ -50,13 +50,13 @@ module _ (vars : ℕ) (ws : List ℕ) (rows : Rows) (long : Bool) (t : List ℕ)
   -- ---- the answer
 
   pub row-done : (v : Verdict) (rs : List RungRecord) (r : LadderScanned) (u : List ℕ) → RowAsked vars ws rows long t w v → rows ≡ gathered rs → long ≡ longHolds ws rs
-      → RowScanned v ws rs t w r u → LadderScanDone (ladderScan vars (record { words = ws; records = rs }) t w) r u
+      → RowScanned v ws rs t w r u → LadderScanDone (callLadderScan vars (record { words = ws; records = rs }) t w) r u
   row-done v rs r u asked e l scanned = go v refl
     where
-      answer : answerOf v ≡ scanAnswer vars (record { words = ws; records = rs }) t w
+      answer : verdictAnswer v ≡ scanQuestions vars (record { words = ws; records = rs }) t w
       answer = asked .same rs e l
 
-      go : (x : Verdict) → v ≡ x → LadderScanDone (ladderScan vars (record { words = ws; records = rs }) t w) r u
+      go : (x : Verdict) → v ≡ x → LadderScanDone (callLadderScan vars (record { words = ws; records = rs }) t w) r u
       go Accepted q = scan-scans vars (record { words = ws; records = rs }) t w (verdict-accepted answer q) r u (scanned .scanned q)
       go (Refused x) q =
           let s = scanned .refused x q in

@@ -13,14 +13,14 @@ use borrow.Author.Tests.{eq-eqb, ne-eqb, lt-ltb, le-ltb, le-leb, lt-leb}
 use Rattle.questions.specs.Questions.{ask, firstNo, varsInRange, question1}
 use Rattle.questions.specs.Refusals.{refusalOf}
 use Rattle.questions.specs.declared.Refusal.the-variants.{Variables, Kept as KeptCase, Sizes}
-use Rattle.rungs.specs.Records.{RungRecord}
-use Rattle.rows.specs.Rows.{mostRungs, noRecord, recordAt}
+use Rattle.rungs.specs.Records.{RungRecord, mostRecords}
+use Rattle.rows.specs.Rows.{noRecord, recordAt}
 use Rattle.drawing.specs.Tree.{Ladder}
-use Rattle.drawing.specs.Questions.{ladderOf, holdsLadder, question4, sizesInRange, question5, ladderAnswer}
-use Rattle.ladder.specs.Owing.{owes, holdsFrom}
+use Rattle.drawing.specs.Questions.{ladderOf, holdsLadder, question4, sizesInRange, question5, ladderQuestions, ladderAnswer}
+use Rattle.ladder.specs.Pending.{completes, holdsFrom}
 use Rattle.drawing.specs.Laws.Accepting.{holds}
 use Rattle.ladder.specs.Laws.Held.{kept-many}
-use Rattle.ladder.specs.Laws.Owing.{holds-counted, holds-next, holds-last}
+use Rattle.ladder.specs.Laws.Pending.{holds-counted, holds-next, holds-last}
 use Rattle.ladder_rows.specs.Parts.{longHolds, askedTo, laidFirst, laidNext, laidWhole, LongRefused}
 use Rattle.ladder_rows.specs.declared.Laid.{Laid}
 
@@ -39,19 +39,19 @@ le-or-lt a b = go (leb a b) refl
 
 -- ---- how many records are asked
 
-pub asked-all : (n : ℕ) → mostRungs < n → n ≡ askedTo n
+pub asked-all : (n : ℕ) → mostRecords < n → n ≡ askedTo n
 unfolding askedTo
-asked-all n h = rw (lt-ltb mostRungs n h, askedTo)
+asked-all n h = rw (lt-ltb mostRecords n h, askedTo)
 
-pub asked-none : (n : ℕ) → n ≤ mostRungs → 0 ≡ askedTo n
+pub asked-none : (n : ℕ) → n ≤ mostRecords → 0 ≡ askedTo n
 unfolding askedTo
-asked-none n h = rw (le-ltb mostRungs n h, askedTo)
+asked-none n h = rw (le-ltb mostRecords n h, askedTo)
 
 pub asked-within : (n : ℕ) → askedTo n ≤ n
 unfolding askedTo
-asked-within n = go (ltb mostRungs n) refl
+asked-within n = go (ltb mostRecords n) refl
   where
-    go : (b : Bool) → ltb mostRungs n ≡ b → askedTo n ≤ n
+    go : (b : Bool) → ltb mostRecords n ≡ b → askedTo n ≤ n
     go true q = rw (q, askedTo) (omega arith)
     go false q = rw (q, askedTo) (omega arith)
 
@@ -61,9 +61,9 @@ abbrev notLaid : Laid
 notLaid = record { start = 0; whole = false }
 
 module _ (ws : List ℕ) (l : Laid) (r : RungRecord) where
-  pub laid-broken : l .whole ≡ false → notLaid ≡ laidNext ws l r
+  pub laid-not-whole : l .whole ≡ false → notLaid ≡ laidNext ws l r
   unfolding laidNext
-  laid-broken e = rw (e, laidNext)
+  laid-not-whole e = rw (e, laidNext)
 
   module _ (w : l .whole ≡ true) where
     pub laid-off : (r .offset ≡ l .start → ⊥) → notLaid ≡ laidNext ws l r
@@ -76,20 +76,20 @@ module _ (ws : List ℕ) (l : Laid) (r : RungRecord) where
       laid-long h = rw (w, eq-eqb _ _ e, lt-leb (l .start + r .length) (length ws) (omega arith), laidNext)
 
       module _ (within : l .start ≤ length ws) (h : r .length ≤ length ws - l .start) where
-        pub laid-wrong : owes 1 1 (slice (l .start) (l .start + r .length) ws) ≡ false → notLaid ≡ laidNext ws l r
+        pub laid-wrong : completes 1 1 (slice (l .start) (l .start + r .length) ws) ≡ false → notLaid ≡ laidNext ws l r
         unfolding laidNext
         laid-wrong b = rw (w, eq-eqb _ _ e, le-leb (l .start + r .length) (length ws) (omega arith), b, laidNext)
 
-        pub laid-right : owes 1 1 (slice (l .start) (l .start + r .length) ws) ≡ true → record { start = l .start + r .length; whole = true } ≡ laidNext ws l r
+        pub laid-right : completes 1 1 (slice (l .start) (l .start + r .length) ws) ≡ true → record { start = l .start + r .length; whole = true } ≡ laidNext ws l r
         unfolding laidNext
         laid-right b = rw (w, eq-eqb _ _ e, le-leb (l .start + r .length) (length ws) (omega arith), b, laidNext)
 
   pub next-start : l .start ≤ length ws → laidNext ws l r .start ≤ length ws
   unfolding laidNext
-  next-start h = go (l .whole) refl (eqb (r .offset) (l .start)) refl (leb (l .start + r .length) (length ws)) refl (owes 1 1 (slice (l .start) (l .start + r .length) ws)) refl
+  next-start h = go (l .whole) refl (eqb (r .offset) (l .start)) refl (leb (l .start + r .length) (length ws)) refl (completes 1 1 (slice (l .start) (l .start + r .length) ws)) refl
     where
       go : (a : Bool) → l .whole ≡ a → (b : Bool) → eqb (r .offset) (l .start) ≡ b → (c : Bool) → leb (l .start + r .length) (length ws) ≡ c
-          → (d : Bool) → owes 1 1 (slice (l .start) (l .start + r .length) ws) ≡ d → laidNext ws l r .start ≤ length ws
+          → (d : Bool) → completes 1 1 (slice (l .start) (l .start + r .length) ws) ≡ d → laidNext ws l r .start ≤ length ws
       go false p b q c s d t = rw (p, laidNext) (omega arith)
       go true p false q c s d t = rw (p, q, laidNext) (omega arith)
       go true p true q false s d t = rw (p, q, s, laidNext) (omega arith)
@@ -127,7 +127,7 @@ module _ (ws : List ℕ) (rs : List RungRecord) where
 
     heads : holdsFrom (l .start) (drop i rs) (drop (l .start) ws)
         ≡ ((eqb (r .offset) (l .start) && leb (r .length) (length ws - l .start))
-        && (owes 1 1 (slice (l .start) (l .start + r .length) ws) && holdsFrom (l .start + r .length) (drop (suc i) rs) (drop (l .start + r .length) ws)))
+        && (completes 1 1 (slice (l .start) (l .start + r .length) ws) && holdsFrom (l .start + r .length) (drop (suc i) rs) (drop (l .start + r .length) ws)))
     heads = holds-next ws rs (l .start) i within r (drop-cons rs i noRecord h)
 
     fails : notLaid ≡ laidNext ws l r → rest i l ≡ false → rest (suc i) (laidNext ws l r) ≡ rest i l
@@ -136,11 +136,11 @@ module _ (ws : List ℕ) (rs : List RungRecord) where
 
     rest-next : rest (suc i) (laidNext ws l r) ≡ rest i l
     unfolding rest
-    rest-next = go (l .whole) refl (ℕ-discrete (r .offset) (l .start)) (le-or-lt (r .length) (length ws - l .start)) (owes 1 1 (slice (l .start) (l .start + r .length) ws)) refl
+    rest-next = go (l .whole) refl (ℕ-discrete (r .offset) (l .start)) (le-or-lt (r .length) (length ws - l .start)) (completes 1 1 (slice (l .start) (l .start + r .length) ws)) refl
       where
         go : (a : Bool) → l .whole ≡ a → Dec (r .offset ≡ l .start) → Side (r .length) (length ws - l .start)
-            → (d : Bool) → owes 1 1 (slice (l .start) (l .start + r .length) ws) ≡ d → rest (suc i) (laidNext ws l r) ≡ rest i l
-        go false p e s d t = fails (laid-broken ws l r p) (rw p)
+            → (d : Bool) → completes 1 1 (slice (l .start) (l .start + r .length) ws) ≡ d → rest (suc i) (laidNext ws l r) ≡ rest i l
+        go false p e s d t = fails (laid-not-whole ws l r p) (rw p)
         go true p (no e) s d t = fails (laid-off ws l r p e) (rw (p, heads, ne-eqb _ _ e))
         go true p (yes e) (past s) d t = fails (laid-long ws l r p e s) (rw (p, heads, eq-eqb _ _ e, lt-leb (r .length) (length ws - l .start) s))
         go true p (yes e) (upTo s) false t = fails (laid-wrong ws l r p e within s t) (rw (p, heads, eq-eqb _ _ e, le-leb (r .length) (length ws - l .start) s, t))
@@ -154,16 +154,16 @@ module _ (ws : List ℕ) (rs : List RungRecord) where
 
   pub laid-holds : laidWhole (askedTo (length rs)) (length ws) (laidUpto ws (askedTo (length rs)) rs) ≡ longHolds ws rs
   unfolding askedTo longHolds laidWhole rest
-  laid-holds = go (ltb mostRungs (length rs)) refl
+  laid-holds = go (ltb mostRecords (length rs)) refl
     where
       all : 1 ≤ length rs → laidWhole (length rs) (length ws) (laidUpto ws (length rs) rs) ≡ holdsLadder (record { words = ws; records = rs })
       all h =
           rw (lt-ltb 0 (length rs) (omega arith), ← (holds-last ws rs (laidUpto ws (length rs) rs .start) (length rs) (laid-start (length rs)) (omega arith)))
           (laid-rest (length rs) (omega arith) ∙ sym (holds-counted rs ws h))
 
-      go : (b : Bool) → ltb mostRungs (length rs) ≡ b → laidWhole (askedTo (length rs)) (length ws) (laidUpto ws (askedTo (length rs)) rs) ≡ longHolds ws rs
+      go : (b : Bool) → ltb mostRecords (length rs) ≡ b → laidWhole (askedTo (length rs)) (length ws) (laidUpto ws (askedTo (length rs)) rs) ≡ longHolds ws rs
       go false q = rw (q, askedTo, longHolds)
-      go true q = let h = ltb→lt mostRungs (length rs) (rw q tt) in rw (q, askedTo, longHolds) (all (omega arith))
+      go true q = let h = ltb→lt mostRecords (length rs) (rw q tt) in rw (q, askedTo, longHolds) (all (omega arith))
 
 -- ---- after the loop
 
@@ -173,9 +173,9 @@ module _ (upto words : ℕ) (l : Laid) where
   whole-none h = rw (le-ltb 0 upto (omega arith))
 
   module _ (h : 1 ≤ upto) where
-    pub whole-broken : l .whole ≡ false → false ≡ laidWhole upto words l
+    pub not-whole : l .whole ≡ false → false ≡ laidWhole upto words l
     unfolding laidWhole
-    whole-broken e = rw (lt-ltb 0 upto (omega arith), e)
+    not-whole e = rw (lt-ltb 0 upto (omega arith), e)
 
     pub whole-ends : l .whole ≡ true → eqb (l .start) words ≡ laidWhole upto words l
     unfolding laidWhole
@@ -185,9 +185,9 @@ module _ (upto words : ℕ) (l : Laid) where
 
 module _ (vars : ℕ) (asked : Bool) where
   -- the answer to question 4 of such a row
-  told : (ws : List ℕ) (rs : List RungRecord) → mostRungs < length rs → asked ≡ longHolds ws rs → holdsLadder (record { words = ws; records = rs }) ≡ asked
+  told : (ws : List ℕ) (rs : List RungRecord) → mostRecords < length rs → asked ≡ longHolds ws rs → holdsLadder (record { words = ws; records = rs }) ≡ asked
   unfolding longHolds
-  told ws rs h e = sym (e ∙ rw (lt-ltb mostRungs (length rs) h))
+  told ws rs h e = sym (e ∙ rw (lt-ltb mostRecords (length rs) h))
 
   pub long-variables : varsInRange vars ≡ false → LongRefused vars asked Variables
   unfolding refusalOf ladderAnswer firstNo question1 ask
@@ -195,11 +195,11 @@ module _ (vars : ℕ) (asked : Bool) where
 
   module _ (y : varsInRange vars ≡ true) where
     pub long-kept : asked ≡ false → LongRefused vars asked KeptCase
-    unfolding refusalOf ladderAnswer firstNo question1 question4 ask
+    unfolding refusalOf ladderAnswer ladderQuestions firstNo question1 question4 ask
     long-kept n = record { same = λ ws rs h e. let z = told ws rs h e ∙ n in rw (y, z) }
 
     pub long-sizes : asked ≡ true → LongRefused vars asked Sizes
-    unfolding refusalOf ladderAnswer firstNo question1 question4 question5 ask sizesInRange
+    unfolding refusalOf ladderAnswer ladderQuestions firstNo question1 question4 question5 ask sizesInRange
     long-sizes a = record {
       same = λ ws rs h e.
           let z = told ws rs h e ∙ a in
@@ -210,5 +210,5 @@ module _ (vars : ℕ) (asked : Bool) where
         many : (ws : List ℕ) (rs : List RungRecord) → holdsLadder (record { words = ws; records = rs }) ≡ true → length rs ≡ length (ladderOf (record { words = ws; records = rs }))
         many ws rs z = kept-many (record { words = ws; records = rs }) (ladderOf (record { words = ws; records = rs })) (holds (record { words = ws; records = rs }) (rw z) .0)
 
-        too-many : (gs : Ladder) → mostRungs < length gs → sizesInRange gs ≡ false
-        too-many gs h = rw (lt-leb (length gs) mostRungs h)
+        too-many : (gs : Ladder) → mostRecords < length gs → sizesInRange gs ≡ false
+        too-many gs h = rw (lt-leb (length gs) mostRecords h)

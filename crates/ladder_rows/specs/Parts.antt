@@ -7,16 +7,16 @@ use mathlib.Core.List.{List}
 use lib.Dec.{eqb, leb, ltb}
 use lib.ListN.{length}
 use lib.Seq.{slice}
-use Rattle.questions.specs.Refusals.{refusalOf, answerOf}
+use Rattle.questions.specs.Refusals.{refusalOf, verdictAnswer}
 use Rattle.questions.specs.declared.Refusal.{Refusal}
 use Rattle.questions.specs.declared.Verdict.{Verdict}
 use Rattle.questions.specs.declared.Verdict.the-variants.{Accepted, Refused}
-use Rattle.rungs.specs.Records.{RungRecord, labels, offsets}
-use Rattle.rows.specs.Rows.{mostRungs, gathered}
+use Rattle.rungs.specs.Records.{RungRecord, labels, offsets, mostRecords}
+use Rattle.rows.specs.Parts.{gathered}
 use Rattle.rows.specs.declared.Rows.{Rows}
 use Rattle.drawing.specs.Questions.{holdsLadder, ladderAnswer}
-use Rattle.ladder.specs.LadderScan.{scanAnswer}
-use Rattle.ladder.specs.Owing.{owes}
+use Rattle.ladder.specs.LadderScan.{scanQuestions}
+use Rattle.ladder.specs.Pending.{completes}
 use Rattle.ladder.specs.Walking.{RungRun}
 use Rattle.ladder.specs.Scanned.{Scanned}
 use Rattle.ladder.specs.declared.LadderScanned.{LadderScanned}
@@ -31,17 +31,17 @@ use Rattle.ladder_rows.specs.declared.Way.{Way}
 
 -- "no", of a row of 256 or fewer
 unfoldable pub longHolds : List ℕ → List RungRecord → Bool
-longHolds ws rs = ltb mostRungs (length rs) && holdsLadder (record { words = ws; records = rs })
+longHolds ws rs = ltb mostRecords (length rs) && holdsLadder (record { words = ws; records = rs })
 
 unfoldable pub askedTo : ℕ → ℕ
-askedTo n = elim (ltb mostRungs n) [ true ↦ n | false ↦ 0 ]
+askedTo n = elim (ltb mostRecords n) [ true ↦ n | false ↦ 0 ]
 
 unfoldable pub laidFirst : Laid
 laidFirst = record { start = 0; whole = true }
 
 unfoldable pub laidNext : List ℕ → Laid → RungRecord → Laid
 laidNext ws l r =
-    elim (l .whole && (eqb (r .offset) (l .start) && (leb (l .start + r .length) (length ws) && owes 1 1 (slice (l .start) (l .start + r .length) ws)))) [
+    elim (l .whole && (eqb (r .offset) (l .start) && (leb (l .start + r .length) (length ws) && completes 1 1 (slice (l .start) (l .start + r .length) ws)))) [
       | true ↦ record { start = l .start + r .length; whole = true }
       | false ↦ record { start = 0; whole = false }
     ]
@@ -51,12 +51,12 @@ laidWhole upto words l = ltb 0 upto && (l .whole && eqb (l .start) words)
 
 -- what the first question says "no" to in such a row
 pub record LongRefused (vars : ℕ) (holds : Bool) (r : Refusal) : Type 0 where
-  pub same : (ws : List ℕ) (rs : List RungRecord) → mostRungs < length rs → holds ≡ longHolds ws rs → ladderAnswer vars (record { words = ws; records = rs }) ≡ some (refusalOf r)
+  pub same : (ws : List ℕ) (rs : List RungRecord) → mostRecords < length rs → holds ≡ longHolds ws rs → ladderAnswer vars (record { words = ws; records = rs }) ≡ some (refusalOf r)
 
 -- ---- the questions
 
 pub record RowAsked (vars : ℕ) (ws : List ℕ) (rows : Rows) (long : Bool) (t : List ℕ) (w : ℕ) (r : Verdict) : Type 0 where
-  pub same : (rs : List RungRecord) → rows ≡ gathered rs → long ≡ longHolds ws rs → answerOf r ≡ scanAnswer vars (record { words = ws; records = rs }) t w
+  pub same : (rs : List RungRecord) → rows ≡ gathered rs → long ≡ longHolds ws rs → verdictAnswer r ≡ scanQuestions vars (record { words = ws; records = rs }) t w
 
 -- ---- the scan
 

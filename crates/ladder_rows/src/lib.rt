@@ -4,18 +4,15 @@ ghost use mathlib.Core.Path.{_≡_};
 ghost use lib.ListN.{length};
 ghost use Prim.Native.Nat.{_+_, _≤_, _<_, _^_};
 ghost use Rattle.rows.specs.Rows.{recordOf, recordsOf};
-ghost use Rattle.ladder.specs.LadderScan.{ladderScan, LadderScanDone};
-ghost use Rattle.ladder_rows.specs.Parts.{longHolds, LongRefused, laidFirst, laidNext, laidWhole, askedTo};
-ghost use Rattle.ladder_rows.specs.Parts.{RowAsked, Entered, goesOn, begun, arrived, answered, RowScanned};
+ghost use Rattle.ladder.specs.LadderScan.{callLadderScan, LadderScanDone};
+ghost use Rattle.ladder_rows.specs.Parts.{longHolds, LongRefused, laidFirst, laidNext, laidWhole, askedTo, RowAsked};
+ghost use Rattle.ladder_rows.specs.Parts.{Entered, goesOn, begun, arrived, answered, RowScanned};
 use ladder::LadderScanned;
 use ladder::walk::Ran;
 use questions::Refusal;
 use questions::Verdict;
 use rows::Rows;
 use rows::Rung;
-
-// At most 256 rungs.
-const MOST_RUNGS: usize = 256;
 
 // How far a row's words have been found to be rungs laid one after the other.
 pub struct Laid {
@@ -43,7 +40,7 @@ pub struct Way {
 fn asked_to(n: usize) -> usize
     ensures { λ r. ⌜ r ≡ askedTo n ⌝ }
 {
-    if MOST_RUNGS < n { n } else { 0 }
+    if rungs::MOST_RECORDS < n { n } else { 0 }
 }
 
 fn laid_first() -> Laid
@@ -130,14 +127,14 @@ fn ask(vars: u32, words: &[u32], rows: Rows, long: bool, table: &mut [u8], watch
     ensures { λ r. ⌜ RowAsked vars (now (words .entry)) rows long (now (table .entry)) watchdog r
         × (now (table .exit) ≡ now (table .entry)) ⌝ }
 {
-    if MOST_RUNGS < rows.n {
+    if rungs::MOST_RECORDS < rows.n {
         return Verdict::Refused(long_refusal(vars, long));
     }
     let labels = rows.labels;
     let offsets = rows.offsets;
     let lengths = rows.lengths;
     let m = rows.n;
-    ladder::scan_answer(
+    ladder::scan_questions(
         vars,
         words,
         &labels[..m],
@@ -250,7 +247,7 @@ pub fn ladder_scan(
     table: &mut [u8],
     watchdog: u32,
 ) -> LadderScanned
-    ensures { λ r. ⌜ LadderScanDone (ladderScan vars
+    ensures { λ r. ⌜ LadderScanDone (callLadderScan vars
         (record { words = now (words .entry); records = recordsOf (now (row .entry)) }) (now (table .entry)) watchdog)
         r (now (table .exit)) ⌝ }
 {

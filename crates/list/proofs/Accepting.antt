@@ -7,10 +7,10 @@ use native.Mathlib.Omega.{arith}
 use lib.Dec.{T, ltb}
 use lib.ListN.{length, getD}
 use Rattle.questions.specs.Tests.{all}
-use Rattle.rungs.specs.Records.{laid, rowOf}
+use Rattle.rungs.specs.Records.{laid, rowOf, mostRecords}
 use Rattle.rungs.specs.Laws.Rows.{Even, row-even, row-length}
 use Rattle.list.specs.Instruction.{decodeCode, codeOf}
-use Rattle.list.specs.Questions.{mostInstructions, mostRecords, listInRange}
+use Rattle.list.specs.Questions.{mostInstructions, listInRange}
 use Rattle.list.specs.Parts.{instrOf, Decodes}
 use Rattle.list.specs.Laws.InRange.{list-in-range}
 

@@ -6,56 +6,45 @@ use mathlib.Core.Path.{_≡_, sym, _∙_}
 use mathlib.Core.Bool.{true, false}
 use mathlib.Core.Option.{none, some}
 use mathlib.Core.List.{List, [], _∷_}
-use lib.Dec.{T, leb, leb→le}
+use lib.Dec.{T, leb}
 use lib.ListN.{length}
 use lib.Seq.{sets-eq}
 use borrow.Author.Tests.{le-leb, lt-leb}
-use mir.Facts.{and-yes}
-use Rattle.questions.specs.Questions.{Answer, mostVariables, ask, firstNo, varsInRange, question1, question12, mostInstructionWatchdog, longEnough, question13}
+use Rattle.questions.specs.Questions.{Answer, ask, firstNo, varsInRange, question1, question12, mostInstructionWatchdog, longEnough, question13}
 use Rattle.questions.specs.Tests.{all}
-use Rattle.questions.specs.Refusals.{refusalOf, answerOf}
+use Rattle.questions.specs.Refusals.{refusalOf, verdictAnswer}
 use Rattle.questions.specs.declared.Refusal.{Refusal as RefusalCase}
 use Rattle.questions.specs.declared.Refusal.the-variants.{Variables, List as ListCase, Table, Watchdog, Buffer as BufferCase}
 use Rattle.questions.specs.declared.Verdict.the-variants.{Accepted, Refused}
-use Rattle.table.specs.State.{State}
+use Rattle.table.specs.State.{State, stateOf}
 use Rattle.table.specs.Questions.{tableInRange, question11}
 use Rattle.rungs.specs.Records.{RungRecord, rowOf}
 use Rattle.rungs.specs.Laws.Rows.{row-even, row-offsets}
-use Rattle.questions.specs.Laws.Tests.{T→true}
 use Rattle.questions.specs.Laws.Answers.{ask-passed, first-yes, later-yes}
-use Rattle.list.specs.Listing.{fixedNames, listingText, listing, ListingDone}
-use Rattle.list.specs.Listing.{answerOf as listedAnswerOf}
+use Rattle.list.specs.Listing.{fixedNames, listingText, listing, listedAnswer, ListingDone}
 use Rattle.list.specs.declared.Listed.the-variants.{Written, Refused as RefusedListing}
 use Rattle.printing.specs.Put.{Put}
 use Rattle.list.specs.Parts.{Ran}
 use Rattle.list.specs.Laws.Scans.{scan-in-range, scan-scans}
 use Rattle.list.specs.Laws.Refusing.{first-accepted, scan-asked-list}
 use Rattle.list.specs.Questions.{listInRange, question10, listAnswer}
-use Rattle.list.specs.ListScan.{listOf, scanAnswer, listScan, ListScanDone}
+use Rattle.list.specs.ListScan.{listOf, scanQuestions, callListScan, ListScanDone}
 use Rattle.list.specs.declared.ListScanned.{ListScanned}
 
-pub few-variables : (vars : ℕ) → varsInRange vars ≡ true → vars ≤ mostVariables
-unfolding varsInRange
-few-variables vars e = leb→le vars mostVariables (and-yes (leb 1 vars) (leb vars mostVariables) (rw e tt) .1)
-
 module _ (vars : ℕ) (ws : List ℕ) (rs : List RungRecord) where
-  pub refused-variables : varsInRange vars ≡ false → answerOf (Refused Variables) ≡ listAnswer vars ws rs
-  unfolding answerOf refusalOf listAnswer firstNo question1 ask
+  pub refused-variables : varsInRange vars ≡ false → verdictAnswer (Refused Variables) ≡ listAnswer vars ws rs
+  unfolding verdictAnswer refusalOf listAnswer firstNo question1 ask
   refused-variables e = rw e
 
-  pub refused-list : varsInRange vars ≡ true → listInRange vars ws rs ≡ false → answerOf (Refused ListCase) ≡ listAnswer vars ws rs
-  unfolding answerOf refusalOf listAnswer firstNo question1 question10 ask
+  pub refused-list : varsInRange vars ≡ true → listInRange vars ws rs ≡ false → verdictAnswer (Refused ListCase) ≡ listAnswer vars ws rs
+  unfolding verdictAnswer refusalOf listAnswer firstNo question1 question10 ask
   refused-list e f = rw (e, f)
 
-  pub accepted-list : varsInRange vars ≡ true → listInRange vars ws rs ≡ true → answerOf Accepted ≡ listAnswer vars ws rs
-  unfolding answerOf listAnswer firstNo question1 question10 ask
+  pub accepted-list : varsInRange vars ≡ true → listInRange vars ws rs ≡ true → verdictAnswer Accepted ≡ listAnswer vars ws rs
+  unfolding verdictAnswer listAnswer firstNo question1 question10 ask
   accepted-list e f = rw (e, f)
 
--- both questions got a "yes"
-pub accepted-vars : (vars : ℕ) (ws : List ℕ) (rs : List RungRecord) → listAnswer vars ws rs ≡ none → vars ≤ mostVariables
-unfolding listAnswer question1
-accepted-vars vars ws rs e = few-variables vars (T→true (varsInRange vars) (ask-passed 1 (varsInRange vars) (first-yes (question1 vars) (question10 vars ws rs ∷ []) e)))
-
+-- question 10 got a "yes"
 pub accepted-range : (vars : ℕ) (ws : List ℕ) (rs : List RungRecord) → listAnswer vars ws rs ≡ none → T (listInRange vars ws rs)
 unfolding listAnswer question10
 accepted-range vars ws rs e = ask-passed 10 (listInRange vars ws rs) (first-yes (question10 vars ws rs) [] (later-yes (question1 vars) (question10 vars ws rs ∷ []) e))
@@ -64,32 +53,32 @@ accepted-range vars ws rs e = ask-passed 10 (listInRange vars ws rs) (first-yes 
 
 module _ (vars : ℕ) (ws : List ℕ) (rs : List RungRecord) (t : List ℕ) (w : ℕ) where
   abbrev s : State
-  s = record { vars = vars; bytes = t }
+  s = stateOf vars t
 
-  pub asked-list : (refusal : RefusalCase) → listAnswer vars ws rs ≡ some (refusalOf refusal) → answerOf (Refused refusal) ≡ scanAnswer vars ws rs t w
-  unfolding answerOf
+  pub asked-list : (refusal : RefusalCase) → listAnswer vars ws rs ≡ some (refusalOf refusal) → verdictAnswer (Refused refusal) ≡ scanQuestions vars ws rs t w
+  unfolding verdictAnswer
   asked-list refusal e = sym (scan-asked-list vars ws rs t w (refusalOf refusal) e)
 
   module _ (ok : listAnswer vars ws rs ≡ none) where
-    rest : scanAnswer vars ws rs t w ≡ firstNo (question11 s ∷ question12 mostInstructionWatchdog w ∷ [])
-    unfolding listAnswer scanAnswer
+    rest : scanQuestions vars ws rs t w ≡ firstNo (question11 s ∷ question12 mostInstructionWatchdog w ∷ [])
+    unfolding listAnswer scanQuestions
     rest = first-accepted (question1 vars) (question10 vars ws rs) _ ok
 
-    pub asked-table : tableInRange s ≡ false → answerOf (Refused Table) ≡ scanAnswer vars ws rs t w
-    unfolding firstNo question11 ask refusalOf answerOf
+    pub asked-table : tableInRange s ≡ false → verdictAnswer (Refused Table) ≡ scanQuestions vars ws rs t w
+    unfolding firstNo question11 ask refusalOf verdictAnswer
     asked-table e = sym (rest ∙ rw e)
 
-    pub asked-watchdog : tableInRange s ≡ true → leb w mostInstructionWatchdog ≡ false → answerOf (Refused Watchdog) ≡ scanAnswer vars ws rs t w
-    unfolding firstNo question11 question12 ask refusalOf answerOf
+    pub asked-watchdog : tableInRange s ≡ true → leb w mostInstructionWatchdog ≡ false → verdictAnswer (Refused Watchdog) ≡ scanQuestions vars ws rs t w
+    unfolding firstNo question11 question12 ask refusalOf verdictAnswer
     asked-watchdog e f = sym (rest ∙ rw (e, f))
 
-    pub asked-accepted : tableInRange s ≡ true → leb w mostInstructionWatchdog ≡ true → answerOf Accepted ≡ scanAnswer vars ws rs t w
-    unfolding firstNo question11 question12 ask answerOf
+    pub asked-accepted : tableInRange s ≡ true → leb w mostInstructionWatchdog ≡ true → verdictAnswer Accepted ≡ scanQuestions vars ws rs t w
+    unfolding firstNo question11 question12 ask verdictAnswer
     asked-accepted e f = sym (rest ∙ rw (e, f))
 
 -- the scan of what question 10 took
-pub scanned-row : (vars : ℕ) (ws ls os ns t : List ℕ) (w : ℕ) (r : ListScanned) (u : List ℕ) → scanAnswer vars ws (rowOf ls os ns) t w ≡ none → Ran ws os t w r u
-    → ListScanDone (listScan vars ws (rowOf ls os ns) t w) r u
+pub scanned-row : (vars : ℕ) (ws ls os ns t : List ℕ) (w : ℕ) (r : ListScanned) (u : List ℕ) → scanQuestions vars ws (rowOf ls os ns) t w ≡ none → Ran ws os t w r u
+    → ListScanDone (callListScan vars ws (rowOf ls os ns) t w) r u
 scanned-row vars ws ls os ns t w r u ok ran =
     let e = row-even ls os ns (scan-in-range vars ws (rowOf ls os ns) t w ok .some-record) in
     scan-scans vars ws (rowOf ls os ns) t w r u ok (rw (row-offsets ls os ns e) ran)
@@ -104,7 +93,7 @@ module _ (vars : ℕ) (ws : List ℕ) (rs : List RungRecord) (out : List ℕ) wh
   answers = question1 vars ∷ question10 vars ws rs ∷ question13 (record { needed = length text; lent = length out } ∷ []) ∷ []
 
   refuses-listing : (refusal : RefusalCase) → firstNo answers ≡ some (refusalOf refusal) → ListingDone (listing fixedNames vars ws rs out) (RefusedListing refusal) out
-  unfolding listing listedAnswerOf
+  unfolding listing listedAnswer
   refuses-listing refusal e = record { answer = rw (e, listing); same-buffer = rw (e, listing) }
 
   module _ (ok : listAnswer vars ws rs ≡ none) where
@@ -120,7 +109,7 @@ module _ (vars : ℕ) (ws : List ℕ) (rs : List RungRecord) (out : List ℕ) wh
 
     pub listing-written : (n : ℕ) (u : List ℕ) → Put [] 0 (listingText fixedNames vars (listOf ws rs)) n u → n ≤ length out
         → (r : ℕ) (v : List ℕ) → Put out 0 (listingText fixedNames vars (listOf ws rs)) r v → ListingDone (listing fixedNames vars ws rs out) (Written r) v
-    unfolding firstNo question13 all longEnough ask listing listedAnswerOf
+    unfolding firstNo question13 all longEnough ask listing listedAnswer
     listing-written n u p h r v w =
         let e = p .end in
         let f = w .end in

@@ -3,31 +3,32 @@ use mathlib.Core.Path.{_≡_, refl, sym, ap, _∙_}
 use mathlib.Core.Bool.{Bool, true, false}
 use mathlib.Core.Option.{Option, none, some}
 use mathlib.Core.List.{List, [], _∷_, _++_, map, flatMap, append-assoc}
-use Prim.Native.Nat.{ℕ, zero, suc, _+_, _-_, _*_, _/_, _%_, _≤_, _<_}
+use Prim.Native.Nat.{ℕ, zero, suc, _+_, _-_, _*_, _≤_, _<_}
 use native.Mathlib.Nat.{add-zero, suc-add, zero-add}
 use native.Mathlib.Numerals.{add-one}
 use native.Mathlib.Omega.{arith}
-use borrow.Author.Tests.{eq-eqb, ne-eqb, lt-ltb, le-ltb, ltb-true, ltb-false, eqb-true, eqb-false}
+use borrow.Author.Tests.{eq-eqb, ne-eqb, lt-ltb, le-ltb, ltb-true, ltb-false}
 use mir.Facts.{and-yes}
 use lib.Dec.{T, eqb, ltb, leb, eqb→eq, ltb→lt, leb→le}
 use lib.ListN.{length, getD, take, drop, length-append, drop-of-length-le}
 use lib.Seq.{slice, slice-empty, slice-cons, length-slice, take-nil}
 use Rattle.questions.specs.Laws.Maps.{take-map, drop-map}
-use Rattle.questions.specs.Bytes.{bytes, decimal}
+use Rattle.questions.specs.Bytes.{byte, bytes, decimal}
 use Rattle.questions.specs.Tests.{all}
 use Rattle.questions.specs.Laws.Tests.{all-head, all-tail}
-use Rattle.rungs.specs.Words.{operands}
+use Rattle.rungs.specs.Words.{operands, numberOf, operandOf}
 use Rattle.rungs.specs.Records.{RungRecord, laid, rowOf}
-use Rattle.list.specs.Instruction.{Instr, LD, LDN, ST, STN, AND, ANDN, OR, ORN, XOR, XORN, NOT, JMP, JMPC, JMPCN, Operand, tableIndex, noOperand, instructionIndex, operand, operandFits, instrFits, opOf, operandNumber, instrWord, decodeInstr, codeOf}
+use Rattle.list.specs.Instruction.{Instr, LD, LDN, ST, STN, AND, ANDN, OR, ORN, XOR, XORN, NOT, JMP, JMPC, JMPCN, Operand, tableIndex, noOperand, instructionIndex, operand, operandFits, instrFits, opOf, operandNumber, instrWord, onlyNot, ops, decodeInstr, codeOf, OperandSort, tableSort, nothingSort, instructionSort, noSort, sortOf, operandSort}
 use Rattle.list.specs.Laws.Decoding.{instr-decoded}
 use Rattle.list.specs.Questions.{listInRange}
 use Rattle.list.specs.ListScan.{listOf}
 use Rattle.list.specs.Listing.{fixedNames, trimmed, nameOf, operandText, instrLine, labelLine, rungLines, listingLines, ended, listingText}
 use Rattle.rungs.specs.Laws.Rows.{row-length, row-at}
 use Rattle.list.proofs.Accepting.{ListAccepted, list-accepted}
+use Rattle.list.proofs.Steps.{op-known}
 use Rattle.printing.specs.Put.{Put}
 use Rattle.printing.specs.Laws.Puts.{put-then, put-as, Left, all-left, left-none, left-more, decimal-long}
-use Rattle.list.specs.Parts.{instrOf, Decodes, wordLine, wordLines, operandBy, RungReady}
+use Rattle.list.specs.Parts.{instrOf, Decodes, wordLine, wordLines, operandIn, operandBy, RungReady}
 
 -- The names.
 
@@ -84,37 +85,38 @@ module _ {l : List ℕ} {at : ℕ} {name x : List ℕ} {k : ℕ} (h : Naming l a
         short = h .short;
       }
 
--- The operands, by op.
+-- The operands, by the sort of their op.
 
 module _ (vars op x : ℕ) where
-  pub operand-none : op ≡ 11 → operandBy vars op x ≡ []
-  unfolding operandBy operandText
-  operand-none h = rw (le-ltb op 11 (omega arith), eq-eqb op 11 h)
+  pub operand-none : nothingSort ≡ operandSort op → operandBy vars op x ≡ []
+  unfolding operandBy operandIn operandText
+  operand-none h = rw (← h) refl
 
-  pub operand-index : 11 < op → operandBy vars op x ≡ 32 ∷ 64 ∷ decimal x
-  unfolding operandBy operandText
-  operand-index h = rw (le-ltb op 11 (omega arith), ne-eqb op 11 (λ e. omega arith))
+  pub operand-absent : noSort ≡ operandSort op → operandBy vars op x ≡ []
+  unfolding operandBy operandIn operandText
+  operand-absent h = rw (← h) refl
 
-  pub operand-variable : op < 11 → x < vars → operandBy vars op x ≡ 32 ∷ 118 ∷ decimal x
-  unfolding operandBy operandText
-  operand-variable h l = rw (lt-ltb op 11 h, operandText, lt-ltb x vars l)
+  pub operand-index : instructionSort ≡ operandSort op → operandBy vars op x ≡ byte " " ∷ byte "@" ∷ decimal x
+  unfolding operandBy operandIn operandText
+  operand-index h = rw (← h) refl
 
-  pub operand-scratch : op < 11 → vars ≤ x → operandBy vars op x ≡ 32 ∷ 116 ∷ decimal (x - vars)
-  unfolding operandBy operandText
-  operand-scratch h l = rw (lt-ltb op 11 h, operandText, le-ltb x vars l)
+  pub operand-variable : tableSort ≡ operandSort op → x < vars → operandBy vars op x ≡ byte " " ∷ byte "v" ∷ decimal x
+  unfolding operandBy operandIn operandText
+  operand-variable h l = rw (← h) (rw (operandText, lt-ltb x vars l) refl)
 
-pub operand-long : (vars op x : ℕ) → x < 65536 → length (operandBy vars op x) ≤ 7
-operand-long vars op x h = go (ltb op 11) refl (ltb x vars) refl (eqb op 11) refl
+  pub operand-scratch : tableSort ≡ operandSort op → vars ≤ x → operandBy vars op x ≡ byte " " ∷ byte "t" ∷ decimal (x - vars)
+  unfolding operandBy operandIn operandText
+  operand-scratch h l = rw (← h) (rw (operandText, le-ltb x vars l) refl)
+
+pub operand-long : (vars op x : ℕ) → x < operands → length (operandBy vars op x) ≤ 7
+operand-long vars op x h = go (operandSort op) refl (ltb x vars) refl
   where
-    go : (a : Bool) → ltb op 11 ≡ a → (b : Bool) → ltb x vars ≡ b → (c : Bool) → eqb op 11 ≡ c → length (operandBy vars op x) ≤ 7
-    go true p true q c r = let k = decimal-long x h in rw (operand-variable vars op x (ltb-true op 11 p) (ltb-true x vars q)) (omega arith)
-    go true p false q c r = let k = decimal-long (x - vars) (omega arith) in rw (operand-scratch vars op x (ltb-true op 11 p) (ltb-false x vars q)) (omega arith)
-    go false p b q true r = rw (operand-none vars op x (eqb-true op 11 r)) (omega arith)
-    go false p b q false r =
-        let g = ltb-false op 11 p in
-        let k = decimal-long x h in
-        let n = eqb-false op 11 r in
-        rw (operand-index vars op x (omega arith)) (omega arith)
+    go : (s : OperandSort) → s ≡ operandSort op → (b : Bool) → ltb x vars ≡ b → length (operandBy vars op x) ≤ 7
+    go tableSort p true q = let k = decimal-long x h in rw (operand-variable vars op x p (ltb-true x vars q)) (omega arith)
+    go tableSort p false q = let k = decimal-long (x - vars) (omega arith) in rw (operand-scratch vars op x p (ltb-false x vars q)) (omega arith)
+    go nothingSort p b q = rw (operand-none vars op x p) (omega arith)
+    go instructionSort p b q = let k = decimal-long x h in rw (operand-index vars op x p) (omega arith)
+    go noSort p b q = rw (operand-absent vars op x p) (omega arith)
 
 -- The lines of words.
 
@@ -125,7 +127,7 @@ number-fits noOperand h = omega arith
 number-fits (instructionIndex j) h = ltb→lt j operands h
 
 operand-by-op : (vars : ℕ) (i : Instr) → operandText vars (operand i) ≡ operandBy vars (opOf i) (operandNumber (operand i))
-unfolding operand opOf operandNumber operandBy
+unfolding operand opOf operandNumber operandBy operandIn operandSort ops onlyNot sortOf
 operand-by-op vars (LD x) = refl
 operand-by-op vars (LDN x) = refl
 operand-by-op vars (ST x) = refl
@@ -141,34 +143,18 @@ operand-by-op vars (JMP j) = refl
 operand-by-op vars (JMPC j) = refl
 operand-by-op vars (JMPCN j) = refl
 
-op-in-table : (i : Instr) → (1 ≤ opOf i) × (opOf i ≤ 14)
-unfolding opOf
-op-in-table (LD x) = (omega arith, omega arith)
-op-in-table (LDN x) = (omega arith, omega arith)
-op-in-table (ST x) = (omega arith, omega arith)
-op-in-table (STN x) = (omega arith, omega arith)
-op-in-table (AND x) = (omega arith, omega arith)
-op-in-table (ANDN x) = (omega arith, omega arith)
-op-in-table (OR x) = (omega arith, omega arith)
-op-in-table (ORN x) = (omega arith, omega arith)
-op-in-table (XOR x) = (omega arith, omega arith)
-op-in-table (XORN x) = (omega arith, omega arith)
-op-in-table NOT = (omega arith, omega arith)
-op-in-table (JMP j) = (omega arith, omega arith)
-op-in-table (JMPC j) = (omega arith, omega arith)
-op-in-table (JMPCN j) = (omega arith, omega arith)
-
-word-parts : (w : ℕ) (d : Decodes w) → (w / 65536 ≡ opOf (d .instr)) × (w % 65536 ≡ operandNumber (operand (d .instr)))
+word-parts : (w : ℕ) (d : Decodes w) → (numberOf w ≡ opOf (d .instr)) × (operandOf w ≡ operandNumber (operand (d .instr)))
 unfolding instrWord instrFits
 word-parts w d =
     let s = instr-decoded w (d .instr) (d .same) in
     let f = number-fits (operand (d .instr)) (s .1) in
     (omega (arith, s .0), omega (arith, s .0))
 
-pub word-op : (w : ℕ) → Decodes w → (1 ≤ w / 65536) × (w / 65536 ≤ 14)
-word-op w d = rw (word-parts w d .0) (op-in-table (d .instr))
+pub word-op : (w : ℕ) → Decodes w → (1 ≤ numberOf w) × (numberOf w ≤ length fixedNames)
+unfolding fixedNames bytes
+word-op w d = op-known w (d .instr) (d .same)
 
-pub word-line : (vars w : ℕ) → Decodes w → wordLine vars w ≡ nameOf fixedNames (w / 65536) ++ operandBy vars (w / 65536) (w % 65536) ++ 10 ∷ []
+pub word-line : (vars w : ℕ) → Decodes w → wordLine vars w ≡ nameOf fixedNames (numberOf w) ++ operandBy vars (numberOf w) (operandOf w) ++ 10 ∷ []
 unfolding wordLine instrOf ended instrLine
 word-line vars w d = rw (d .same, instrOf, word-parts w d .0, word-parts w d .1, operand-by-op vars (d .instr))
 
@@ -182,8 +168,8 @@ word-long vars w = go (decodeInstr w) refl
     go : (x : Option Instr) → decodeInstr w ≡ x → length (wordLine vars w) ≤ 14
     go none e = no-word-long vars w e
     go (some i) e =
-        let n = name-long (w / 65536) in
-        let o = operand-long vars (w / 65536) (w % 65536) (omega arith) in
+        let n = name-long (numberOf w) in
+        let o = operand-long vars (numberOf w) (operandOf w) (omega arith) in
         rw (word-line vars w (record { instr = i; same = e }), length-append, length-append) (omega arith)
 
 pub words-long : (vars : ℕ) (ws : List ℕ) → length (wordLines vars ws) ≤ 14 * length ws
@@ -285,7 +271,7 @@ listing-start vars ws ls os ns l h =
       passed = omega arith;
     }
 
-label-long : (n : ℕ) → n < 65536 → length (ended (labelLine n)) ≤ 8
+label-long : (n : ℕ) → n < operands → length (ended (labelLine n)) ≤ 8
 unfolding ended labelLine
 label-long n h = let d = decimal-long n h in simp length-append (omega arith)
 
@@ -296,13 +282,12 @@ module _ {vars : ℕ} {ws ls os ns l x : List ℕ} {m start k : ℕ} (h : Listin
   pub next-within : start + getD ns k 0 ≤ length ws
   next-within = laid-most (start + getD ns k 0) (length ws) (drop (suc k) (rowOf ls os ns)) (next-lies .1)
 
-  module _ {n : ℕ} {y : List ℕ} (p : Put x m (ended (labelLine (getD ls k 0))) n y) (small : getD ls k 0 < 65536) where
-    pub next-ready : vars ≤ 1024 → RungReady vars ws start (start + getD ns k 0) n
-    next-ready few =
+  module _ {n : ℕ} {y : List ℕ} (p : Put x m (ended (labelLine (getD ls k 0))) n y) (small : getD ls k 0 < operands) where
+    pub next-ready : RungReady vars ws start (start + getD ns k 0) n
+    next-ready =
         let w = next-within in
         let s = label-long (getD ls k 0) small in
         record {
-          few = few;
           ordered = omega arith;
           within = w;
           room = omega (arith, p .end, h .room, h .can .code-most, h .can .records-most);

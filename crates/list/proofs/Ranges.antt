@@ -1,90 +1,20 @@
--- Laws of question 10: what a word's op asks of its operand, and records as two number slices. Assumes nothing.
-use Prim.Native.Nat.{ℕ, zero, suc, _+_, _≤_, _<_}
+-- Laws of question 10: records as two number slices, and its tests one after the other. Assumes nothing.
+use Prim.Native.Nat.{ℕ, _+_, _≤_, _<_}
 use native.Mathlib.Numerals.{add-one}
 use native.Mathlib.Omega.{arith}
-use native.Mathlib.Decide.{ℕ-discrete}
 use mathlib.Core.Path.{_≡_, refl, sym, ap, _∙_}
 use mathlib.Core.Bool.{Bool, true, false, _&&_, and-false, and-true}
-use mathlib.Core.Option.{Option, none, some}
 use mathlib.Core.List.{List, [], _∷_}
-use lib.Dec.{eqb, leb, ltb, eqb·suc-zero}
-use lib.ListN.{length, getD, drop, drop-of-length-le, List·getD-eq-default}
+use lib.Dec.{eqb, leb, ltb}
+use lib.ListN.{length, getD, drop, drop-of-length-le}
 use lib.Seq.{drop-cons}
 use borrow.Author.Tests.{eq-eqb, ne-eqb, le-leb, lt-leb, lt-ltb, le-ltb}
 use Rattle.questions.specs.Tests.{all}
-use Rattle.table.specs.State.{scratchBytes}
-use Rattle.rungs.specs.Words.{numberOf, operandOf}
-use Rattle.rungs.specs.Records.{RungRecord, laid, rowOf}
+use Rattle.table.specs.State.{tableSize}
+use Rattle.rungs.specs.Records.{RungRecord, laid, rowOf, mostRecords}
 use Rattle.rungs.specs.Laws.Rows.{Even, row-nil, row-cons, row-induction, row-length, row-uneven-first, row-uneven-second}
-use Rattle.list.specs.Instruction.{Instr, operand, noOp, onlyNot, ops, decodeInstr}
-use Rattle.list.specs.Questions.{operandInRange, instrInRange, wordInRange, mostInstructions, mostRecords, recordsLaid, listInRange}
+use Rattle.list.specs.Questions.{wordInRange, mostInstructions, recordsLaid, listInRange}
 use Rattle.list.specs.Parts.{laidPairs}
-
--- ---- a word
-
-rangeBy : ℕ → ℕ → Option Instr → Bool
-rangeBy vars n none = false
-rangeBy vars n (some i) = instrInRange vars n i
-
-module _ (vars n : ℕ) where
-  of-word : (w : ℕ) → wordInRange vars n w ≡ rangeBy vars n (getD ops (numberOf w) noOp (operandOf w))
-  unfolding wordInRange decodeInstr rangeBy
-  of-word w = go (getD ops (numberOf w) noOp (operandOf w)) refl
-    where
-      go : (o : Option Instr) → getD ops (numberOf w) noOp (operandOf w) ≡ o → wordInRange vars n w ≡ rangeBy vars n (getD ops (numberOf w) noOp (operandOf w))
-      go none e = rw (e, wordInRange)
-      go (some i) e = rw (e, wordInRange)
-
-  by-table : (k x : ℕ) → 1 ≤ k → k ≤ 10 → rangeBy vars n (getD ops k noOp x) ≡ ltb x (vars + scratchBytes)
-  unfolding rangeBy ops operand operandInRange
-  by-table zero x lo hi = absurd (omega arith)
-  by-table (suc zero) x lo hi = refl
-  by-table (suc (suc zero)) x lo hi = refl
-  by-table (suc (suc (suc zero))) x lo hi = refl
-  by-table (suc (suc (suc (suc zero)))) x lo hi = refl
-  by-table (suc (suc (suc (suc (suc zero))))) x lo hi = refl
-  by-table (suc (suc (suc (suc (suc (suc zero)))))) x lo hi = refl
-  by-table (suc (suc (suc (suc (suc (suc (suc zero))))))) x lo hi = refl
-  by-table (suc (suc (suc (suc (suc (suc (suc (suc zero)))))))) x lo hi = refl
-  by-table (suc (suc (suc (suc (suc (suc (suc (suc (suc zero))))))))) x lo hi = refl
-  by-table (suc (suc (suc (suc (suc (suc (suc (suc (suc (suc zero)))))))))) x lo hi = refl
-  by-table (suc (suc (suc (suc (suc (suc (suc (suc (suc (suc (suc k))))))))))) x lo hi = absurd (omega arith)
-
-  by-not : (x : ℕ) → rangeBy vars n (getD ops 11 noOp x) ≡ eqb x 0
-  unfolding rangeBy ops onlyNot operand operandInRange
-  by-not zero = refl
-  by-not (suc x) = sym (eqb·suc-zero x)
-
-  -- an op that is one of three
-  by-jump : (k x : ℕ) → 12 ≤ k → k ≤ 14 → rangeBy vars n (getD ops k noOp x) ≡ leb x n
-  unfolding rangeBy ops operand operandInRange
-  by-jump k x lo hi = go (ℕ-discrete k 12) (ℕ-discrete k 13)
-    where
-      go : Dec (k ≡ 12) → Dec (k ≡ 13) → rangeBy vars n (getD ops k noOp x) ≡ leb x n
-      go (yes e) d = rw e
-      go (no e) (yes f) = rw f
-      go (no e) (no f) = let g : k ≡ 14 = omega arith in rw g
-
-  by-none : (k x : ℕ) → 14 < k → rangeBy vars n (getD ops k noOp x) ≡ false
-  unfolding rangeBy ops
-  by-none k x h = rw (List·getD-eq-default ops noOp {n = k} (omega arith))
-
-  module _ (w : ℕ) where
-    pub no-op : numberOf w < 1 → false ≡ wordInRange vars n w
-    unfolding ops rangeBy
-    no-op h = let e : numberOf w ≡ 0 = omega arith in sym (of-word w ∙ rw e)
-
-    pub table-op : 1 ≤ numberOf w → numberOf w ≤ 10 → ltb (operandOf w) (vars + scratchBytes) ≡ wordInRange vars n w
-    table-op lo hi = sym (of-word w ∙ by-table (numberOf w) (operandOf w) lo hi)
-
-    pub not-op : numberOf w ≡ 11 → eqb (operandOf w) 0 ≡ wordInRange vars n w
-    not-op e = sym (of-word w ∙ rw e (by-not (operandOf w)))
-
-    pub jump-op : 12 ≤ numberOf w → numberOf w ≤ 14 → leb (operandOf w) n ≡ wordInRange vars n w
-    jump-op lo hi = sym (of-word w ∙ by-jump (numberOf w) (operandOf w) lo hi)
-
-    pub past-op : 14 < numberOf w → false ≡ wordInRange vars n w
-    past-op h = sym (of-word w ∙ by-none (numberOf w) (operandOf w) h)
 
 -- ---- records as two number slices
 
@@ -144,9 +74,6 @@ row-laid end ls os ns e = row-induction (LaidAlike end) (nil-laid end) (cons-lai
 -- ---- question 10, test by test
 
 module _ (vars : ℕ) (ws ls os ns : List ℕ) where
-  abbrev asked : Bool
-  asked = listInRange vars ws (rowOf ls os ns)
-
   pub no-code : length ws < 1 → false ≡ listInRange vars ws (rowOf ls os ns)
   unfolding listInRange
   no-code h = rw (lt-leb 1 (length ws) h)
@@ -187,6 +114,6 @@ module _ (vars : ℕ) (ws ls os ns : List ℕ) where
         (sym (and-false (leb 1 (length ws) && leb (length ws) mostInstructions)))
 
     pub all-words : 1 ≤ length ws → length ws ≤ mostInstructions → 1 ≤ length ls → length ls ≤ mostRecords → laidPairs 0 (length ws) os ns ≡ true
-        → all (wordInRange vars (length ws)) ws ≡ listInRange vars ws (rowOf ls os ns)
+        → all (wordInRange (tableSize vars) (length ws)) ws ≡ listInRange vars ws (rowOf ls os ns)
     unfolding listInRange
     all-words a b c d h = rw (row-laid (length ws) ls os ns even, h, row-length ls os ns even, le-leb 1 (length ws) a, le-leb (length ws) mostInstructions b, le-leb 1 (length ls) c, le-leb (length ls) mostRecords d)

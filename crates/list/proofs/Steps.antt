@@ -9,10 +9,11 @@ use mathlib.Core.Option.{some}
 use mathlib.Core.List.{List}
 use lib.ListN.{getD, List·getD-eq-default}
 use Rattle.questions.specs.Laws.Tests.{none-some}
+use Rattle.table.specs.State.{State, withBytes}
 use Rattle.rungs.specs.Words.{numberOf, operandOf}
 use Rattle.list.specs.Instruction.{Instr, NOT, JMPCN, noOp, onlyNot, ops, decodeInstr}
 use Rattle.list.specs.Machine.{does, count, step}
-use Rattle.list.specs.ListScan.{countsOf}
+use Rattle.list.specs.ListScan.{countsIn}
 use Rattle.list.specs.Parts.{Did, machineOf, Stepped}
 use Rattle.list.specs.declared.scan.Machine.{Machine as MachineStruct}
 use Rattle.list.specs.declared.scan.Effect.{Effect}
@@ -43,29 +44,29 @@ last-op k n1 n2 n3 n4 n5 n6 n7 n8 n9 n10 n11 n12 n13 lo hi =
 -- an op that makes the instruction `make x` of its operand x
 module _ (w : ℕ) (v : Bool) (following : ℕ) (t : List ℕ) where
   pub arm : (k : ℕ) → numberOf w ≡ k → (make : ℕ → Instr) → getD ops k noOp (operandOf w) ≡ some (make (operandOf w)) → (a : Bool) (j : ℕ) (u : List ℕ)
-      → ((vars pc : ℕ) → following ≡ pc + 1 → does (make (operandOf w)) v (record { vars = vars; bytes = t }) pc ≡ (a, record { vars = vars; bytes = u }, j))
+      → ((s : State) (pc : ℕ) → following ≡ pc + 1 → does (make (operandOf w)) v (withBytes s t) pc ≡ record { accumulator = a; state = withBytes s u; index = j })
       → Did w v following t (record { accumulator = a; index = j }) u
   unfolding decodeInstr
   arm k e make m a j u h = record {
-    same = λ i d vars pc q.
+    same = λ i d s pc q.
         let z : make (operandOf w) ≡ i = cc (rw e at d) in
-        rw (← z) (h vars pc q);
+        rw (← z) (h s pc q);
   }
 
   -- the one op that is left
   pub arm-last : (1 ≤ numberOf w → numberOf w ≤ 14 → numberOf w ≡ 14) → (a : Bool) (j : ℕ) (u : List ℕ)
-      → ((vars pc : ℕ) → following ≡ pc + 1 → does (JMPCN (operandOf w)) v (record { vars = vars; bytes = t }) pc ≡ (a, record { vars = vars; bytes = u }, j))
+      → ((s : State) (pc : ℕ) → following ≡ pc + 1 → does (JMPCN (operandOf w)) v (withBytes s t) pc ≡ record { accumulator = a; state = withBytes s u; index = j })
       → Did w v following t (record { accumulator = a; index = j }) u
   unfolding ops
   arm-last last a j u h = record {
-    same = λ i d vars pc q.
+    same = λ i d s pc q.
         let known = op-known w i d in
-        arm 14 (last (known .0) (known .1)) JMPCN refl a j u h .same i d vars pc q;
+        arm 14 (last (known .0) (known .1)) JMPCN refl a j u h .same i d s pc q;
   }
 
   pub arm-not : numberOf w ≡ 11 → Did w v following t (record { accumulator = not v; index = following }) t
   unfolding decodeInstr ops onlyNot does
-  arm-not e = record { same = λ i d vars pc q. rw (is-not i (operandOf w) (rw e at d), q) refl }
+  arm-not e = record { same = λ i d s pc q. rw (is-not i (operandOf w) (rw e at d), q) refl }
     where
       is-not : (i : Instr) (x : ℕ) → onlyNot x ≡ some i → i ≡ NOT
       is-not i zero p = cc
@@ -74,9 +75,9 @@ module _ (w : ℕ) (v : Bool) (following : ℕ) (t : List ℕ) where
 -- the machine after an instruction, with its counts
 pub stepped : (w entered : ℕ) (m : MachineStruct) (t : List ℕ) (effect : Effect) (u : List ℕ) → Did w (m .accumulator) (m .index + 1) t effect u
     → Stepped w entered m t (record { accumulator = effect .accumulator; index = effect .index; counts = record { instructions = m .counts .instructions + 1; rungs = m .counts .rungs + entered } }) u
-unfolding step count machineOf countsOf
+unfolding step count machineOf countsIn
 stepped w entered m t effect u d = record {
-  same = λ i e rs s vars. rw (d .same i e vars (m .index) refl, ← s);
+  same = λ i e rs starts s. rw (d .same i e s (m .index) refl, ← starts);
   carried = refl;
   rungs = refl;
 }

@@ -8,11 +8,11 @@ use lib.ListN.{replicate, length}
 use Rattle.questions.specs.Bytes.{bytes, decimal, digits}
 use Rattle.questions.specs.Tests.{all}
 use Rattle.questions.specs.Questions.{Answer, ask, varsInRange, question1, firstNo}
-use Rattle.table.specs.State.{scratchBytes, variables, valueAt, value, writtenAt, write}
+use Rattle.table.specs.State.{stateOf, scratchBytes, variables, valueAt, value, writtenAt, write}
 use Rattle.table.specs.Halt.{Halt, Ended, Stopped}
 use Rattle.rungs.specs.Records.{RungRecord, isStart, laid}
 use Rattle.list.specs.Instruction.{Instr, LD, LDN, ST, STN, AND, ANDN, OR, ORN, XOR, XORN, NOT, JMP, JMPC, JMPCN, operand, opOf, operandNumber, instrWord, decodeInstr, ops, onlyNot}
-use Rattle.list.specs.Machine.{InstructionList, does, count, step, begin, halted, scanMachine, scanList}
+use Rattle.list.specs.Machine.{InstructionList, does, count, step, fresh, begin, halted, scanMachine, scanList}
 use Rattle.list.specs.Listing.{fixedNames, trimmed, nameOf, operandText, instrLine, labelLine, rungLines, listingLines, ended, listingText}
 use Rattle.list.specs.Questions.{operandInRange, wordInRange, recordsLaid, listInRange, question10, listAnswer}
 
@@ -80,11 +80,11 @@ expected r = record { halt = r .halt; instructions = r .instructions; rungs = r 
 
 outcome : Row → Outcome
 outcome r =
-    let x = scanList (r .list) (r .watchdog) (record { vars = length (r .before); bytes = r .before ++ replicate scratchBytes 0 }) in
+    let x = scanList (r .list) (r .watchdog) (stateOf (length (r .before)) (r .before ++ replicate scratchBytes 0)) in
     record { halt = x .halt; instructions = x .counts .instructions; rungs = x .counts .rungs; variables = variables (x .state) }
 
 lists-scanned : map outcome rows ≡ map expected rows
-unfolding rows outcome expected scanList scanMachine begin step count does halted isStart valueAt value writtenAt write variables xor
+unfolding rows outcome expected scanList scanMachine begin fresh step count does halted isStart valueAt value writtenAt write variables xor
 lists-scanned = refl
 
 no-place : Answer

@@ -87,6 +87,19 @@ decodeCode (w ∷ ws) = elim (decodeInstr w) [ none ↦ none | some i ↦ elim (
 unfoldable pub codeOf : List ℕ → List Instr
 codeOf ws = elim (decodeCode ws) [ none ↦ [] | some is ↦ is ]
 
+-- the sort of an operand, and that of the operand that an op takes
+pub data OperandSort : Type 0 where
+  tableSort nothingSort instructionSort noSort : OperandSort
+
+unfoldable pub sortOf : Operand → OperandSort
+sortOf (tableIndex x) = tableSort
+sortOf noOperand = nothingSort
+sortOf (instructionIndex j) = instructionSort
+
+-- by op's number; no sort where no instruction has it
+unfoldable pub operandSort : ℕ → OperandSort
+operandSort k = elim (getD ops k noOp 0) [ none ↦ noSort | some i ↦ sortOf (operand i) ]
+
 -- an operand of 16 bits
 unfoldable pub operandFits : Operand → Bool
 operandFits (tableIndex x) = isOperand x

@@ -96,11 +96,11 @@ listing names vars words rs out =
     ]
 
 -- document 01's values for each case of the enum Listed
-unfoldable pub answerOf : Listed → ListingAnswer
-answerOf (Written n) = written n
-answerOf (RefusedCase refusal) = refused (refusalOf refusal)
+unfoldable pub listedAnswer : Listed → ListingAnswer
+listedAnswer (Written n) = written n
+listedAnswer (RefusedCase refusal) = refused (refusalOf refusal)
 
 -- the promise of listing: answer and buffer are those of the definition
 pub record ListingDone (call : ListingCall) (r : Listed) (out : List ℕ) : Type 0 where
-  pub answer : answerOf r ≡ call .answer
+  pub answer : listedAnswer r ≡ call .answer
   pub same-buffer : out ≡ call .buffer

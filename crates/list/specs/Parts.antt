@@ -6,17 +6,27 @@ use mathlib.Core.Option.{none, some}
 use mathlib.Core.List.{List, [], _∷_, flatMap}
 use lib.Dec.{eqb, leb, ltb}
 use lib.ListN.{length, getD}
-use Rattle.table.specs.State.{bit}
+use Rattle.questions.specs.Tests.{bit}
+use Rattle.table.specs.State.{State, withBytes}
 use Rattle.rungs.specs.Records.{RungRecord, offsets, isStart}
-use Rattle.list.specs.Instruction.{Instr, NOT, tableIndex, noOperand, instructionIndex, decodeInstr, decodeCode}
+use Rattle.list.specs.Instruction.{Instr, NOT, Operand, tableIndex, noOperand, instructionIndex, decodeInstr, decodeCode, OperandSort, tableSort, nothingSort, instructionSort, noSort, operandSort}
 use Rattle.list.specs.Machine.{InstructionList, Machine, does, step, scanList}
-use Rattle.list.specs.ListScan.{countsOf, scanEnds, ListScanDone}
+use Rattle.list.specs.ListScan.{countsIn, scanEnds, ListScanDone}
 use Rattle.list.specs.Listing.{fixedNames, operandText, instrLine, ended}
 use Rattle.list.specs.declared.ListScanned.{ListScanned}
 use Rattle.list.specs.declared.scan.Machine.{Machine as MachineStruct}
 use Rattle.list.specs.declared.ListScanned.the-variants.{Ended as EndedCase, Stopped as StoppedCase}
+use Rattle.list.specs.declared.ops.OperandSort.{OperandSort as OperandSortCase}
+use Rattle.list.specs.declared.ops.OperandSort.the-variants.{Table, Nothing, Instruction, NoOp}
 use Rattle.list.specs.declared.scan.Place.{Place}
 use Rattle.list.specs.declared.scan.Effect.{Effect}
+
+-- the sort of each case of the enum OperandSort
+unfoldable pub sortIn : OperandSortCase → OperandSort
+sortIn Table = tableSort
+sortIn Nothing = nothingSort
+sortIn Instruction = instructionSort
+sortIn NoOp = noSort
 
 -- records laid from `start` on, none of length 0, up to `end`, over two number slices
 unfoldable pub laidPairs : ℕ → ℕ → List ℕ → List ℕ → Bool
@@ -26,15 +36,15 @@ laidPairs start end (o ∷ os) (n ∷ ns) = eqb o start && (ltb 0 n && laidPairs
 
 -- a word that holds an instruction does what the instruction does, from accumulator v
 pub record Did (word : ℕ) (v : Bool) (following : ℕ) (t : List ℕ) (r : Effect) (u : List ℕ) : Type 0 where
-  pub same : (i : Instr) → decodeInstr word ≡ some i → (vars pc : ℕ) → following ≡ pc + 1
-      → does i v (record { vars = vars; bytes = t }) pc ≡ (r .accumulator, record { vars = vars; bytes = u }, r .index)
+  pub same : (i : Instr) → decodeInstr word ≡ some i → (s : State) (pc : ℕ) → following ≡ pc + 1
+      → does i v (withBytes s t) pc ≡ record { accumulator = r .accumulator; state = withBytes s u; index = r .index }
 
 unfoldable pub machineOf : MachineStruct → Machine
-machineOf m = record { accumulator = m .accumulator; index = m .index; counts = countsOf (m .counts) }
+machineOf m = record { accumulator = m .accumulator; index = m .index; counts = countsIn (m .counts) }
 
 pub record Stepped (word entered : ℕ) (m : MachineStruct) (t : List ℕ) (r : MachineStruct) (u : List ℕ) : Type 0 where
-  pub same : (i : Instr) → decodeInstr word ≡ some i → (rs : List RungRecord) → entered ≡ bit (isStart rs (m .index)) → (vars : ℕ)
-      → step rs i (machineOf m) (record { vars = vars; bytes = t }) ≡ (machineOf r, record { vars = vars; bytes = u })
+  pub same : (i : Instr) → decodeInstr word ≡ some i → (rs : List RungRecord) → entered ≡ bit (isStart rs (m .index)) → (s : State)
+      → step rs i (machineOf m) (withBytes s t) ≡ (machineOf r, withBytes s u)
   pub carried : r .counts .instructions ≡ m .counts .instructions + 1
   pub rungs : r .counts .rungs ≡ m .counts .rungs + entered
 
@@ -79,8 +89,8 @@ haltedAt end m = elim (leb end (m .index)) [ true ↦ EndedCase (m .counts) | fa
 
 -- a list's words and offsets are scanned as the list
 pub record Ran (ws os t : List ℕ) (watchdog : ℕ) (r : ListScanned) (u : List ℕ) : Type 0 where
-  pub same : (l : InstructionList) → decodeCode ws ≡ some (l .code) → offsets (l .records) ≡ os → ascending 0 os → (vars : ℕ)
-      → ListScanDone (scanEnds (scanList l watchdog (record { vars = vars; bytes = t }))) r u
+  pub same : (l : InstructionList) → decodeCode ws ≡ some (l .code) → offsets (l .records) ≡ os → ascending 0 os → (s : State)
+      → ListScanDone (scanEnds (scanList l watchdog (withBytes s t))) r u
 
 -- the instruction of a word
 unfoldable pub instrOf : ℕ → Instr
@@ -97,13 +107,19 @@ wordLine vars w = ended (instrLine fixedNames vars (instrOf w))
 unfoldable pub wordLines : ℕ → List ℕ → List ℕ
 wordLines vars ws = flatMap (wordLine vars) ws
 
--- the text of an operand, by its op
+-- the operand of a number, by its sort
+unfoldable pub operandIn : OperandSort → ℕ → Operand
+operandIn tableSort x = tableIndex x
+operandIn nothingSort x = noOperand
+operandIn instructionSort x = instructionIndex x
+operandIn noSort x = noOperand
+
+-- its text, by its op
 unfoldable pub operandBy : ℕ → ℕ → ℕ → List ℕ
-operandBy vars op x = operandText vars (elim (ltb op 11) [ true ↦ tableIndex x | false ↦ elim (eqb op 11) [ true ↦ noOperand | false ↦ instructionIndex x ] ])
+operandBy vars op x = operandText vars (operandIn (operandSort op) x)
 
 -- words from one index up to another that can be printed from `at` on
 pub record RungReady (vars : ℕ) (ws : List ℕ) (from to at : ℕ) : Type 0 where
-  pub few : vars ≤ 1024
   pub ordered : from ≤ to
   pub within : to ≤ length ws
   pub room : at + 14 * (to - from) < 500000

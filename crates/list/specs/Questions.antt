@@ -1,5 +1,5 @@
 -- Question 10. Document 01, "Questions before work". Assumes nothing.
-use Prim.Native.Nat.{ℕ, _+_}
+use Prim.Native.Nat.{ℕ}
 use mathlib.Core.Bool.{Bool, true, false, _&&_}
 use mathlib.Core.Option.{none, some}
 use mathlib.Core.List.{List, [], _∷_}
@@ -7,28 +7,25 @@ use lib.Dec.{leb, ltb}
 use lib.ListN.{length}
 use Rattle.questions.specs.Tests.{all}
 use Rattle.questions.specs.Questions.{Answer, ask, firstNo, question1}
-use Rattle.table.specs.State.{scratchBytes}
-use Rattle.rungs.specs.Records.{RungRecord, mostRecords as recordsAtMost, laid}
+use Rattle.table.specs.State.{tableSize}
+use Rattle.rungs.specs.Records.{RungRecord, mostRecords, laid}
 use Rattle.list.specs.Instruction.{Instr, Operand, tableIndex, noOperand, instructionIndex, operand, decodeInstr}
 
--- "a table index below V + 32", "an instruction index from 0 to the list's length" n
+-- "a table index below V + 32", the table's size, "an instruction index from 0 to the list's length" n
 unfoldable pub operandInRange : ℕ → ℕ → Operand → Bool
-operandInRange vars n (tableIndex x) = ltb x (vars + scratchBytes)
-operandInRange vars n noOperand = true
-operandInRange vars n (instructionIndex j) = leb j n
+operandInRange size n (tableIndex x) = ltb x size
+operandInRange size n noOperand = true
+operandInRange size n (instructionIndex j) = leb j n
 
 abbrev pub instrInRange : ℕ → ℕ → Instr → Bool
-instrInRange vars n i = operandInRange vars n (operand i)
+instrInRange size n i = operandInRange size n (operand i)
 
 -- an op and its operand in one word
 unfoldable pub wordInRange : ℕ → ℕ → ℕ → Bool
-wordInRange vars n w = elim (decodeInstr w) [ none ↦ false | some i ↦ instrInRange vars n i ]
+wordInRange size n w = elim (decodeInstr w) [ none ↦ false | some i ↦ instrInRange size n i ]
 
 abbrev pub mostInstructions : ℕ
 mostInstructions = 16384
-
-abbrev pub mostRecords : ℕ
-mostRecords = recordsAtMost
 
 -- records "laid as above, none of length 0", up to instruction n
 unfoldable pub recordsLaid : ℕ → List RungRecord → Bool
@@ -40,7 +37,7 @@ listInRange vars words rs =
     (leb 1 (length words) && leb (length words) mostInstructions)
     && ((leb 1 (length rs) && leb (length rs) mostRecords)
     && (recordsLaid (length words) rs
-    && all (wordInRange vars (length words)) words))
+    && all (wordInRange (tableSize vars) (length words)) words))
 
 unfoldable pub question10 : ℕ → List ℕ → List RungRecord → Answer
 question10 vars words rs = ask 10 (listInRange vars words rs)

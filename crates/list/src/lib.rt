@@ -1,16 +1,20 @@
 // The list side: List scan and Listing. Document 01, "What a list does", "Listing".
 ghost use mathlib.Core.Path.{_≡_};
 ghost use Rattle.rungs.specs.Records.{rowOf};
-ghost use Rattle.questions.specs.Refusals.{answerOf};
+ghost use Rattle.questions.specs.Refusals.{verdictAnswer};
 ghost use Rattle.list.specs.Questions.{listAnswer};
-ghost use Rattle.list.specs.ListScan.{scanAnswer, listScan, ListScanDone};
+ghost use Rattle.list.specs.ListScan.{scanQuestions, callListScan, ListScanDone};
 ghost use Rattle.list.specs.Listing.{fixedNames, listing, ListingDone};
 use questions::Refusal;
 use questions::Verdict;
 
+pub mod ops;
 mod print;
 mod question;
 pub mod scan;
+
+// At most 16,384 instructions.
+pub const MOST_INSTRUCTIONS: usize = 16384;
 
 // The instructions carried out and the rungs entered.
 pub struct Counts {
@@ -39,7 +43,7 @@ pub fn list_answer(
     offsets: &[u32],
     lengths: &[u32],
 ) -> Verdict
-    ensures { λ r. ⌜ answerOf r ≡ listAnswer vars (now (code .entry))
+    ensures { λ r. ⌜ verdictAnswer r ≡ listAnswer vars (now (code .entry))
         (rowOf (now (labels .entry)) (now (offsets .entry)) (now (lengths .entry))) ⌝ }
 {
     if !questions::vars_in_range(vars) {
@@ -52,7 +56,7 @@ pub fn list_answer(
 }
 
 // List scan's questions: 1, 10, 11 and 12, in order.
-pub fn scan_answer(
+pub fn scan_questions(
     vars: u32,
     code: &[u32],
     labels: &[u16],
@@ -61,7 +65,7 @@ pub fn scan_answer(
     table: &[u8],
     watchdog: u32,
 ) -> Verdict
-    ensures { λ r. ⌜ answerOf r ≡ scanAnswer vars (now (code .entry))
+    ensures { λ r. ⌜ verdictAnswer r ≡ scanQuestions vars (now (code .entry))
         (rowOf (now (labels .entry)) (now (offsets .entry)) (now (lengths .entry)))
         (now (table .entry)) watchdog ⌝ }
 {
@@ -90,11 +94,11 @@ pub fn list_scan(
     table: &mut [u8],
     watchdog: u32,
 ) -> ListScanned
-    ensures { λ r. ⌜ ListScanDone (listScan vars (now (code .entry))
+    ensures { λ r. ⌜ ListScanDone (callListScan vars (now (code .entry))
         (rowOf (now (labels .entry)) (now (offsets .entry)) (now (lengths .entry)))
         (now (table .entry)) watchdog) r (now (table .exit)) ⌝ }
 {
-    match scan_answer(vars, code, labels, offsets, lengths, table, watchdog) {
+    match scan_questions(vars, code, labels, offsets, lengths, table, watchdog) {
         Verdict::Refused(refusal) => ListScanned::Refused(refusal),
         Verdict::Accepted => scan::run(code, offsets, table, watchdog),
     }

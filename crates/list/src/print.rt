@@ -1,36 +1,42 @@
 // The printed list. Each function writes its text from `at` on and gives the position after it; past the buffer's end nothing is
 // written, so that the same functions count the bytes, over a buffer of none.
-ghost use Prim.Native.Nat.{_+_, _≤_, _<_};
+ghost use Prim.Native.Nat.{_≤_, _<_};
+ghost use mathlib.Core.List.{_∷_};
 ghost use lib.Dec.{T};
+ghost use lib.ListN.{length};
 ghost use lib.Seq.{slice};
+ghost use Rattle.questions.specs.Bytes.{byte, decimal};
+ghost use Rattle.rungs.specs.Words.{operands};
 ghost use Rattle.rungs.specs.Records.{rowOf};
 ghost use Rattle.list.specs.Questions.{listInRange};
 ghost use Rattle.list.specs.ListScan.{listOf};
 ghost use Rattle.list.specs.Listing.{fixedNames, nameOf, labelLine, ended, listingText};
 ghost use Rattle.printing.specs.Put.{Put};
 ghost use Rattle.list.specs.Parts.{Decodes, operandBy, wordLine, wordLines, RungReady};
+use crate::ops;
+use crate::ops::OperandSort;
 
 // Six bytes a name, filled with zeros, by op from 1.
 const NAMES: [[u8; 6]; 14] = [
-    [76, 68, 0, 0, 0, 0],
-    [76, 68, 78, 0, 0, 0],
-    [83, 84, 0, 0, 0, 0],
-    [83, 84, 78, 0, 0, 0],
-    [65, 78, 68, 0, 0, 0],
-    [65, 78, 68, 78, 0, 0],
-    [79, 82, 0, 0, 0, 0],
-    [79, 82, 78, 0, 0, 0],
-    [88, 79, 82, 0, 0, 0],
-    [88, 79, 82, 78, 0, 0],
-    [78, 79, 84, 0, 0, 0],
-    [74, 77, 80, 0, 0, 0],
-    [74, 77, 80, 67, 0, 0],
-    [74, 77, 80, 67, 78, 0],
+    [b'L', b'D', 0, 0, 0, 0],
+    [b'L', b'D', b'N', 0, 0, 0],
+    [b'S', b'T', 0, 0, 0, 0],
+    [b'S', b'T', b'N', 0, 0, 0],
+    [b'A', b'N', b'D', 0, 0, 0],
+    [b'A', b'N', b'D', b'N', 0, 0],
+    [b'O', b'R', 0, 0, 0, 0],
+    [b'O', b'R', b'N', 0, 0, 0],
+    [b'X', b'O', b'R', 0, 0, 0],
+    [b'X', b'O', b'R', b'N', 0, 0],
+    [b'N', b'O', b'T', 0, 0, 0],
+    [b'J', b'M', b'P', 0, 0, 0],
+    [b'J', b'M', b'P', b'C', 0, 0],
+    [b'J', b'M', b'P', b'C', b'N', 0],
 ];
 
 // The name of an op, up to its filling.
 pub fn put_name(out: &mut [u8], at: usize, op: usize) -> usize
-    requires { ⌜ (at < 800000) × (1 ≤ op) × (op ≤ 14) ⌝ }
+    requires { ⌜ (at < 800000) × (1 ≤ op) × (op ≤ length fixedNames) ⌝ }
     ensures { λ r. ⌜ Put (now (out .entry)) at (nameOf fixedNames op) r (now (out .exit)) ⌝ }
 {
     let name = NAMES[op - 1];
@@ -46,37 +52,44 @@ pub fn put_name(out: &mut [u8], at: usize, op: usize) -> usize
     at + k
 }
 
-// A space, and the operand of an op with its letter; nothing for NOT.
+// A space, a letter and a number.
+pub fn put_index(out: &mut [u8], at: usize, letter: u8, number: usize) -> usize
+    requires { ⌜ (at < 700000) × (number < operands) ⌝ }
+    ensures { λ r. ⌜ Put (now (out .entry)) at (byte " " ∷ letter ∷ decimal number) r (now (out .exit)) ⌝ }
+{
+    let space = printing::put_byte(out, at, b' ');
+    let sign = printing::put_byte(out, space, letter);
+    printing::put_number(out, sign, number)
+}
+
+// A space, and the operand of an op with its letter; nothing where the op takes none.
 pub fn put_operand(out: &mut [u8], at: usize, vars: u32, op: u32, operand: u32) -> usize
-    requires { ⌜ (at < 700000) × (vars ≤ 1024) × (operand < 65536) ⌝ }
+    requires { ⌜ (at < 700000) × (operand < operands) ⌝ }
     ensures { λ r. ⌜ Put (now (out .entry)) at (operandBy vars op operand) r (now (out .exit)) ⌝ }
 {
-    if op == 11 {
-        return at;
+    match ops::operand_sort(op) {
+        OperandSort::Table => {
+            if operand < vars {
+                return put_index(out, at, b'v', operand as usize);
+            }
+            put_index(out, at, b't', (operand - vars) as usize)
+        }
+        OperandSort::Nothing => at,
+        OperandSort::Instruction => put_index(out, at, b'@', operand as usize),
+        OperandSort::NoOp => at,
     }
-    let space = printing::put_byte(out, at, 32);
-    if 11 < op {
-        let sign = printing::put_byte(out, space, 64);
-        return printing::put_number(out, sign, operand as usize);
-    }
-    if operand < vars {
-        let sign = printing::put_byte(out, space, 118);
-        return printing::put_number(out, sign, operand as usize);
-    }
-    let sign = printing::put_byte(out, space, 116);
-    printing::put_number(out, sign, (operand - vars) as usize)
 }
 
 // The line of an instruction.
 pub fn put_instruction(out: &mut [u8], at: usize, vars: u32, word: u32) -> usize
-    requires { ⌜ (at < 600000) × (vars ≤ 1024) × Decodes word ⌝ }
+    requires { ⌜ (at < 600000) × Decodes word ⌝ }
     ensures { λ r. ⌜ Put (now (out .entry)) at (wordLine vars word) r (now (out .exit)) ⌝ }
 {
-    let op = word / 65536;
-    let operand = word % 65536;
+    let op = word / rungs::OPERANDS;
+    let operand = word % rungs::OPERANDS;
     let name = put_name(out, at, op as usize);
     let end = put_operand(out, name, vars, op, operand);
-    printing::put_byte(out, end, 10)
+    printing::put_byte(out, end, b'\n')
 }
 
 // The line of a label.
@@ -84,10 +97,10 @@ pub fn put_label(out: &mut [u8], at: usize, label: u16) -> usize
     requires { ⌜ at < 600000 ⌝ }
     ensures { λ r. ⌜ Put (now (out .entry)) at (ended (labelLine label)) r (now (out .exit)) ⌝ }
 {
-    let sign = printing::put_byte(out, at, 76);
+    let sign = printing::put_byte(out, at, b'L');
     let number = printing::put_number(out, sign, label as usize);
-    let colon = printing::put_byte(out, number, 58);
-    printing::put_byte(out, colon, 10)
+    let colon = printing::put_byte(out, number, b':');
+    printing::put_byte(out, colon, b'\n')
 }
 
 // The lines of the instructions from one index up to another.
@@ -113,7 +126,7 @@ pub fn put_list(
     lengths: &[u32],
     out: &mut [u8],
 ) -> usize
-    requires { ⌜ (vars ≤ 1024) × T (listInRange vars (now code) (rowOf (now labels) (now offsets) (now lengths))) ⌝ }
+    requires { ⌜ T (listInRange vars (now code) (rowOf (now labels) (now offsets) (now lengths))) ⌝ }
     ensures { λ r. ⌜ Put (now (out .entry)) 0
         (listingText fixedNames vars (listOf (now (code .entry))
         (rowOf (now (labels .entry)) (now (offsets .entry)) (now (lengths .entry)))))

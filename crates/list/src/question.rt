@@ -1,49 +1,32 @@
 // Question 10.
 ghost use mathlib.Core.Path.{_≡_};
-ghost use Prim.Native.Nat.{_≤_};
 ghost use lib.ListN.{length};
 ghost use Rattle.questions.specs.Tests.{all};
 ghost use Rattle.rungs.specs.Records.{rowOf};
 ghost use Rattle.list.specs.Questions.{wordInRange, listInRange};
 ghost use Rattle.list.specs.Parts.{laidPairs};
+use crate::ops;
+use crate::ops::OperandSort;
 
-// A list of 1 to 16,384 instructions, with 1 to 256 records.
-const MOST_INSTRUCTIONS: usize = 16384;
-
-const MOST_RECORDS: usize = 256;
-
-// Scratch t0 to t31 stands after the variables.
-const SCRATCH_BYTES: u32 = 32;
-
-// An op and its operand, in a list of n instructions.
-pub fn word_in_range(vars: u32, n: usize, word: u32) -> bool
-    requires { ⌜ vars ≤ 1024 ⌝ }
-    ensures { λ r. ⌜ r ≡ wordInRange vars n word ⌝ }
+// An op and its operand, for a table of `size` bytes and a list of n instructions.
+pub fn word_in_range(size: usize, n: usize, word: u32) -> bool
+    ensures { λ r. ⌜ r ≡ wordInRange size n word ⌝ }
 {
-    let op = word / 65536;
-    let operand = word % 65536;
-    if op < 1 {
-        return false;
+    let operand = (word % rungs::OPERANDS) as usize;
+    match ops::operand_sort(word / rungs::OPERANDS) {
+        OperandSort::Table => operand < size,
+        OperandSort::Nothing => operand == 0,
+        OperandSort::Instruction => operand <= n,
+        OperandSort::NoOp => false,
     }
-    if op <= 10 {
-        return operand < vars + SCRATCH_BYTES;
-    }
-    if op == 11 {
-        return operand == 0;
-    }
-    if op <= 14 {
-        return operand as usize <= n;
-    }
-    false
 }
 
-pub fn code_in_range(vars: u32, code: &[u32]) -> bool
-    requires { ⌜ vars ≤ 1024 ⌝ }
-    ensures { λ r. ⌜ r ≡ all (wordInRange vars (length (now (code .entry)))) (now (code .entry)) ⌝ }
+pub fn code_in_range(size: usize, code: &[u32]) -> bool
+    ensures { λ r. ⌜ r ≡ all (wordInRange size (length (now (code .entry)))) (now (code .entry)) ⌝ }
 {
     let mut i: usize = 0;
     while i < code.len() {
-        if !word_in_range(vars, code.len(), code[i]) {
+        if !word_in_range(size, code.len(), code[i]) {
             return false;
         }
         i += 1;
@@ -85,14 +68,13 @@ pub fn list_in_range(
     offsets: &[u32],
     lengths: &[u32],
 ) -> bool
-    requires { ⌜ vars ≤ 1024 ⌝ }
     ensures { λ r. ⌜ r ≡ listInRange vars (now (code .entry))
         (rowOf (now (labels .entry)) (now (offsets .entry)) (now (lengths .entry))) ⌝ }
 {
     if code.len() < 1 {
         return false;
     }
-    if MOST_INSTRUCTIONS < code.len() {
+    if crate::MOST_INSTRUCTIONS < code.len() {
         return false;
     }
     if labels.len() != offsets.len() {
@@ -104,11 +86,11 @@ pub fn list_in_range(
     if labels.len() < 1 {
         return false;
     }
-    if MOST_RECORDS < labels.len() {
+    if rungs::MOST_RECORDS < labels.len() {
         return false;
     }
     if !records_laid(offsets, lengths, code.len()) {
         return false;
     }
-    code_in_range(vars, code)
+    code_in_range(vars as usize + table::SCRATCH_BYTES, code)
 }

@@ -6,6 +6,7 @@ ghost use lib.ListN.{length, getD};
 ghost use Rattle.list.specs.Parts.{Did, Stepped, Ran, Sought, Followed, firstMachine, firstPlace, startsHere, runsOn, haltedAt};
 use crate::Counts;
 use crate::ListScanned;
+use crate::ops;
 
 // What each instruction changes.
 pub struct Machine {
@@ -32,64 +33,64 @@ pub struct Effect {
 pub fn carry_out(word: u32, accumulator: bool, following: usize, table: &mut [u8]) -> Effect
     ensures { λ r. ⌜ Did word accumulator following (now (table .entry)) r (now (table .exit)) ⌝ }
 {
-    let op = word / 65536;
-    let operand = (word % 65536) as usize;
+    let op = word / rungs::OPERANDS;
+    let operand = (word % rungs::OPERANDS) as usize;
     match op {
-        1 => Effect {
+        ops::LD => Effect {
             accumulator: table::value(table, operand),
             index: following,
         },
-        2 => Effect {
+        ops::LDN => Effect {
             accumulator: !table::value(table, operand),
             index: following,
         },
-        3 => {
+        ops::ST => {
             table::write(table, operand, accumulator);
             Effect {
                 accumulator,
                 index: following,
             }
         }
-        4 => {
+        ops::STN => {
             table::write(table, operand, !accumulator);
             Effect {
                 accumulator,
                 index: following,
             }
         }
-        5 => Effect {
+        ops::AND => Effect {
             accumulator: accumulator & table::value(table, operand),
             index: following,
         },
-        6 => Effect {
+        ops::ANDN => Effect {
             accumulator: accumulator & !table::value(table, operand),
             index: following,
         },
-        7 => Effect {
+        ops::OR => Effect {
             accumulator: accumulator | table::value(table, operand),
             index: following,
         },
-        8 => Effect {
+        ops::ORN => Effect {
             accumulator: accumulator | !table::value(table, operand),
             index: following,
         },
-        9 => Effect {
+        ops::XOR => Effect {
             accumulator: accumulator ^ table::value(table, operand),
             index: following,
         },
-        10 => Effect {
+        ops::XORN => Effect {
             accumulator: accumulator ^ !table::value(table, operand),
             index: following,
         },
-        11 => Effect {
+        ops::NOT => Effect {
             accumulator: !accumulator,
             index: following,
         },
-        12 => Effect {
+        ops::JMP => Effect {
             accumulator,
             index: operand,
         },
-        13 => {
+        ops::JMPC => {
             if accumulator {
                 Effect {
                     accumulator,
@@ -102,6 +103,7 @@ pub fn carry_out(word: u32, accumulator: bool, following: usize, table: &mut [u8
                 }
             }
         }
+        // JMPCN, the one op left.
         _ => {
             if accumulator {
                 Effect {

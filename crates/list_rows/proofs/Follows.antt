@@ -7,7 +7,7 @@ use mathlib.Core.List.{List}
 use lib.Dec.{eqb, ltb}
 use lib.ListN.{length, getD, length-map, List·getD-map}
 use borrow.Author.Tests.{eqb-true, eqb-false, ltb-true, ltb-false}
-use Rattle.table.specs.State.{bit}
+use Rattle.questions.specs.Tests.{bit}
 use Rattle.rungs.specs.Records.{RungRecord, offsets}
 use Rattle.rows.specs.Rows.{noRecord, recordAt}
 use Rattle.list.specs.Parts.{startsHere, ascending, before}

@@ -6,16 +6,16 @@ use mathlib.Core.Option.{some}
 use mathlib.Core.List.{List}
 use lib.Dec.{eqb, ltb}
 use lib.ListN.{length, getD}
-use Rattle.questions.specs.Refusals.{refusalOf, answerOf}
+use Rattle.questions.specs.Refusals.{refusalOf, verdictAnswer}
 use Rattle.questions.specs.declared.Refusal.{Refusal}
 use Rattle.questions.specs.declared.Verdict.{Verdict}
 use Rattle.questions.specs.declared.Verdict.the-variants.{Accepted, Refused}
-use Rattle.table.specs.State.{bit}
-use Rattle.rungs.specs.Records.{RungRecord, offsets}
-use Rattle.rows.specs.Rows.{mostRungs, gathered}
+use Rattle.questions.specs.Tests.{bit}
+use Rattle.rungs.specs.Records.{RungRecord, offsets, mostRecords}
+use Rattle.rows.specs.Parts.{gathered}
 use Rattle.rows.specs.declared.Rows.{Rows}
 use Rattle.list.specs.Questions.{listAnswer}
-use Rattle.list.specs.ListScan.{scanAnswer}
+use Rattle.list.specs.ListScan.{scanQuestions}
 use Rattle.list.specs.Listing.{fixedNames, listing, ListingDone}
 use Rattle.list.specs.Parts.{startsHere, ascending, Followed, haltedAt, Ran}
 use Rattle.list.specs.declared.Listed.{Listed}
@@ -63,10 +63,10 @@ placeAt i s n = record { index = i; next = s .low; entered = bit (ltb (s .low) n
 
 -- what the first question says "no" to in a row of more than 256 records
 pub record LongRefused (vars : ℕ) (r : Refusal) : Type 0 where
-  pub same : (ws : List ℕ) (rs : List RungRecord) → mostRungs < length rs → listAnswer vars ws rs ≡ some (refusalOf r)
+  pub same : (ws : List ℕ) (rs : List RungRecord) → mostRecords < length rs → listAnswer vars ws rs ≡ some (refusalOf r)
 
 pub record RowAsked (vars : ℕ) (ws : List ℕ) (rows : Rows) (t : List ℕ) (w : ℕ) (r : Verdict) : Type 0 where
-  pub same : (rs : List RungRecord) → rows ≡ gathered rs → answerOf r ≡ scanAnswer vars ws rs t w
+  pub same : (rs : List RungRecord) → rows ≡ gathered rs → verdictAnswer r ≡ scanQuestions vars ws rs t w
 
 -- ---- the scan
 

@@ -4,10 +4,10 @@ ghost use mathlib.Core.Path.{_≡_};
 ghost use Prim.Native.Nat.{_+_, _≤_, _<_, _^_};
 ghost use lib.ListN.{length};
 ghost use Rattle.rows.specs.Rows.{recordOf, recordsOf};
-ghost use Rattle.list.specs.ListScan.{listScan, ListScanDone};
+ghost use Rattle.list.specs.ListScan.{callListScan, ListScanDone};
 ghost use Rattle.list.specs.Listing.{fixedNames, listing, ListingDone};
-ghost use Rattle.list_rows.specs.Parts.{seekFrom, middleOf, halved, placeAt, RowFollowed};
-ghost use Rattle.list_rows.specs.Parts.{LongRefused, RowAsked, endOf, firstRowPlace, answered, RowReady, RowRan, RowListed};
+ghost use Rattle.list_rows.specs.Parts.{seekFrom, middleOf, halved, placeAt, RowFollowed, LongRefused, RowAsked};
+ghost use Rattle.list_rows.specs.Parts.{endOf, firstRowPlace, answered, RowReady, RowRan, RowListed};
 use list::ListScanned;
 use list::Listed;
 use list::scan::Machine;
@@ -15,9 +15,6 @@ use questions::Refusal;
 use questions::Verdict;
 use rows::Rows;
 use rows::Rung;
-
-// At most 256 records.
-const MOST_RECORDS: usize = 256;
 
 // Where a scan stands among the records of a row: as list's Place, with the offset of the record `next`, if there is one, so that a
 // straight run reads no record but those that it enters.
@@ -130,14 +127,14 @@ fn ask(vars: u32, code: &[u32], rows: Rows, table: &mut [u8], watchdog: u32) -> 
     ensures { λ r. ⌜ RowAsked vars (now (code .entry)) rows (now (table .entry)) watchdog r
         × (now (table .exit) ≡ now (table .entry)) ⌝ }
 {
-    if MOST_RECORDS < rows.n {
+    if rungs::MOST_RECORDS < rows.n {
         return Verdict::Refused(long_refusal(vars));
     }
     let labels = rows.labels;
     let offsets = rows.offsets;
     let lengths = rows.lengths;
     let m = rows.n;
-    list::scan_answer(
+    list::scan_questions(
         vars,
         code,
         &labels[..m],
@@ -219,7 +216,7 @@ pub fn list_scan(
     table: &mut [u8],
     watchdog: u32,
 ) -> ListScanned
-    ensures { λ r. ⌜ ListScanDone (listScan vars (now (code .entry)) (recordsOf (now (row .entry))) (now (table .entry)) watchdog)
+    ensures { λ r. ⌜ ListScanDone (callListScan vars (now (code .entry)) (recordsOf (now (row .entry))) (now (table .entry)) watchdog)
         r (now (table .exit)) ⌝ }
 {
     let verdict = ask(vars, code, rows::gather(row), table, watchdog);
@@ -232,7 +229,7 @@ pub fn list_scan(
 fn list_fields(vars: u32, code: &[u32], rows: Rows, out: &mut [u8]) -> Listed
     ensures { λ r. ⌜ RowListed vars (now (code .entry)) rows (now (out .entry)) r (now (out .exit)) ⌝ }
 {
-    if MOST_RECORDS < rows.n {
+    if rungs::MOST_RECORDS < rows.n {
         return Listed::Refused(long_refusal(vars));
     }
     let labels = rows.labels;

@@ -11,7 +11,7 @@ use lib.Dec.{eqb, leb, ltb}
 use lib.ListN.{length, getD, take, drop, length-drop, drop-of-length-le, List·getD-eq-default}
 use lib.Seq.{drop-cons, take-all, take-length}
 use Rattle.printing.specs.Put.{Put}
-use Rattle.grammar.specs.Reader.{pick, Parse, read, stuck, digitOf, digitsFrom, numberOf}
+use Rattle.grammar.specs.Reader.{pick, Parse, read, stuck, digitOf, digitsFrom, numeralOf}
 use Rattle.printout.specs.Printout.{firstLine, textAfter, lineNumber, variablesOf, printed, output}
 use Rattle.printout.specs.Parts.{stepOf, lineFrom, numberBy, NumberTaken}
 use Rattle.printout.specs.declared.Lined.{Lined}
@@ -139,9 +139,9 @@ module _ (other : ℕ) where
   ends-before : (line : List ℕ) (n v : ℕ) → n < length line → endsAt line (read n v) ≡ other
   ends-before line n v h = rw (ne-eqb n (length line) (λ e. omega arith)) refl
 
-  number-ends : (line : List ℕ) → lineNumber other line ≡ endsAt line (numberOf line 0)
+  number-ends : (line : List ℕ) → lineNumber other line ≡ endsAt line (numeralOf line 0)
   unfolding lineNumber
-  number-ends line = go (numberOf line 0)
+  number-ends line = go (numeralOf line 0)
     where
       at : (t : Bool) (v : ℕ) → (elim t [ true ↦ v | false ↦ other ]) ≡ pick t v other
       at true v = refl
@@ -206,35 +206,35 @@ module _ (other : ℕ) where
 
   -- a whole line
   module _ (b : ℕ) (bs : List ℕ) (x : ℕ) (e : x ≡ digitOf b) where
-    number-none : 10 ≤ x → numberOf (b ∷ bs) 0 ≡ stuck 0
-    unfolding numberOf
+    number-none : 10 ≤ x → numeralOf (b ∷ bs) 0 ≡ stuck 0
+    unfolding numeralOf
     number-none h = simp (← e, le-leb _ _ h)
 
-    number-zero : x < 10 → x ≡ 0 → numberOf (b ∷ bs) 0 ≡ read 1 0
-    unfolding numberOf
+    number-zero : x < 10 → x ≡ 0 → numeralOf (b ∷ bs) 0 ≡ read 1 0
+    unfolding numeralOf
     number-zero h z = simp (← e, lt-leb _ _ h, eq-eqb _ _ z)
 
-    number-digit : x < 10 → (x ≡ 0 → ⊥) → numberOf (b ∷ bs) 0 ≡ digitsFrom (b ∷ bs) 4 x 1
-    unfolding numberOf
+    number-digit : x < 10 → (x ≡ 0 → ⊥) → numeralOf (b ∷ bs) 0 ≡ digitsFrom (b ∷ bs) 4 x 1
+    unfolding numeralOf
     number-digit h z = simp (← e, lt-leb _ _ h, ne-eqb _ _ z)
 
-    line-none : 10 ≤ x → numberBy other (lineFrom Empty (b ∷ bs)) ≡ endsAt (b ∷ bs) (numberOf (b ∷ bs) 0)
+    line-none : 10 ≤ x → numberBy other (lineFrom Empty (b ∷ bs)) ≡ endsAt (b ∷ bs) (numeralOf (b ∷ bs) 0)
     line-none h = (value-step Empty Bad b bs (first-none b x e h) ∙ bad-value bs) ∙ sym (ap (endsAt (b ∷ bs)) (number-none h))
 
-    line-zero : x < 10 → x ≡ 0 → numberBy other (lineFrom Empty (b ∷ bs)) ≡ endsAt (b ∷ bs) (numberOf (b ∷ bs) 0)
+    line-zero : x < 10 → x ≡ 0 → numberBy other (lineFrom Empty (b ∷ bs)) ≡ endsAt (b ∷ bs) (numeralOf (b ∷ bs) 0)
     line-zero h z = value-step Empty Zero b bs (first-zero b x e h z) ∙ (zero-line b bs ∙ sym (ap (endsAt (b ∷ bs)) (number-zero h z)))
 
-    line-number : x < 10 → (x ≡ 0 → ⊥) → numberBy other (lineFrom Empty (b ∷ bs)) ≡ endsAt (b ∷ bs) (numberOf (b ∷ bs) 0)
+    line-number : x < 10 → (x ≡ 0 → ⊥) → numberBy other (lineFrom Empty (b ∷ bs)) ≡ endsAt (b ∷ bs) (numeralOf (b ∷ bs) 0)
     line-number h z =
         value-step Empty (Number x) b bs (first-digit b x e h z)
         ∙ (number-from (b ∷ bs) bs 4 x 1 refl (omega arith) (omega (arith, z)) (omega arith) (enough-four x) ∙ sym (ap (endsAt (b ∷ bs)) (number-digit h z)))
 
-  line-ends : (line : List ℕ) → numberBy other (lineFrom Empty line) ≡ endsAt line (numberOf line 0)
-  unfolding numberBy lineFrom numberOf digitOf
+  line-ends : (line : List ℕ) → numberBy other (lineFrom Empty line) ≡ endsAt line (numeralOf line 0)
+  unfolding numberBy lineFrom numeralOf digitOf
   line-ends [] = refl
   line-ends (b ∷ bs) = go (leb 10 (digitOf b)) (eqb (digitOf b) 0) refl refl
     where
-      go : (s t : Bool) → leb 10 (digitOf b) ≡ s → eqb (digitOf b) 0 ≡ t → numberBy other (lineFrom Empty (b ∷ bs)) ≡ endsAt (b ∷ bs) (numberOf (b ∷ bs) 0)
+      go : (s t : Bool) → leb 10 (digitOf b) ≡ s → eqb (digitOf b) 0 ≡ t → numberBy other (lineFrom Empty (b ∷ bs)) ≡ endsAt (b ∷ bs) (numeralOf (b ∷ bs) 0)
       go true t h w = line-none b bs (digitOf b) refl (leb-true _ _ h)
       go false true h w = line-zero b bs (digitOf b) refl (leb-false _ _ h) (eqb-true _ _ w)
       go false false h w = line-number b bs (digitOf b) refl (leb-false _ _ h) (eqb-false _ _ w)

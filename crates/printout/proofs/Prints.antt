@@ -18,18 +18,15 @@ use Rattle.rungs.specs.Buffers.{Buffers, writtenWords, writtenRecords}
 use Rattle.drawing.specs.Kept.{Kept}
 use Rattle.list.specs.Questions.{question10}
 use Rattle.list.specs.ListScan.{listOf}
-use Rattle.list.specs.Listing.{ListingAnswer, written, listing, listingText, fixedNames, ListingDone}
-use Rattle.list.specs.Listing.{refused as listingRefused, answerOf as listedOf}
+use Rattle.list.specs.Listing.{ListingAnswer, written, listing, listingText, fixedNames, ListingDone, refused as listingRefused, listedAnswer}
 use Rattle.list.specs.declared.Listed.{Listed}
 use Rattle.list.specs.declared.Listed.the-variants.{Written as ListedCase, Refused as ListedRefused}
-use Rattle.translation.specs.TranslateKept.{Counts, translated, translateKept, countsIn, TranslateDone}
-use Rattle.translation.specs.TranslateKept.{refused as translateRefused, answerOf as translatedOf}
+use Rattle.translation.specs.TranslateKept.{Counts, translated, translateKept, countsIn, TranslateDone, refused as translateRefused, translatedAnswer}
 use Rattle.translation.specs.Laws.Answers.{written-room}
 use Rattle.translation.specs.declared.Counts.{Counts as CountsStruct}
 use Rattle.translation.specs.declared.Translated.{Translated}
 use Rattle.translation.specs.declared.Translated.the-variants.{Written as TranslatedCase, Refused as TranslatedRefused}
-use Rattle.text.specs.Read.{kept, readText, writtenKept, ReadDone}
-use Rattle.text.specs.Read.{refused as readRefused, answerOf as readOf}
+use Rattle.text.specs.Read.{kept, readText, writtenKept, ReadDone, refused as readRefused, textReadAnswer}
 use Rattle.text.specs.Laws.Reads.{written-room as kept-room-of}
 use Rattle.text.specs.declared.Counts.{Counts as KeptStruct}
 use Rattle.text.specs.declared.TextRead.{TextRead}
@@ -82,8 +79,8 @@ module _ (vars : ℕ) (words : List ℕ) (rs : List RungRecord) {r : Listed} {bu
     (done : ListingDone (listing fixedNames vars words rs (replicate 65536 0)) r buffer) where
   module _ (x : RefusalCase) (e : r ≡ ListedRefused x) where
     list-refusal : listing fixedNames vars words rs (replicate 65536 0) .answer ≡ listingRefused (refusalOf x)
-    unfolding listedOf
-    list-refusal = sym (done .answer) ∙ ap listedOf e
+    unfolding listedAnswer
+    list-refusal = sym (done .answer) ∙ ap listedAnswer e
 
     pub list-refused : (counts : Counts) {l : List ℕ} {i p : ℕ} {y : List ℕ} → Put l i (refusalLine (refusalOf x)) p y → Put l i (printedList vars words rs counts) p y
     unfolding printedList
@@ -91,8 +88,8 @@ module _ (vars : ℕ) (words : List ℕ) (rs : List RungRecord) {r : Listed} {bu
 
   module _ (n : ℕ) (e : r ≡ ListedCase n) where
     list-answer : listing fixedNames vars words rs (replicate 65536 0) .answer ≡ written n
-    unfolding listedOf
-    list-answer = sym (done .answer) ∙ ap listedOf e
+    unfolding listedAnswer
+    list-answer = sym (done .answer) ∙ ap listedAnswer e
 
     pub list-room : n ≤ 65536
     list-room = room-of n 65536 0 (listed-room vars words rs (replicate 65536 0) n list-answer)
@@ -110,8 +107,8 @@ module _ (vars : ℕ) (words : List ℕ) (rs : List RungRecord) {r : Listed} {bu
 module _ (vars : ℕ) (k : Kept) {r : Translated} {after : Buffers} (done : TranslateDone (translateKept vars k (blank 16384 256)) r after) where
   module _ (x : RefusalCase) (e : r ≡ TranslatedRefused x) where
     pub kept-refusal : translateKept vars k (blank 16384 256) .answer ≡ translateRefused (refusalOf x)
-    unfolding translatedOf
-    kept-refusal = sym (done .answer) ∙ ap translatedOf e
+    unfolding translatedAnswer
+    kept-refusal = sym (done .answer) ∙ ap translatedAnswer e
 
     pub kept-refused : {l : List ℕ} {i p : ℕ} {y : List ℕ} → Put l i (refusalLine (refusalOf x)) p y → Put l i (printedKept vars k) p y
     unfolding printedKept
@@ -119,8 +116,8 @@ module _ (vars : ℕ) (k : Kept) {r : Translated} {after : Buffers} (done : Tran
 
   module _ (c : CountsStruct) (e : r ≡ TranslatedCase c) where
     pub kept-answer : translateKept vars k (blank 16384 256) .answer ≡ translated (countsIn c)
-    unfolding translatedOf
-    kept-answer = sym (done .answer) ∙ ap translatedOf e
+    unfolding translatedAnswer
+    kept-answer = sym (done .answer) ∙ ap translatedAnswer e
 
     pub kept-room : (c .instructions ≤ 16384) × (c .rungs ≤ 256)
     kept-room =
@@ -139,8 +136,8 @@ module _ (vars : ℕ) (k : Kept) {r : Translated} {after : Buffers} (done : Tran
 module _ (vars : ℕ) (s : List ℕ) {r : TextRead} {after : Buffers} (done : ReadDone (readText vars s (blank 8192 256)) r after) where
   module _ (x : RefusalCase) (e : r ≡ ReadRefusedCase x) where
     pub read-refusal : readText vars s (blank 8192 256) .answer ≡ readRefused (refusalOf x)
-    unfolding readOf
-    read-refusal = sym (done .answer) ∙ ap readOf e
+    unfolding textReadAnswer
+    read-refusal = sym (done .answer) ∙ ap textReadAnswer e
 
     pub read-refused : {l : List ℕ} {i p : ℕ} {y : List ℕ} → Put l i (refusalLine (refusalOf x)) p y → Put l i (printed vars s) p y
     unfolding printed
@@ -148,8 +145,8 @@ module _ (vars : ℕ) (s : List ℕ) {r : TextRead} {after : Buffers} (done : Re
 
   module _ (c : KeptStruct) (e : r ≡ KeptCase c) where
     pub read-answer : readText vars s (blank 8192 256) .answer ≡ kept (c .words) (c .rungs)
-    unfolding readOf
-    read-answer = sym (done .answer) ∙ ap readOf e
+    unfolding textReadAnswer
+    read-answer = sym (done .answer) ∙ ap textReadAnswer e
 
     pub read-room : (c .words ≤ 8192) × (c .rungs ≤ 256)
     read-room =

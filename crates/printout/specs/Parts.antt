@@ -9,12 +9,13 @@ use Rattle.printout.specs.Printout.{firstLine, textAfter}
 use Rattle.printout.specs.declared.Lined.{Lined}
 use Rattle.printout.specs.declared.FirstLine.{FirstLine}
 use Rattle.printout.specs.declared.FirstLine.the-variants.{Empty, Zero, Number, Bad}
+use Rattle.grammar.specs.Grammar.{mostNumber}
 
 -- a line with one byte more
 unfoldable pub stepOf : FirstLine → ℕ → FirstLine
 stepOf Empty b = let x = digitOf b in pick (leb 10 x) Bad (pick (eqb x 0) Zero (Number x))
 stepOf Zero b = Bad
-stepOf (Number v) b = let x = digitOf b in pick (leb 10 x) Bad (pick (ltb 65535 (v * 10 + x)) Bad (Number (v * 10 + x)))
+stepOf (Number v) b = let x = digitOf b in pick (leb 10 x) Bad (pick (ltb mostNumber (v * 10 + x)) Bad (Number (v * 10 + x)))
 stepOf Bad b = Bad
 
 -- what the bytes of a line lead to

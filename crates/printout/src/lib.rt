@@ -6,12 +6,16 @@ ghost use Rattle.questions.specs.Refusals.{refusalOf};
 ghost use Rattle.rungs.specs.Records.{rowOf};
 ghost use Rattle.printing.specs.Put.{Put};
 ghost use Rattle.translation.specs.TranslateKept.{countsIn};
-ghost use Rattle.printout.specs.Printout.{refusalLine, countLine, printedList, printedKept, printed, output};
+ghost use Rattle.printout.specs.Printout.{refusalLine, countLine, printedList, printedKept, printed, output, mostKept};
 ghost use Rattle.printout.specs.Parts.{stepOf, numberBy, NumberTaken};
 ghost use Rattle.grammar.specs.Reader.{digitOf};
 ghost use Rattle.printout.specs.declared.FirstLine.the-variants.{Empty, Number};
+use grammar::MOST_NUMBER;
+use kinds::MOST_WORDS;
 use list::Listed;
+use list::MOST_INSTRUCTIONS;
 use questions::Refusal;
+use rungs::MOST_RECORDS;
 use text::TextRead;
 use translation::Counts;
 use translation::Translated;
@@ -19,12 +23,7 @@ use translation::Translated;
 // Up to 65,536 bytes of text are kept.
 pub const MOST_KEPT: usize = 65536;
 
-const MOST_WORDS: usize = 8192;
-
-const MOST_RUNGS: usize = 256;
-
-const MOST_INSTRUCTIONS: usize = 16384;
-
+// As many are lent to Listing.
 const MOST_LISTING: usize = 65536;
 
 // What the bytes of the first line so far are: none, "0", another number, or no number.
@@ -73,7 +72,7 @@ fn first_byte(byte: u8) -> FirstLine
 fn more_bytes(value: u32, byte: u8) -> FirstLine
     ensures { λ r. ⌜ r ≡ stepOf (Number value) byte ⌝ }
 {
-    if 65535 < value {
+    if MOST_NUMBER < value {
         return FirstLine::Bad;
     }
     let digit = digit_of(byte);
@@ -81,7 +80,7 @@ fn more_bytes(value: u32, byte: u8) -> FirstLine
         return FirstLine::Bad;
     }
     let more = value * 10 + digit;
-    if 65535 < more {
+    if MOST_NUMBER < more {
         return FirstLine::Bad;
     }
     FirstLine::Number(more)
@@ -179,9 +178,9 @@ fn print_kept(
         r (now (out .exit)) ⌝ }
 {
     let mut code = [0u32; MOST_INSTRUCTIONS];
-    let mut code_labels = [0u16; MOST_RUNGS];
-    let mut code_offsets = [0u32; MOST_RUNGS];
-    let mut code_lengths = [0u32; MOST_RUNGS];
+    let mut code_labels = [0u16; MOST_RECORDS];
+    let mut code_offsets = [0u32; MOST_RECORDS];
+    let mut code_lengths = [0u32; MOST_RECORDS];
     match translation::translate(
         vars,
         words,
@@ -215,9 +214,9 @@ pub fn print(vars: u32, text: &[u8], out: &mut [u8]) -> usize
     ensures { λ r. ⌜ Put (now (out .entry)) 0 (printed vars (now (text .entry))) r (now (out .exit)) ⌝ }
 {
     let mut words = [0u32; MOST_WORDS];
-    let mut labels = [0u16; MOST_RUNGS];
-    let mut offsets = [0u32; MOST_RUNGS];
-    let mut lengths = [0u32; MOST_RUNGS];
+    let mut labels = [0u16; MOST_RECORDS];
+    let mut offsets = [0u32; MOST_RECORDS];
+    let mut lengths = [0u32; MOST_RECORDS];
     match text::read(
         vars,
         text,
@@ -266,7 +265,7 @@ pub fn take_number(input: &[u8], from: usize) -> Lined
 
 // Where the kept text that begins at a position ends.
 pub fn kept_end(length: usize, at: usize) -> usize
-    ensures { λ r. ⌜ r ≡ at + min (length - at) 65536 ⌝ }
+    ensures { λ r. ⌜ r ≡ at + min (length - at) mostKept ⌝ }
 {
     if length <= at {
         return at;

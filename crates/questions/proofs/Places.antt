@@ -7,7 +7,7 @@ use denote.Enum.Declared.{tagOf}
 use Rattle.questions.proofs.Refusal.{the-type}
 use Rattle.questions.specs.Refusals.{refusalOf}
 use Rattle.questions.specs.declared.Refusal.{Refusal as RefusalCase}
-use Rattle.questions.specs.declared.Refusal.the-variants.{Variables, TextLength, Text, Kept, Sizes, Variable, Label, Jump, Scratch, List as ListCase, Table, Watchdog, Buffer}
+use Rattle.questions.specs.declared.Refusal.the-variants.{Variables, TextLength, Text, Kept, Sizes, Variable, Label, Jump, Scratch, List as ListCase, Table, Watchdog, Buffer as BufferCase}
 
 -- the refusals without a place
 abbrev placeless : List ℕ
@@ -27,4 +27,4 @@ no-place Scratch k = refl
 no-place ListCase k = refl
 no-place Table k = refl
 no-place Watchdog k = refl
-no-place Buffer k = refl
+no-place BufferCase k = refl

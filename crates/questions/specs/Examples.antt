@@ -1,10 +1,10 @@
 -- Worked questions 1, 2, 12 and 13, and their order. Assumes nothing.
 use mathlib.Core.Path.{_≡_, refl}
-use mathlib.Core.Option.{none, some}
+use mathlib.Core.Option.{some}
 use mathlib.Core.List.{List, [], _∷_}
 use Prim.Native.Nat.{ℕ}
 use Rattle.questions.specs.Tests.{all}
-use Rattle.questions.specs.Questions.{Answer, ask, firstNo, varsInRange, question1, question2, question12, mostRungWatchdog, mostInstructionWatchdog, Buffer, longEnough, question13}
+use Rattle.questions.specs.Questions.{Answer, yes, ask, firstNo, varsInRange, question1, question2, question12, mostRungWatchdog, mostInstructionWatchdog, Buffer, longEnough, question13}
 
 refused : ℕ → Answer
 refused number = some (record { number = number; place = 0 })
@@ -31,6 +31,6 @@ answers =
     ∷ []
 
 answers-worked : answers ≡
-    refused 1 ∷ none ∷ none ∷ refused 1 ∷ refused 2 ∷ none ∷ refused 2 ∷ none ∷ refused 12 ∷ refused 12 ∷ none ∷ refused 13 ∷ refused 2 ∷ none ∷ []
+    refused 1 ∷ yes ∷ yes ∷ refused 1 ∷ refused 2 ∷ yes ∷ refused 2 ∷ yes ∷ refused 12 ∷ refused 12 ∷ yes ∷ refused 13 ∷ refused 2 ∷ yes ∷ []
 unfolding answers refused buffer question1 varsInRange question2 question12 question13 longEnough ask firstNo all
 answers-worked = refl

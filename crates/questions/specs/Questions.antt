@@ -16,9 +16,13 @@ pub record Refusal : Type 0 where
 abbrev pub Answer : Type 0
 Answer = Option Refusal
 
+-- the answer "yes": no refusal
+abbrev pub yes : Answer
+yes = none
+
 -- a question whose "no" has place 0: "Place is 0 but for 3 and 6 to 8."
 unfoldable pub ask : ℕ → Bool → Answer
-ask number true = none
+ask number true = yes
 ask number false = some (record { number = number; place = 0 })
 
 -- a question that is put to each rung, in the row's order: "place the first such rung, from 0"
@@ -27,7 +31,7 @@ askEach number tests = Option·map (λ i. record { number = number; place = i })
 
 -- "They are put in this order to the calls named; the first "no" gives its number."
 unfoldable pub firstNo : List Answer → Answer
-firstNo [] = none
+firstNo [] = yes
 firstNo (none ∷ later) = firstNo later
 firstNo (some refusal ∷ later) = some refusal
 

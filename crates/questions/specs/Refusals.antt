@@ -1,9 +1,9 @@
 -- The number and place of each case of the enums Refusal and Verdict. Document 01, "Questions before work". Assumes nothing.
 use Prim.Native.Nat.{ℕ}
-use mathlib.Core.Option.{none, some}
-use Rattle.questions.specs.Questions.{Refusal, Answer}
+use mathlib.Core.Option.{some}
+use Rattle.questions.specs.Questions.{Refusal, Answer, yes}
 use Rattle.questions.specs.declared.Refusal.{Refusal as RefusalCase}
-use Rattle.questions.specs.declared.Refusal.the-variants.{Variables, TextLength, Text, Kept, Sizes, Variable, Label, Jump, Scratch, List, Table, Watchdog, Buffer}
+use Rattle.questions.specs.declared.Refusal.the-variants.{Variables, TextLength, Text, Kept, Sizes, Variable, Label, Jump, Scratch, List as ListCase, Table, Watchdog, Buffer as BufferCase}
 use Rattle.questions.specs.declared.Verdict.{Verdict}
 use Rattle.questions.specs.declared.Verdict.the-variants.{Accepted, Refused}
 
@@ -20,11 +20,11 @@ refusalOf (Variable rung) = numbered 6 rung
 refusalOf (Label rung) = numbered 7 rung
 refusalOf (Jump rung) = numbered 8 rung
 refusalOf Scratch = numbered 9 0
-refusalOf List = numbered 10 0
+refusalOf ListCase = numbered 10 0
 refusalOf Table = numbered 11 0
 refusalOf Watchdog = numbered 12 0
-refusalOf Buffer = numbered 13 0
+refusalOf BufferCase = numbered 13 0
 
-unfoldable pub answerOf : Verdict → Answer
-answerOf Accepted = none
-answerOf (Refused refusal) = some (refusalOf refusal)
+unfoldable pub verdictAnswer : Verdict → Answer
+verdictAnswer Accepted = yes
+verdictAnswer (Refused refusal) = some (refusalOf refusal)

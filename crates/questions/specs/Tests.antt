@@ -14,3 +14,8 @@ unfoldable pub firstFailed : List Bool → Option ℕ
 firstFailed [] = none
 firstFailed (true ∷ tests) = Option·map suc (firstFailed tests)
 firstFailed (false ∷ tests) = some 0
+
+-- 1 for true, 0 for false
+abbrev pub bit : Bool → ℕ
+bit true = 1
+bit false = 0

@@ -5,14 +5,14 @@ use native.Mathlib.Omega.{arith}
 use mathlib.Core.Path.{_≡_, refl, ap, sym, _∙_}
 use mathlib.Core.List.{List, [], _∷_, _++_, map}
 use lib.ListN.{length, getD, set, take, drop, replicate, length-take, length-replicate, length-map, List·getD-map}
-use Rattle.rungs.specs.Records.{RungRecord}
+use Rattle.rungs.specs.Records.{RungRecord, mostRecords}
 use Rattle.rows.specs.declared.Rung.{Rung}
-use Rattle.rows.specs.Rows.{recordOf, recordsOf, noRecord, mostRungs, overZeros, gathered}
-use Rattle.rows.specs.Parts.{rowsOf}
+use Rattle.rows.specs.Rows.{recordOf, recordsOf, noRecord}
+use Rattle.rows.specs.Parts.{overZeros, gathered, rowsOf}
 use Rattle.rows.specs.Laws.Records.{rungAt, records-length, records-at}
 
 abbrev pub zeros : List ℕ
-zeros = replicate mostRungs 0
+zeros = replicate mostRecords 0
 
 -- ---- one list laid over another
 
@@ -45,20 +45,20 @@ module _ (f : RungRecord → ℕ) (row : List Rung) where
   unfolding fieldsTo
   fields-start = refl
 
-  pub fields-next : (i : ℕ) → i < mostRungs → i < length row → set (fieldsTo f i row) i (f (recordOf (rungAt row i))) ≡ fieldsTo f (i + 1) row
+  pub fields-next : (i : ℕ) → i < mostRecords → i < length row → set (fieldsTo f i row) i (f (recordOf (rungAt row i))) ≡ fieldsTo f (i + 1) row
   unfolding fieldsTo
   fields-next i h k =
       let p = fields-length in
-      let q = length-replicate {A = ℕ} mostRungs 0 in
+      let q = length-replicate {A = ℕ} mostRecords 0 in
       ap (λ (z : ℕ). set (take i (map f (recordsOf row)) ++ drop i zeros) i z) (fields-at i)
       ∙ laid-more (map f (recordsOf row)) zeros i (f noRecord) (omega (arith, p)) (omega (arith, q))
       ∙ ap (λ (z : ℕ). take z (map f (recordsOf row)) ++ drop z zeros) (sym (add-one i))
 
-  fields-all : (i : ℕ) → i ≡ min mostRungs (length row) → fieldsTo f i row ≡ overZeros (map f (recordsOf row))
+  fields-all : (i : ℕ) → i ≡ min mostRecords (length row) → fieldsTo f i row ≡ overZeros (map f (recordsOf row))
   unfolding fieldsTo overZeros
   fields-all i e =
-      ap (λ (z : ℕ). take z (map f (recordsOf row)) ++ drop z zeros) (e ∙ sym (length-take mostRungs (map f (recordsOf row)) ∙ ap (λ (z : ℕ). min mostRungs z) fields-length))
-      ∙ laid-whole mostRungs (map f (recordsOf row))
+      ap (λ (z : ℕ). take z (map f (recordsOf row)) ++ drop z zeros) (e ∙ sym (length-take mostRecords (map f (recordsOf row)) ∙ ap (λ (z : ℕ). min mostRecords z) fields-length))
+      ∙ laid-whole mostRecords (map f (recordsOf row))
 
 abbrev pub labelOf : RungRecord → ℕ
 labelOf r = r .label
@@ -69,6 +69,6 @@ offsetOf r = r .offset
 abbrev pub lengthOf : RungRecord → ℕ
 lengthOf r = r .length
 
-pub gathered-all : (row : List Rung) (i : ℕ) → i ≡ min mostRungs (length row) → rowsOf (fieldsTo labelOf i row) (fieldsTo offsetOf i row) (fieldsTo lengthOf i row) (length row) (min mostRungs (length row)) ≡ gathered (recordsOf row)
+pub gathered-all : (row : List Rung) (i : ℕ) → i ≡ min mostRecords (length row) → rowsOf (fieldsTo labelOf i row) (fieldsTo offsetOf i row) (fieldsTo lengthOf i row) (length row) (min mostRecords (length row)) ≡ gathered (recordsOf row)
 unfolding gathered
-gathered-all row i e = λ j. rowsOf (fields-all labelOf row i e j) (fields-all offsetOf row i e j) (fields-all lengthOf row i e j) (sym (records-length row) j) (min mostRungs (sym (records-length row) j))
+gathered-all row i e = λ j. rowsOf (fields-all labelOf row i e j) (fields-all offsetOf row i e j) (fields-all lengthOf row i e j) (sym (records-length row) j) (min mostRecords (sym (records-length row) j))

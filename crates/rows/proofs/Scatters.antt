@@ -6,20 +6,20 @@ use mathlib.Core.Path.{_≡_, refl, ap, sym, _∙_}
 use mathlib.Core.List.{List, [], _∷_, _++_, map}
 use lib.ListN.{length, getD, set, take, drop, length-map, List·getD-map}
 use lib.Seq.{drop-cons, length-front, length-take-le}
-use Rattle.rungs.specs.Records.{RungRecord, rowOf}
+use Rattle.rungs.specs.Records.{RungRecord, rowOf, mostRecords}
 use Rattle.rungs.specs.Laws.Rows.{Even, row-length, row-at}
 use Rattle.rows.specs.declared.Rung.{Rung}
 use Rattle.rows.specs.declared.Rows.{Rows}
-use Rattle.rows.specs.Rows.{recordsOf, noRecord, mostRungs, scattered}
-use Rattle.rows.specs.Parts.{rungIn}
+use Rattle.rows.specs.Rows.{recordsOf, noRecord}
+use Rattle.rows.specs.Parts.{scattered, rungIn}
 use Rattle.rows.specs.Laws.Records.{rungOf, noRung}
 use Rattle.rows.proofs.Gathers.{laid-more}
 
 -- arrays as long as their type says
 pub record Full (rows : Rows) : Type 0 where
-  pub labels : length (rows .labels) ≡ mostRungs
-  pub offsets : length (rows .offsets) ≡ mostRungs
-  pub lengths : length (rows .lengths) ≡ mostRungs
+  pub labels : length (rows .labels) ≡ mostRecords
+  pub offsets : length (rows .offsets) ≡ mostRecords
+  pub lengths : length (rows .lengths) ≡ mostRecords
 
 abbrev recordsIn : Rows → List RungRecord
 recordsIn rows = rowOf (rows .labels) (rows .offsets) (rows .lengths)
@@ -42,13 +42,13 @@ module _ (rows : Rows) (full : Full rows) where
   even : Even (rows .labels) (rows .offsets) (rows .lengths)
   even = record { first = full .labels ∙ sym (full .offsets); second = full .offsets ∙ sym (full .lengths) }
 
-  records-in : length (recordsIn rows) ≡ mostRungs
+  records-in : length (recordsIn rows) ≡ mostRecords
   records-in = row-length (rows .labels) (rows .offsets) (rows .lengths) even ∙ full .labels
 
-  rungs-in : length (map rungOf (recordsIn rows)) ≡ mostRungs
+  rungs-in : length (map rungOf (recordsIn rows)) ≡ mostRecords
   rungs-in = length-map (recordsIn rows) rungOf ∙ records-in
 
-  rung-in : (i : ℕ) → i < mostRungs → rungIn (rows .labels) (rows .offsets) (rows .lengths) i ≡ getD (map rungOf (recordsIn rows)) i noRung
+  rung-in : (i : ℕ) → i < mostRecords → rungIn (rows .labels) (rows .offsets) (rows .lengths) i ≡ getD (map rungOf (recordsIn rows)) i noRung
   rung-in i h =
       let p = records-in in
       let q = full .labels in
@@ -56,7 +56,7 @@ module _ (rows : Rows) (full : Full rows) where
       ∙ ap (λ (l : List RungRecord). rungOf (getD l 0 noRecord))
       (sym (drop-cons (recordsIn rows) i noRecord (omega (arith, p))) ∙ row-at (rows .labels) (rows .offsets) (rows .lengths) even i (omega (arith, q))))
 
-  pub scattered-next : (i : ℕ) (row : List Rung) → i < mostRungs → i < length row → set (scatteredTo i rows row) i (rungIn (rows .labels) (rows .offsets) (rows .lengths) i) ≡ scatteredTo (i + 1) rows row
+  pub scattered-next : (i : ℕ) (row : List Rung) → i < mostRecords → i < length row → set (scatteredTo i rows row) i (rungIn (rows .labels) (rows .offsets) (rows .lengths) i) ≡ scatteredTo (i + 1) rows row
   unfolding scatteredTo
   scattered-next i row h k =
       let p = rungs-in in
@@ -64,12 +64,12 @@ module _ (rows : Rows) (full : Full rows) where
       ∙ laid-more (map rungOf (recordsIn rows)) row i noRung (omega (arith, p)) k
       ∙ ap (λ (z : ℕ). take z (map rungOf (recordsIn rows)) ++ drop z row) (sym (add-one i))
 
-  pub scattered-length : (i : ℕ) (row : List Rung) → i ≤ mostRungs → i ≤ length row → length (scatteredTo i rows row) ≡ length row
+  pub scattered-length : (i : ℕ) (row : List Rung) → i ≤ mostRecords → i ≤ length row → length (scatteredTo i rows row) ≡ length row
   unfolding scatteredTo
   scattered-length i row h k =
       let p = rungs-in in
       length-front row (take i (map rungOf (recordsIn rows))) i (length-take-le i (map rungOf (recordsIn rows)) (omega (arith, p)) ∙ sym (length-take-le i row k))
 
-  pub scattered-all : (n : ℕ) (row : List Rung) → n ≤ mostRungs → n ≤ length row → recordsOf (scatteredTo n rows row) ≡ scattered n rows (recordsOf row)
+  pub scattered-all : (n : ℕ) (row : List Rung) → n ≤ mostRecords → n ≤ length row → recordsOf (scatteredTo n rows row) ≡ scattered n rows (recordsOf row)
   unfolding scatteredTo scattered
   scattered-all n row h k = let p = records-in in records-laid n (recordsIn rows) row (omega (arith, p)) k

@@ -1,10 +1,10 @@
 -- What the functions inside this crate promise to each other. Nothing here is a sentence of document 01. Assumes nothing.
-use Prim.Native.Nat.{ℕ}
+use Prim.Native.Nat.{ℕ, min}
 use mathlib.Core.Bool.{true, false}
-use mathlib.Core.List.{List}
+use mathlib.Core.List.{List, _++_, map}
 use lib.Dec.{eqb}
-use lib.ListN.{getD}
-use Rattle.rungs.specs.Records.{RungRecord}
+use lib.ListN.{length, getD, take, drop, replicate}
+use Rattle.rungs.specs.Records.{RungRecord, mostRecords, labels, offsets, rowOf}
 use Rattle.rows.specs.declared.Rung.{Rung}
 use Rattle.rows.specs.declared.Rows.{Rows}
 
@@ -17,3 +17,23 @@ rowsOf ls os ns n k = record { labels = ls; offsets = os; lengths = ns; n = n; k
 
 abbrev pub rungIn : List ℕ → List ℕ → List ℕ → ℕ → Rung
 rungIn labels offsets lengths i = record { label = getD labels i 0; offset = getD offsets i 0; length = getD lengths i 0 }
+
+-- ---- a row taken apart
+
+-- as many numbers as have room, the rest stays 0
+unfoldable pub overZeros : List ℕ → List ℕ
+overZeros xs = take mostRecords xs ++ drop (length xs) (replicate mostRecords 0)
+
+unfoldable pub gathered : List RungRecord → Rows
+gathered rs =
+    record {
+      labels = overZeros (labels rs);
+      offsets = overZeros (offsets rs);
+      lengths = overZeros (map (λ (r : RungRecord). r .length) rs);
+      n = length rs;
+      kept = min mostRecords (length rs);
+    }
+
+-- and put together again: the first n of its records from the start; the rest stays
+unfoldable pub scattered : ℕ → Rows → List RungRecord → List RungRecord
+scattered n rows rs = take n (rowOf (rows .labels) (rows .offsets) (rows .lengths)) ++ drop n rs

@@ -3,9 +3,10 @@
 ghost use mathlib.Core.Path.{_≡_};
 ghost use Prim.Native.Nat.{_<_, _≤_, min};
 ghost use lib.ListN.{length, take, set};
-ghost use Rattle.rungs.specs.Records.{labels, search};
-ghost use Rattle.rows.specs.Rows.{mostRungs, recordOf, recordsOf, recordAt, gathered, scattered};
-ghost use Rattle.rows.specs.Parts.{nextFound, rowsOf, rungIn};
+ghost use Rattle.rungs.specs.Records.{labels, search, mostRecords};
+ghost use Rattle.rows.specs.Rows.{recordOf, recordsOf, recordAt};
+ghost use Rattle.rows.specs.Parts.{gathered, scattered, nextFound, rowsOf, rungIn};
+use rungs::MOST_RECORDS;
 
 pub struct Rung {
     pub label: u16,
@@ -13,14 +14,11 @@ pub struct Rung {
     pub length: u32,
 }
 
-// Question 5 and question 10: no more than these are kept.
-const MOST_RUNGS: usize = 256;
-
-// The fields of a row's first records: `n` were lent, `kept` of them stand here.
+// The fields of a row's first records, no more than question 5 and question 10 take: `n` were lent, `kept` of them stand here.
 pub struct Rows {
-    pub labels: [u16; 256],
-    pub offsets: [u32; 256],
-    pub lengths: [u32; 256],
+    pub labels: [u16; MOST_RECORDS],
+    pub offsets: [u32; MOST_RECORDS],
+    pub lengths: [u32; MOST_RECORDS],
     pub n: usize,
     pub kept: usize,
 }
@@ -59,20 +57,20 @@ pub fn look_up(row: &[Rung], label: u32, upto: usize) -> usize
 
 // As many of `n` records as stand in a `Rows`.
 pub fn room(n: usize) -> usize
-    ensures { λ r. ⌜ r ≡ min mostRungs n ⌝ }
+    ensures { λ r. ⌜ r ≡ min mostRecords n ⌝ }
 {
-    if MOST_RUNGS < n { MOST_RUNGS } else { n }
+    if MOST_RECORDS < n { MOST_RECORDS } else { n }
 }
 
 // The fields of one record more.
 fn put_rung(
-    labels: &mut [u16; 256],
-    offsets: &mut [u32; 256],
-    lengths: &mut [u32; 256],
+    labels: &mut [u16; MOST_RECORDS],
+    offsets: &mut [u32; MOST_RECORDS],
+    lengths: &mut [u32; MOST_RECORDS],
     i: usize,
     r: Rung,
 )
-    requires { ⌜ i < 256 ⌝ }
+    requires { ⌜ i < mostRecords ⌝ }
     ensures { λ _. ⌜ (now (labels .exit) ≡ set (now (labels .entry)) i (r .label))
         × (now (offsets .exit) ≡ set (now (offsets .entry)) i (r .offset))
         × (now (lengths .exit) ≡ set (now (lengths .entry)) i (r .length)) ⌝ }
@@ -84,9 +82,9 @@ fn put_rung(
 
 // The arrays as one struct.
 fn rows_of(
-    labels: [u16; 256],
-    offsets: [u32; 256],
-    lengths: [u32; 256],
+    labels: [u16; MOST_RECORDS],
+    offsets: [u32; MOST_RECORDS],
+    lengths: [u32; MOST_RECORDS],
     n: usize,
     kept: usize,
 ) -> Rows
@@ -105,9 +103,9 @@ fn rows_of(
 pub fn gather(row: &[Rung]) -> Rows
     ensures { λ r. ⌜ r ≡ gathered (recordsOf (now (row .entry))) ⌝ }
 {
-    let mut labels = [0u16; 256];
-    let mut offsets = [0u32; 256];
-    let mut lengths = [0u32; 256];
+    let mut labels = [0u16; MOST_RECORDS];
+    let mut offsets = [0u32; MOST_RECORDS];
+    let mut lengths = [0u32; MOST_RECORDS];
     let kept = room(row.len());
     let mut i = 0;
     while i < kept {
@@ -118,8 +116,13 @@ pub fn gather(row: &[Rung]) -> Rows
 }
 
 // The record at a place of the arrays.
-fn rung_in(labels: &[u16; 256], offsets: &[u32; 256], lengths: &[u32; 256], i: usize) -> Rung
-    requires { ⌜ i < 256 ⌝ }
+fn rung_in(
+    labels: &[u16; MOST_RECORDS],
+    offsets: &[u32; MOST_RECORDS],
+    lengths: &[u32; MOST_RECORDS],
+    i: usize,
+) -> Rung
+    requires { ⌜ i < mostRecords ⌝ }
     ensures { λ r. ⌜ r ≡ rungIn (now (labels .entry)) (now (offsets .entry)) (now (lengths .entry)) i ⌝ }
 {
     Rung {

@@ -5,6 +5,12 @@ ghost use Prim.Native.Nat.{max};
 ghost use lib.ListN.{getD, set};
 ghost use Rattle.rungs.specs.Records.{search};
 
+// A word is its kind or op times this, and its operand.
+pub const OPERANDS: u32 = 65536;
+
+// At most 256 records.
+pub const MOST_RECORDS: usize = 256;
+
 // The word at a position, 0 past the end.
 pub fn word_at(words: &[u32], at: usize) -> u32
     ensures { λ r. ⌜ r ≡ getD (now (words .entry)) at 0 ⌝ }

@@ -10,7 +10,7 @@ use lib.ListN.{length, getD, take, drop, length-append}
 use Rattle.questions.specs.Bytes.{bytes, decimal}
 use Rattle.questions.specs.Refusals.{refusalOf}
 use Rattle.questions.specs.declared.Refusal.{Refusal as RefusalCase}
-use Rattle.questions.specs.declared.Refusal.the-variants.{Variables, TextLength, Text, Kept, Sizes, Variable, Label, Jump, Scratch, List as ListCase, Table, Watchdog, Buffer}
+use Rattle.questions.specs.declared.Refusal.the-variants.{Variables, TextLength, Text, Kept, Sizes, Variable, Label, Jump, Scratch, List as ListCase, Table, Watchdog, Buffer as BufferCase}
 use Rattle.questions.proofs.Refusal.{the-type}
 use denote.Enum.Declared.{row}
 use denote.Laws.{Is}
@@ -247,7 +247,7 @@ place-fits Scratch h = omega arith
 place-fits ListCase h = omega arith
 place-fits Table h = omega arith
 place-fits Watchdog h = omega arith
-place-fits Buffer h = omega arith
+place-fits BufferCase h = omega arith
 
 number-small : (q : RefusalCase) → refusalOf q .number < 65536
 unfolding refusalOf
@@ -263,7 +263,7 @@ number-small Scratch = omega arith
 number-small ListCase = omega arith
 number-small Table = omega arith
 number-small Watchdog = omega arith
-number-small Buffer = omega arith
+number-small BufferCase = omega arith
 
 pub refusal-long : (q : RefusalCase) {vs : List Val} → Is (row the-type) q vs → length (refusalLine (refusalOf q)) ≤ 1000
 unfolding refusalLine bytes

@@ -15,32 +15,29 @@ use Rattle.questions.specs.Questions.{Answer, Refusal, ask, firstNo, question1,
 use Rattle.questions.specs.Laws.Answers.{first-yes, later-yes, vars-in-range, watchdog-in-range}
 use Rattle.questions.specs.Refusals.{refusalOf}
 use Rattle.questions.specs.declared.Refusal.{Refusal as RefusalCase}
-use Rattle.table.specs.State.{State}
+use Rattle.table.specs.State.{State, stateOf}
 use Rattle.table.specs.Halt.{Halt, Ended, Stopped}
 use Rattle.table.specs.Questions.{question11, tableInRange}
 use Rattle.rungs.specs.Records.{RungRecord, rowOf, longest}
 use Rattle.rungs.specs.Buffers.{Buffers, writtenWords, writtenRecords}
 use Rattle.drawing.specs.Tree.{Ladder}
 use Rattle.drawing.specs.Kept.{Kept}
-use Rattle.drawing.specs.Meaning.{LadderScan, scanLadder}
+use Rattle.drawing.specs.Meaning.{LadderResult, scanLadder}
 use Rattle.drawing.specs.Questions.{ladderOf, ladderAnswer}
-use Rattle.drawing.specs.Laws.Accepting.{accepted}
+use Rattle.drawing.specs.Laws.Accepting.{accepted, ladder-first}
 use Rattle.drawing.specs.Laws.Watchdog.{stopped-stands, ended-stands}
-use Rattle.ladder.specs.LadderScan.{ladderScan, LadderScanDone}
-use Rattle.ladder.specs.LadderScan.{ScanAnswer as LadderAnswer, scanned as ladderScanned, refused as ladderRefused, scanAnswer as ladderAsked, scanEnds as ladderEnds, answerOf as ladderOfCase}
+use Rattle.ladder.specs.LadderScan.{LadderCounts, callLadderScan, LadderScanDone, countsIn as ladderCountsIn, LadderScanAnswer, scanned as ladderScanned, refused as ladderRefused, scanQuestions as ladderAsked, scanEnds as ladderEnds, ladderScannedAnswer as ladderOfCase}
 use Rattle.ladder.specs.declared.LadderScanned.{LadderScanned}
 use Rattle.ladder.specs.declared.Counts.{Counts as LadderStruct}
 use Rattle.ladder.specs.declared.LadderScanned.the-variants.{Ended as LadderEnded, Stopped as LadderStopped, Refused as LadderRefused}
 use Rattle.list.specs.Questions.{question10}
-use Rattle.list.specs.ListScan.{listScan, ListScanDone, countsOf}
-use Rattle.list.specs.ListScan.{ScanAnswer as ListAnswer, scanned as listScanned, refused as listRefused, scanAnswer as listAsked, answerOf as listOfCase}
+use Rattle.list.specs.ListScan.{callListScan, ListScanDone, countsIn as listCountsIn, ListScanAnswer, scanned as listScanned, refused as listRefused, scanQuestions as listAsked, listScannedAnswer as listOfCase}
 use Rattle.list.specs.Machine.{Counts as ListCounts}
 use Rattle.list.specs.declared.ListScanned.{ListScanned}
 use Rattle.list.specs.declared.Counts.{Counts as ListStruct}
 use Rattle.list.specs.declared.ListScanned.the-variants.{Ended as ListEnded, Stopped as ListStopped, Refused as ListRefused}
 use Rattle.translation.specs.Translate.{translate}
-use Rattle.translation.specs.TranslateKept.{translateKept, countsIn, TranslateDone}
-use Rattle.translation.specs.TranslateKept.{countsOf as countsOfList}
+use Rattle.translation.specs.TranslateKept.{translateKept, countsIn, TranslateDone, countsOf as countsOfList}
 use Rattle.translation.specs.Laws.Answers.{counts-are, all-yes}
 use Rattle.translation.specs.Laws.Legal.{watchdog-in-range as most-in-range}
 use Rattle.translation.specs.declared.Translated.{Translated}
@@ -54,8 +51,7 @@ use Rattle.printing.specs.Put.{Put}
 use Rattle.printout.specs.Printout.{blank}
 use Rattle.printout.proofs.Prints.{read-refusal, read-answer, kept-refusal, kept-answer}
 use Rattle.scanout.specs.Scanout.{refusalText, sameBytes, alike, instructionWatchdog, listReport, scansReport, keptReport, report}
-use Rattle.scanout.specs.Parts.{TableCopied, haltOf, ofLadder, ofList, bothLines}
-use Rattle.scanout.specs.Parts.{countsIn as countsInScan}
+use Rattle.scanout.specs.Parts.{TableCopied, haltOf, ofLadder, ofList, bothLines, countsIn as countsInScan}
 use Rattle.scanout.specs.declared.Scanned.{Scanned}
 
 -- ---- bytes compared
@@ -262,23 +258,23 @@ module _ (u copy : List ℕ) (n : ℕ) (long : length u ≡ length (take n copy)
   pub back-same : take n (u ++ drop n copy) ≡ u
   back-same = take-at u (drop n copy) n back-long
 
-no-table : (vars : ℕ) → question11 (record { vars = vars; bytes = [] }) ≡ ask 11 false
+no-table : (vars : ℕ) → question11 (stateOf vars []) ≡ ask 11 false
 unfolding question11 tableInRange
 no-table vars = let e : eqb 0 (vars + 32) ≡ false = ne-eqb _ _ (not-short vars) in rw e refl
 
-long-table : (vars : ℕ) (table : List ℕ) → vars ≤ 1024 → 1056 < length table → question11 (record { vars = vars; bytes = table }) ≡ ask 11 false
+long-table : (vars : ℕ) (table : List ℕ) → vars ≤ 1024 → 1056 < length table → question11 (stateOf vars table) ≡ ask 11 false
 unfolding question11 tableInRange
 long-table vars table h k = let e : eqb (length table) (vars + 32) ≡ false = ne-eqb _ _ (not-long h k) in rw e refl
 
 -- ---- List scan
 
-not-list : (h : Halt) (c : ListCounts) (x : Refusal) → _≡_ {A = ListAnswer} (listScanned h c) (listRefused x) → ⊥
+not-list : (h : Halt) (c : ListCounts) (x : Refusal) → _≡_ {A = ListScanAnswer} (listScanned h c) (listRefused x) → ⊥
 not-list h c x e = let z : _≡_ {A = ℕ} 0 1 = cc in omega arith
 
 module _ (vars : ℕ) (words : List ℕ) (rs : List RungRecord) (w : ℕ) where
-  list-refuses : (t : List ℕ) (x : Refusal) → listAsked vars words rs t w ≡ some x → listScan vars words rs t w .answer ≡ listRefused x
-  unfolding listScan
-  list-refuses t x e = rw (e, listScan)
+  list-refuses : (t : List ℕ) (x : Refusal) → listAsked vars words rs t w ≡ some x → callListScan vars words rs t w .answer ≡ listRefused x
+  unfolding callListScan
+  list-refuses t x e = rw (e, callListScan)
 
   -- none and a table that is too long are refused alike
   list-long : (table : List ℕ) → 1056 < length table → (x : Refusal) × (listAsked vars words rs [] w ≡ some x) × (listAsked vars words rs table w ≡ some x)
@@ -297,26 +293,26 @@ module _ (vars : ℕ) (words : List ℕ) (rs : List RungRecord) (w : ℕ) where
       first none p = then p (question10 vars words rs) refl
 
   module _ {table t : List ℕ} (lent : Lent table t) where
-    list-answered : listScan vars words rs t w .answer ≡ listScan vars words rs table w .answer
+    list-answered : callListScan vars words rs t w .answer ≡ callListScan vars words rs table w .answer
     list-answered = go lent
       where
-        go : Lent table t → listScan vars words rs t w .answer ≡ listScan vars words rs table w .answer
-        go (inl e) = ap (λ u. listScan vars words rs u w .answer) e
+        go : Lent table t → callListScan vars words rs t w .answer ≡ callListScan vars words rs table w .answer
+        go (inl e) = ap (λ u. callListScan vars words rs u w .answer) e
         go (inr h) =
             let b = list-long table (h .0) in
-            ap (λ u. listScan vars words rs u w .answer) (h .1) ∙ list-refuses [] (b .0) (b .1) ∙ sym (list-refuses table (b .0) (b .2))
+            ap (λ u. callListScan vars words rs u w .answer) (h .1) ∙ list-refuses [] (b .0) (b .1) ∙ sym (list-refuses table (b .0) (b .2))
 
-    list-whole : (h : Halt) (c : ListCounts) → listScan vars words rs t w .answer ≡ listScanned h c → t ≡ table
+    list-whole : (h : Halt) (c : ListCounts) → callListScan vars words rs t w .answer ≡ listScanned h c → t ≡ table
     list-whole h c a = go lent
       where
         go : Lent table t → t ≡ table
         go (inl e) = e
         go (inr k) =
             let b = list-long table (k .0) in
-            absurd (not-list h c (b .0) (sym a ∙ ap (λ u. listScan vars words rs u w .answer) (k .1) ∙ list-refuses [] (b .0) (b .1)))
+            absurd (not-list h c (b .0) (sym a ∙ ap (λ u. callListScan vars words rs u w .answer) (k .1) ∙ list-refuses [] (b .0) (b .1)))
 
     -- a scan was asked for with a legal V
-    list-range : (h : Halt) (c : ListCounts) → listScan vars words rs t w .answer ≡ listScanned h c → vars ≤ 1024
+    list-range : (h : Halt) (c : ListCounts) → callListScan vars words rs t w .answer ≡ listScanned h c → vars ≤ 1024
     unfolding listAsked
     list-range h c a = go (listAsked vars words rs t w) refl
       where
@@ -324,9 +320,9 @@ module _ (vars : ℕ) (words : List ℕ) (rs : List RungRecord) (w : ℕ) where
         go (some x) q = absurd (not-list h c x (sym a ∙ list-refuses t x q))
         go none q = vars-in-range vars (first-yes (question1 vars) _ q) .1
 
-    module _ {r : ListScanned} {u : List ℕ} (done : ListScanDone (listScan vars words rs t w) r u) where
+    module _ {r : ListScanned} {u : List ℕ} (done : ListScanDone (callListScan vars words rs t w) r u) where
       module _ (x : RefusalCase) (e : r ≡ ListRefused x) where
-        list-refusal : listScan vars words rs table w .answer ≡ listRefused (refusalOf x)
+        list-refusal : callListScan vars words rs table w .answer ≡ listRefused (refusalOf x)
         unfolding listOfCase
         list-refusal = sym list-answered ∙ sym (done .answer) ∙ ap listOfCase e
 
@@ -335,48 +331,48 @@ module _ (vars : ℕ) (words : List ℕ) (rs : List RungRecord) (w : ℕ) where
         unfolding listReport
         list-refused h k after p = rw (list-refusal, listReport) p
 
-      module _ (h : Halt) (c : ListStruct) (e : listOfCase r ≡ listScanned h (countsOf c)) where
-        list-scanned : listScan vars words rs t w .answer ≡ listScanned h (countsOf c)
+      module _ (h : Halt) (c : ListStruct) (e : listOfCase r ≡ listScanned h (listCountsIn c)) where
+        list-scanned : callListScan vars words rs t w .answer ≡ listScanned h (listCountsIn c)
         list-scanned = sym (done .answer) ∙ e
 
         pub list-vars : vars ≤ 1024
-        list-vars = list-range h (countsOf c) list-scanned
+        list-vars = list-range h (listCountsIn c) list-scanned
 
-        list-left : u ≡ listScan vars words rs table w .table
-        list-left = done .same-table ∙ ap (λ v. listScan vars words rs v w .table) (list-whole h (countsOf c) list-scanned)
+        list-left : u ≡ callListScan vars words rs table w .table
+        list-left = done .same-table ∙ ap (λ v. callListScan vars words rs v w .table) (list-whole h (listCountsIn c) list-scanned)
 
-        list-both : (x y : Scanned) (after v : List ℕ) → haltOf (y .ended) ≡ h → countsInScan y ≡ countsOf c → v ≡ u
+        list-both : (x y : Scanned) (after v : List ℕ) → haltOf (y .ended) ≡ h → countsInScan y ≡ listCountsIn c → v ≡ u
             → bothLines vars x y table after v ≡ listReport vars words rs table (haltOf (x .ended)) (x .rungs) after w
-        unfolding listReport bothLines countsInScan countsOf
+        unfolding listReport bothLines countsInScan listCountsIn
         list-both x y after v p q s =
-            let a : listScan vars words rs table w .answer ≡ listScanned h (countsOf c) = sym list-answered ∙ list-scanned in
+            let a : callListScan vars words rs table w .answer ≡ listScanned h (listCountsIn c) = sym list-answered ∙ list-scanned in
             let g : y .rungs ≡ c .rungs = ap (λ d. d .rungs) q in
             rw (a, listReport, s ∙ list-left, p, q, g) refl
 
-      pub list-ended : (c : ListStruct) → r ≡ ListEnded c → listOfCase r ≡ listScanned (haltOf true) (countsOf c)
+      pub list-ended : (c : ListStruct) → r ≡ ListEnded c → listOfCase r ≡ listScanned (haltOf true) (listCountsIn c)
       unfolding listOfCase haltOf
       list-ended c e = ap listOfCase e
 
-      pub list-stopped : (c : ListStruct) → r ≡ ListStopped c → listOfCase r ≡ listScanned (haltOf false) (countsOf c)
+      pub list-stopped : (c : ListStruct) → r ≡ ListStopped c → listOfCase r ≡ listScanned (haltOf false) (listCountsIn c)
       unfolding listOfCase haltOf
       list-stopped c e = ap listOfCase e
 
-      pub list-reports : (b : Bool) (c : ListStruct) → listOfCase r ≡ listScanned (haltOf b) (countsOf c) → (x y : Scanned) → y ≡ ofList b c → (after v : List ℕ) → v ≡ u
+      pub list-reports : (b : Bool) (c : ListStruct) → listOfCase r ≡ listScanned (haltOf b) (listCountsIn c) → (x y : Scanned) → y ≡ ofList b c → (after v : List ℕ) → v ≡ u
           → {l : List ℕ} {i p : ℕ} {z : List ℕ} → Put l i (bothLines vars x y table after v) p z
           → Put l i (listReport vars words rs table (haltOf (x .ended)) (x .rungs) after w) p z
-      unfolding ofList countsInScan countsOf
+      unfolding ofList countsInScan listCountsIn
       list-reports b c e x y q after v s {l} {i} {p} {z} put =
           subst (λ text. Put l i text p z) (list-both (haltOf b) c e x y after v (ap (λ d. haltOf (d .ended)) q) (ap countsInScan q) s) put
 
 -- ---- Ladder scan
 
-not-ladder : (h : Halt) (n : ℕ) (x : Refusal) → _≡_ {A = LadderAnswer} (ladderScanned h n) (ladderRefused x) → ⊥
+not-ladder : (h : Halt) (n : LadderCounts) (x : Refusal) → _≡_ {A = LadderScanAnswer} (ladderScanned h n) (ladderRefused x) → ⊥
 not-ladder h n x e = let z : _≡_ {A = ℕ} 0 1 = cc in omega arith
 
-same-ladder : {h g : Halt} {n m : ℕ} → _≡_ {A = LadderAnswer} (ladderScanned h n) (ladderScanned g m) → (h ≡ g) × (n ≡ m)
+same-ladder : {h g : Halt} {n m : LadderCounts} → _≡_ {A = LadderScanAnswer} (ladderScanned h n) (ladderScanned g m) → (h ≡ g) × (n ≡ m)
 same-ladder e = (cc, cc)
 
-halted : (gs : Ladder) (w : ℕ) (s : State) (x : LadderScan) → scanLadder gs w s ≡ x → x .rungs ≤ w
+halted : (gs : Ladder) (w : ℕ) (s : State) (x : LadderResult) → scanLadder gs w s ≡ x → x .rungs ≤ w
 halted gs w s x e = go (x .halt) refl
   where
     go : (h : Halt) → x .halt ≡ h → x .rungs ≤ w
@@ -386,59 +382,59 @@ halted gs w s x e = go (x .halt) refl
         omega (arith, k)
 
 module _ (vars : ℕ) (k : Kept) (w : ℕ) where
-  ladder-refuses : (t : List ℕ) (x : Refusal) → ladderAsked vars k t w ≡ some x → ladderScan vars k t w .answer ≡ ladderRefused x
-  unfolding ladderScan
-  ladder-refuses t x e = rw (e, ladderScan)
+  ladder-refuses : (t : List ℕ) (x : Refusal) → ladderAsked vars k t w ≡ some x → callLadderScan vars k t w .answer ≡ ladderRefused x
+  unfolding callLadderScan
+  ladder-refuses t x e = rw (e, callLadderScan)
 
   ladder-scans : (t : List ℕ) → ladderAsked vars k t w ≡ none
-      → ladderScan vars k t w .answer ≡ ladderScanned (scanLadder (ladderOf k) w (record { vars = vars; bytes = t }) .halt) (scanLadder (ladderOf k) w (record { vars = vars; bytes = t }) .rungs)
-  unfolding ladderScan ladderEnds
-  ladder-scans t e = rw (e, ladderScan)
+      → callLadderScan vars k t w .answer ≡ ladderScanned (scanLadder (ladderOf k) w (stateOf vars t) .halt) (record { rungs = scanLadder (ladderOf k) w (stateOf vars t) .rungs })
+  unfolding callLadderScan ladderEnds
+  ladder-scans t e = rw (e, callLadderScan)
 
   ladder-long : (table : List ℕ) → 1056 < length table → (x : Refusal) × (ladderAsked vars k [] w ≡ some x) × (ladderAsked vars k table w ≡ some x)
   unfolding ladderAsked firstNo ask
   ladder-long table h = first (ladderAnswer vars k) refl
     where
       first : (a : Answer) → ladderAnswer vars k ≡ a → (x : Refusal) × (ladderAsked vars k [] w ≡ some x) × (ladderAsked vars k table w ≡ some x)
-      first (some x) p = (x, rw p refl, rw p refl)
+      first (some x) p = (x, ladder-first vars k _ ∙ rw p refl, ladder-first vars k _ ∙ rw p refl)
       first none p =
           let long = long-table vars table (vars-in-range vars (accepted vars k p .1 .range) .1) h in
-          (record { number = 11; place = 0 }, rw (p, no-table vars) refl, rw (p, long) refl)
+          (record { number = 11; place = 0 }, ladder-first vars k _ ∙ rw (p, no-table vars) refl, ladder-first vars k _ ∙ rw (p, long) refl)
 
   module _ {table t : List ℕ} (lent : Lent table t) where
-    ladder-answered : ladderScan vars k t w .answer ≡ ladderScan vars k table w .answer
+    ladder-answered : callLadderScan vars k t w .answer ≡ callLadderScan vars k table w .answer
     ladder-answered = go lent
       where
-        go : Lent table t → ladderScan vars k t w .answer ≡ ladderScan vars k table w .answer
-        go (inl e) = ap (λ u. ladderScan vars k u w .answer) e
+        go : Lent table t → callLadderScan vars k t w .answer ≡ callLadderScan vars k table w .answer
+        go (inl e) = ap (λ u. callLadderScan vars k u w .answer) e
         go (inr h) =
             let b = ladder-long table (h .0) in
-            ap (λ u. ladderScan vars k u w .answer) (h .1) ∙ ladder-refuses [] (b .0) (b .1) ∙ sym (ladder-refuses table (b .0) (b .2))
+            ap (λ u. callLadderScan vars k u w .answer) (h .1) ∙ ladder-refuses [] (b .0) (b .1) ∙ sym (ladder-refuses table (b .0) (b .2))
 
-    ladder-whole : (h : Halt) (n : ℕ) → ladderScan vars k t w .answer ≡ ladderScanned h n → t ≡ table
+    ladder-whole : (h : Halt) (n : LadderCounts) → callLadderScan vars k t w .answer ≡ ladderScanned h n → t ≡ table
     ladder-whole h n a = go lent
       where
         go : Lent table t → t ≡ table
         go (inl e) = e
         go (inr g) =
             let b = ladder-long table (g .0) in
-            absurd (not-ladder h n (b .0) (sym a ∙ ap (λ u. ladderScan vars k u w .answer) (g .1) ∙ ladder-refuses [] (b .0) (b .1)))
+            absurd (not-ladder h n (b .0) (sym a ∙ ap (λ u. callLadderScan vars k u w .answer) (g .1) ∙ ladder-refuses [] (b .0) (b .1)))
 
-    ladder-range : (h : Halt) (n : ℕ) → ladderScan vars k t w .answer ≡ ladderScanned h n → (n ≤ 65535) × (w ≤ 65535)
+    ladder-range : (h : Halt) (n : LadderCounts) → callLadderScan vars k t w .answer ≡ ladderScanned h n → (n .rungs ≤ mostRungWatchdog) × (w ≤ mostRungWatchdog)
     unfolding ladderAsked
     ladder-range h n a = go (ladderAsked vars k t w) refl
       where
-        go : (b : Answer) → ladderAsked vars k t w ≡ b → (n ≤ 65535) × (w ≤ 65535)
+        go : (b : Answer) → ladderAsked vars k t w ≡ b → (n .rungs ≤ mostRungWatchdog) × (w ≤ mostRungWatchdog)
         go (some x) q = absurd (not-ladder h n x (sym a ∙ ladder-refuses t x q))
         go none q =
-            let m = watchdog-in-range mostRungWatchdog w (first-yes _ _ (later-yes _ _ (later-yes (ladderAnswer vars k) _ q))) in
-            let s = same-ladder (sym a ∙ ladder-scans t q) .1 in
-            let l = halted (ladderOf k) w (record { vars = vars; bytes = t }) _ refl in
+            let m = watchdog-in-range mostRungWatchdog w (first-yes _ _ (later-yes _ _ (later-yes (ladderAnswer vars k) _ (sym (ladder-first vars k _) ∙ q)))) in
+            let s = ap (λ (c : LadderCounts). c .rungs) (same-ladder (sym a ∙ ladder-scans t q) .1) in
+            let l = halted (ladderOf k) w (stateOf vars t) _ refl in
             (omega (arith, m, s, l), m)
 
-    module _ {r : LadderScanned} {u : List ℕ} (done : LadderScanDone (ladderScan vars k t w) r u) where
+    module _ {r : LadderScanned} {u : List ℕ} (done : LadderScanDone (callLadderScan vars k t w) r u) where
       module _ (x : RefusalCase) (e : r ≡ LadderRefused x) where
-        ladder-refusal : ladderScan vars k table w .answer ≡ ladderRefused (refusalOf x)
+        ladder-refusal : callLadderScan vars k table w .answer ≡ ladderRefused (refusalOf x)
         unfolding ladderOfCase
         ladder-refusal = sym ladder-answered ∙ sym (done .answer) ∙ ap ladderOfCase e
 
@@ -447,32 +443,32 @@ module _ (vars : ℕ) (k : Kept) (w : ℕ) where
         unfolding scansReport
         ladder-refused words rs most p = rw (ladder-refusal, scansReport) p
 
-      pub ladder-ended : (c : LadderStruct) → r ≡ LadderEnded c → ladderOfCase r ≡ ladderScanned (haltOf true) (c .rungs)
+      pub ladder-ended : (c : LadderStruct) → r ≡ LadderEnded c → ladderOfCase r ≡ ladderScanned (haltOf true) (ladderCountsIn c)
       unfolding ladderOfCase haltOf
       ladder-ended c e = ap ladderOfCase e
 
-      pub ladder-stopped : (c : LadderStruct) → r ≡ LadderStopped c → ladderOfCase r ≡ ladderScanned (haltOf false) (c .rungs)
+      pub ladder-stopped : (c : LadderStruct) → r ≡ LadderStopped c → ladderOfCase r ≡ ladderScanned (haltOf false) (ladderCountsIn c)
       unfolding ladderOfCase haltOf
       ladder-stopped c e = ap ladderOfCase e
 
-      module _ (h : Halt) (n : ℕ) (e : ladderOfCase r ≡ ladderScanned h n) where
-        ladder-scanned : ladderScan vars k t w .answer ≡ ladderScanned h n
+      module _ (h : Halt) (n : LadderCounts) (e : ladderOfCase r ≡ ladderScanned h n) where
+        ladder-scanned : callLadderScan vars k t w .answer ≡ ladderScanned h n
         ladder-scanned = sym (done .answer) ∙ e
 
-        pub ladder-bounds : (n ≤ 65535) × (w ≤ 65535)
+        pub ladder-bounds : (n .rungs ≤ mostRungWatchdog) × (w ≤ mostRungWatchdog)
         ladder-bounds = ladder-range h n ladder-scanned
 
-        ladder-left : u ≡ ladderScan vars k table w .table
-        ladder-left = done .same-table ∙ ap (λ v. ladderScan vars k v w .table) (ladder-whole h n ladder-scanned)
+        ladder-left : u ≡ callLadderScan vars k table w .table
+        ladder-left = done .same-table ∙ ap (λ v. callLadderScan vars k v w .table) (ladder-whole h n ladder-scanned)
 
         ladder-then : (words : List ℕ) (rs : List RungRecord) (most : ℕ) (v : List ℕ) → v ≡ u
-            → listReport vars words rs table h n v (instructionWatchdog h n most w) ≡ scansReport vars k words rs most table w
+            → listReport vars words rs table h (n .rungs) v (instructionWatchdog h (n .rungs) most w) ≡ scansReport vars k words rs most table w
         unfolding scansReport
         ladder-then words rs most v s =
-            let a : ladderScan vars k table w .answer ≡ ladderScanned h n = sym ladder-answered ∙ ladder-scanned in
+            let a : callLadderScan vars k table w .answer ≡ ladderScanned h n = sym ladder-answered ∙ ladder-scanned in
             rw (a, scansReport, s ∙ ladder-left) refl
 
-      pub ladder-reports : (b : Bool) (c : LadderStruct) → ladderOfCase r ≡ ladderScanned (haltOf b) (c .rungs) → (x : Scanned) → x ≡ ofLadder b c
+      pub ladder-reports : (b : Bool) (c : LadderStruct) → ladderOfCase r ≡ ladderScanned (haltOf b) (ladderCountsIn c) → (x : Scanned) → x ≡ ofLadder b c
           → (words : List ℕ) (rs : List RungRecord) (most : ℕ) (v : List ℕ) → v ≡ u → (m : ℕ) → m ≡ instructionWatchdog (haltOf (x .ended)) (x .rungs) most w
           → {l : List ℕ} {i p : ℕ} {z : List ℕ} → Put l i (listReport vars words rs table (haltOf (x .ended)) (x .rungs) v m) p z
           → Put l i (scansReport vars k words rs most table w) p z
@@ -483,12 +479,12 @@ module _ (vars : ℕ) (k : Kept) (w : ℕ) where
           let a = ap (listReport vars words rs table (haltOf (x .ended)) (x .rungs) v) d in
           let f = ap (λ g. listReport vars words rs table g (x .rungs) v (instructionWatchdog g (x .rungs) most w)) h in
           let g = ap (λ o. listReport vars words rs table (haltOf b) o v (instructionWatchdog (haltOf b) o most w)) n in
-          subst (λ text. Put l i text p z) (a ∙ f ∙ g ∙ ladder-then (haltOf b) (c .rungs) e words rs most v s) put
+          subst (λ text. Put l i text p z) (a ∙ f ∙ g ∙ ladder-then (haltOf b) (ladderCountsIn c) e words rs most v s) put
 
-      pub ladder-legal : (b : Bool) (c : LadderStruct) → ladderOfCase r ≡ ladderScanned (haltOf b) (c .rungs) → (x : Scanned) → x ≡ ofLadder b c
-          → (x .rungs ≤ 65535) × (w ≤ 65535)
+      pub ladder-legal : (b : Bool) (c : LadderStruct) → ladderOfCase r ≡ ladderScanned (haltOf b) (ladderCountsIn c) → (x : Scanned) → x ≡ ofLadder b c
+          → (x .rungs ≤ mostRungWatchdog) × (w ≤ mostRungWatchdog)
       unfolding ofLadder
       ladder-legal b c e x q =
-          let h = ladder-bounds (haltOf b) (c .rungs) e in
+          let h = ladder-bounds (haltOf b) (ladderCountsIn c) e in
           let n : x .rungs ≡ c .rungs = ap (λ y. y .rungs) q in
           (omega (arith, h .0, n), h .1)

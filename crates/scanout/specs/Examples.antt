@@ -6,13 +6,13 @@ use lib.ListN.{replicate}
 use Rattle.questions.specs.Bytes.{bytes, decimal, digits}
 use Rattle.questions.specs.Tests.{all}
 use Rattle.table.specs.Halt.{Ended, Stopped}
-use Rattle.grammar.specs.Reader.{digitOf, digitsFrom, numberOf}
+use Rattle.grammar.specs.Reader.{digitOf, digitsFrom, numeralOf}
 use Rattle.printout.specs.Printout.{lineNumber, refusalLine}
 use Rattle.scanout.specs.Scanout.{watchdogOf, isBit, tableOf, refusalText, questionText, questionTexts, endWord, endLines, changedLine, changedLines, sameBytes, alike, lastLine, instructionWatchdog}
 
 pub watchdogs-worked :
     (watchdogOf (bytes "2") ≡ 2) × (watchdogOf (bytes "65535") ≡ 65535) × (watchdogOf (bytes "65536") ≡ 65536) × (watchdogOf (bytes "02") ≡ 65536) × (watchdogOf [] ≡ 65536)
-unfolding lineNumber numberOf digitsFrom digitOf bytes
+unfolding lineNumber numeralOf digitsFrom digitOf bytes
 watchdogs-worked = (refl, refl, refl, refl, refl)
 
 pub tables-worked :

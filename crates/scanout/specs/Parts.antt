@@ -15,6 +15,8 @@ use Rattle.scanout.specs.Scanout.{isBit, tableOf, endLines, changedLines
 use Rattle.scanout.specs.declared.Scanned.{Scanned}
 use Rattle.scanout.specs.declared.Variables.{Variables}
 use Rattle.scanout.specs.declared.VariablesTaken.{VariablesTaken}
+use Rattle.questions.specs.Questions.{mostVariables}
+use Rattle.table.specs.State.{tableSize}
 
 -- ---- the report
 
@@ -58,11 +60,11 @@ unfoldable pub nextTable : Variables → ℕ → ℕ → List ℕ → List ℕ
 nextTable v vars b t = elim (taken v vars b) [ true ↦ set t (v .count) (b - byte "0") | false ↦ t ]
 
 unfoldable pub tableBytes : Variables → ℕ → ℕ
-tableBytes v vars = elim (leb vars 1024 && (v .legal && eqb (v .count) vars)) [ true ↦ vars + 32 | false ↦ 0 ]
+tableBytes v vars = elim (leb vars mostVariables && (v .legal && eqb (v .count) vars)) [ true ↦ tableSize vars | false ↦ 0 ]
 
 -- a table of zeros becomes the line's, if it is V zeros and ones
 pub record TableTaken (input : List ℕ) (from vars : ℕ) (t : List ℕ) (r : VariablesTaken) (u : List ℕ) : Type 0 where
   pub within : from ≤ length input → r .at ≤ length input
   pub rest : drop (r .at) input ≡ textAfter (drop from input)
   pub long : length u ≡ length t
-  pub table : t ≡ replicate 1056 0 → take (tableBytes (r .variables) vars) u ≡ tableOf vars (firstLine (drop from input))
+  pub table : t ≡ replicate (tableSize mostVariables) 0 → take (tableBytes (r .variables) vars) u ≡ tableOf vars (firstLine (drop from input))

@@ -1,33 +1,35 @@
 -- What the program ladder-scan prints, from the whole input: both scans of a ladder and its list side by side. README, "ladder-scan". Assumes nothing.
-use Prim.Native.Nat.{ℕ, suc, _-_, _*_}
+use Prim.Native.Nat.{ℕ, suc, _+_, _-_, _*_}
 use mathlib.Core.Bool.{Bool, true, false, _&&_, _||_}
 use mathlib.Core.List.{List, [], _∷_, _++_, map}
 use lib.Dec.{eqb, leb}
 use lib.ListN.{length, getD, take, replicate}
 use Rattle.questions.specs.Bytes.{byte, bytes, decimal}
-use Rattle.questions.specs.Questions.{Refusal, mostVariables}
+use Rattle.questions.specs.Questions.{Refusal, mostVariables, mostRungWatchdog}
 use Rattle.questions.specs.Tests.{all}
 use Rattle.table.specs.Halt.{Halt, Ended, Stopped}
 use Rattle.table.specs.State.{scratchBytes}
-use Rattle.rungs.specs.Records.{RungRecord}
+use Rattle.rungs.specs.Records.{RungRecord, mostRecords}
 use Rattle.rungs.specs.Buffers.{writtenWords, writtenRecords}
 use Rattle.drawing.specs.Kept.{Kept}
-use Rattle.ladder.specs.LadderScan.{ladderScan}
-use Rattle.ladder.specs.LadderScan.{scanned as ladderScanned, refused as ladderRefused}
-use Rattle.text.specs.Read.{readText, kept, writtenKept}
-use Rattle.text.specs.Read.{refused as readRefused}
+use Rattle.ladder.specs.LadderScan.{callLadderScan, scanned as ladderScanned, refused as ladderRefused}
+use Rattle.text.specs.Read.{readText, kept, writtenKept, refused as readRefused}
 use Rattle.list.specs.Machine.{Counts as ListCounts}
-use Rattle.list.specs.ListScan.{listScan}
-use Rattle.list.specs.ListScan.{scanned as listScanned, refused as listRefused}
-use Rattle.translation.specs.TranslateKept.{translateKept, translated}
-use Rattle.translation.specs.TranslateKept.{refused as translateRefused}
-use Rattle.printout.specs.Printout.{firstLine, textAfter, lineNumber, variablesOf, refusalLine, blank}
+use Rattle.list.specs.ListScan.{callListScan, scanned as listScanned, refused as listRefused}
+use Rattle.translation.specs.TranslateKept.{translateKept, translated, refused as translateRefused}
+use Rattle.printout.specs.Printout.{firstLine, textAfter, lineNumber, variablesOf, refusalLine, blank, mostKept}
+use Rattle.list.specs.Questions.{mostInstructions}
+use Rattle.drawing.specs.Questions.{mostWords, mostRungs}
 
 -- ---- the input: a line V, a line rung watchdog, a line of V characters 0 and 1 (variable 0 first), then the text
 
+-- a watchdog line that is no number: question 12 says "no" to it
+abbrev pub noWatchdog : ℕ
+noWatchdog = mostRungWatchdog + 1
+
 -- "A V or watchdog line that is no number counts as V 0 or watchdog 65,536"
 abbrev pub watchdogOf : List ℕ → ℕ
-watchdogOf line = lineNumber 65536 line
+watchdogOf line = lineNumber noWatchdog line
 
 unfoldable pub isBit : ℕ → Bool
 isBit b = eqb b (byte "0") || eqb b (byte "1")
@@ -113,7 +115,7 @@ instructionWatchdog Stopped k longest n = 2 * n
 
 unfoldable pub listReport : ℕ → List ℕ → List RungRecord → List ℕ → Halt → ℕ → List ℕ → ℕ → List ℕ
 listReport vars words records table h k after w =
-    let s = listScan vars words records table w in
+    let s = callListScan vars words records table w in
     elim (s .answer) [
       | listRefused refusal ↦ refusalText refusal
       | listScanned h′ c ↦ endLines h k h′ c ++ (changedLines 0 (take vars table) (take vars after) (take vars (s .table))
@@ -122,15 +124,15 @@ listReport vars words records table h k after w =
 
 unfoldable pub scansReport : ℕ → Kept → List ℕ → List RungRecord → ℕ → List ℕ → ℕ → List ℕ
 scansReport vars k words records longest table n =
-    let l = ladderScan vars k table n in
+    let l = callLadderScan vars k table n in
     elim (l .answer) [
       | ladderRefused refusal ↦ refusalText refusal
-      | ladderScanned h rungs ↦ listReport vars words records table h rungs (l .table) (instructionWatchdog h rungs longest n)
+      | ladderScanned h c ↦ listReport vars words records table h (c .rungs) (l .table) (instructionWatchdog h (c .rungs) longest n)
     ]
 
 unfoldable pub keptReport : ℕ → Kept → List ℕ → ℕ → List ℕ
 keptReport vars k table n =
-    let t = translateKept vars k (blank 16384 256) in
+    let t = translateKept vars k (blank mostInstructions mostRecords) in
     elim (t .answer) [
       | translateRefused refusal ↦ refusalText refusal
       | translated counts ↦ scansReport vars k (writtenWords (t .buffers) (counts .instructions)) (writtenRecords (t .buffers) (counts .rungs)) (counts .longest) table n
@@ -138,7 +140,7 @@ keptReport vars k table n =
 
 unfoldable pub report : ℕ → ℕ → List ℕ → List ℕ → List ℕ
 report vars n table text =
-    let r = readText vars text (blank 8192 256) in
+    let r = readText vars text (blank mostWords mostRungs) in
     elim (r .answer) [ readRefused refusal ↦ refusalText refusal | kept words rungs ↦ keptReport vars (writtenKept (r .buffers) words rungs) table n ]
 
 -- the whole output from the whole input
@@ -146,4 +148,4 @@ unfoldable pub output : List ℕ → List ℕ
 output input =
     let rest = textAfter input in
     let vars = variablesOf (firstLine input) in
-    report vars (watchdogOf (firstLine rest)) (tableOf vars (firstLine (textAfter rest))) (take 65536 (textAfter (textAfter rest)))
+    report vars (watchdogOf (firstLine rest)) (tableOf vars (firstLine (textAfter rest))) (take mostKept (textAfter (textAfter rest)))

@@ -6,32 +6,33 @@ ghost use Rattle.questions.specs.Refusals.{refusalOf};
 ghost use Rattle.rungs.specs.Records.{rowOf};
 ghost use Rattle.printing.specs.Put.{Put};
 ghost use Rattle.printout.specs.Parts.{numberBy};
-ghost use Rattle.scanout.specs.Scanout.{questionText, refusalText, endWord, endLines, changedLine, changedLines};
+ghost use Rattle.scanout.specs.Scanout.{questionText, refusalText, endWord, endLines, changedLine, changedLines, noWatchdog};
 ghost use Rattle.scanout.specs.Scanout.{sameBytes, alike, lastLine, instructionWatchdog};
 ghost use Rattle.scanout.specs.Scanout.{listReport, scansReport, keptReport, report, output};
 ghost use Rattle.scanout.specs.Parts.{haltOf, countsIn, ofLadder, ofList, bothLines, TableCopied};
 ghost use Rattle.scanout.specs.Parts.{noVariables, nextVariable, nextTable, tableBytes, TableTaken};
+ghost use Rattle.questions.specs.Questions.{mostVariables, mostRungWatchdog};
+ghost use Rattle.drawing.specs.Questions.{mostRungWords};
+ghost use Rattle.translation.specs.Translate.{codeBound};
+use kinds::MOST_WORDS;
 use ladder::LadderScanned;
 use list::ListScanned;
+use list::MOST_INSTRUCTIONS;
 use printout::FirstLine;
+use questions::MOST_RUNG_WATCHDOG;
+use questions::MOST_VARIABLES;
 use questions::Refusal;
+use rungs::MOST_RECORDS;
+use table::SCRATCH_BYTES;
 use text::TextRead;
 use translation::Counts;
 use translation::Translated;
 
-const MOST_WORDS: usize = 8192;
-
-const MOST_RUNGS: usize = 256;
-
-const MOST_INSTRUCTIONS: usize = 16384;
-
 // V variables, 1 to 1,024, and 32 scratch bytes.
-pub const MOST_TABLE: usize = 1056;
-
-const MOST_VARIABLES: u32 = 1024;
+pub const MOST_TABLE: usize = MOST_VARIABLES as usize + SCRATCH_BYTES;
 
 // A watchdog that is no number.
-const NO_WATCHDOG: u32 = 65536;
+const NO_WATCHDOG: u32 = MOST_RUNG_WATCHDOG + 1;
 
 // How a scan ended, and what it counted.
 pub struct Scanned {
@@ -173,7 +174,7 @@ fn put_variables(
     ladder: &[u8],
     list: &[u8],
 ) -> usize
-    requires { ⌜ (from ≤ 1000) × (vars ≤ 1024) ⌝ }
+    requires { ⌜ (from ≤ 1000) × (vars ≤ mostVariables) ⌝ }
     ensures { λ r. ⌜ Put (now (out .entry)) from
         (changedLines 0 (take vars (now (before .entry))) (take vars (now (ladder .entry))) (take vars (now (list .entry)))) r
         (now (out .exit)) ⌝ }
@@ -275,7 +276,7 @@ fn put_report(
     ladder_left: &[u8],
     list_left: &[u8],
 ) -> usize
-    requires { ⌜ vars ≤ 1024 ⌝ }
+    requires { ⌜ vars ≤ mostVariables ⌝ }
     ensures { λ r. ⌜ Put (now (out .entry)) 0 (bothLines vars ladder list (now (before .entry)) (now («ladder_left» .entry))
         (now («list_left» .entry))) r (now (out .exit)) ⌝ }
 {
@@ -345,7 +346,7 @@ fn report_list(
 
 // k × L if the ladder scan ended, 2 × n if it stopped.
 fn list_watchdog(ladder: Scanned, longest: usize, watchdog: u32) -> u32
-    requires { ⌜ (ladder .rungs ≤ 65535) × (longest ≤ 256) × (watchdog ≤ 65535) ⌝ }
+    requires { ⌜ (ladder .rungs ≤ mostRungWatchdog) × (longest ≤ codeBound mostRungWords) × (watchdog ≤ mostRungWatchdog) ⌝ }
     ensures { λ r. ⌜ r ≡ instructionWatchdog (haltOf (ladder .ended)) (ladder .rungs) longest watchdog ⌝ }
 {
     if ladder.ended {
@@ -370,7 +371,7 @@ fn report_scans(
     watchdog: u32,
     out: &mut [u8],
 ) -> usize
-    requires { ⌜ longest ≤ 256 ⌝ }
+    requires { ⌜ longest ≤ codeBound mostRungWords ⌝ }
     ensures { λ r. ⌜ Put (now (out .entry)) 0 (scansReport vars
         (record { words = now (words .entry); records = rowOf (now (labels .entry)) (now (offsets .entry)) (now (lengths .entry)) })
         (now (code .entry)) (rowOf (now («code_labels» .entry)) (now («code_offsets» .entry)) (now («code_lengths» .entry)))
@@ -437,9 +438,9 @@ fn report_kept(
         (now (table .entry)) watchdog) r (now (out .exit)) ⌝ }
 {
     let mut code = [0u32; MOST_INSTRUCTIONS];
-    let mut code_labels = [0u16; MOST_RUNGS];
-    let mut code_offsets = [0u32; MOST_RUNGS];
-    let mut code_lengths = [0u32; MOST_RUNGS];
+    let mut code_labels = [0u16; MOST_RECORDS];
+    let mut code_offsets = [0u32; MOST_RECORDS];
+    let mut code_lengths = [0u32; MOST_RECORDS];
     match translation::translate(
         vars,
         words,
@@ -479,9 +480,9 @@ pub fn report(vars: u32, watchdog: u32, table: &[u8], text: &[u8], out: &mut [u8
     ensures { λ r. ⌜ Put (now (out .entry)) 0 (report vars watchdog (now (table .entry)) (now (text .entry))) r (now (out .exit)) ⌝ }
 {
     let mut words = [0u32; MOST_WORDS];
-    let mut labels = [0u16; MOST_RUNGS];
-    let mut offsets = [0u32; MOST_RUNGS];
-    let mut lengths = [0u32; MOST_RUNGS];
+    let mut labels = [0u16; MOST_RECORDS];
+    let mut offsets = [0u32; MOST_RECORDS];
+    let mut lengths = [0u32; MOST_RECORDS];
     match text::read(
         vars,
         text,
@@ -512,7 +513,7 @@ pub fn report(vars: u32, watchdog: u32, table: &[u8], text: &[u8], out: &mut [u8
 
 // The watchdog: the number that the line is, or 65,536.
 pub fn watchdog(line: FirstLine) -> u32
-    ensures { λ r. ⌜ r ≡ numberBy 65536 line ⌝ }
+    ensures { λ r. ⌜ r ≡ numberBy noWatchdog line ⌝ }
 {
     printout::number_or(line, NO_WATCHDOG)
 }

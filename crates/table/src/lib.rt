@@ -1,6 +1,6 @@
 // The table that both scans work on: document 01, "What a ladder does". Past the table's end a byte is false and a write does nothing.
 ghost use mathlib.Core.Path.{_≡_};
-ghost use Rattle.table.specs.State.{valueAt, writtenAt};
+ghost use Rattle.table.specs.State.{stateOf, valueAt, writtenAt};
 ghost use Rattle.table.specs.Questions.{tableInRange};
 
 // Scratch t0 to t31 stands after the variables.
@@ -30,7 +30,7 @@ pub fn write(table: &mut [u8], index: usize, b: bool)
 
 // Question 11.
 pub fn table_in_range(vars: u32, table: &[u8]) -> bool
-    ensures { λ r. ⌜ r ≡ tableInRange (record { vars = vars; bytes = now (table .entry) }) ⌝ }
+    ensures { λ r. ⌜ r ≡ tableInRange (stateOf vars (now (table .entry))) ⌝ }
 {
     if table.len() != vars as usize + SCRATCH_BYTES {
         return false;

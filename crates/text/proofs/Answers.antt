@@ -15,20 +15,20 @@ use Rattle.questions.specs.Tests.{all}
 use Rattle.questions.specs.Questions.{Answer, ask, firstNo, longEnough, varsInRange, question1, question2, question13}
 use Rattle.questions.specs.Refusals.{refusalOf}
 use Rattle.questions.specs.declared.Refusal.{Refusal as RefusalCase}
-use Rattle.questions.specs.declared.Refusal.the-variants.{Variables, TextLength, Text, Sizes as SizesRefused, Buffer}
+use Rattle.questions.specs.declared.Refusal.the-variants.{Variables, TextLength, Text, Sizes as SizesRefused, Buffer as BufferCase}
 use Rattle.rungs.specs.Records.{rowOf, lay, longest}
 use Rattle.rungs.specs.Laws.Layout.{lay-length}
 use Rattle.drawing.specs.Tree.{Ladder}
 use Rattle.drawing.specs.Kept.{Kept, rungWords, encode, decode}
-use Rattle.drawing.specs.Questions.{question4, sizesInRange, question5, question6, question7, question8, question9, ladderAnswer}
+use Rattle.drawing.specs.Questions.{question4, sizesInRange, question5, question6, question7, question8, question9, ladderAnswer, ladderQuestions}
 use Rattle.drawing.specs.Laws.Accepting.{ladder-is}
 use Rattle.grammar.specs.Reader.{Parse, read, stuck, textOf}
 use Rattle.grammar.specs.Questions.{question3}
 use Rattle.grammar.specs.Theorems.{read-exactly, read-whole, scratch-always, decoded-always, kept-always}
-use Rattle.rungs.specs.Buffers.{Buffers, asBuffers, needs, written, writtenOver, putAll}
+use Rattle.rungs.specs.Buffers.{Buffers, asBuffers, needs, written, writtenOver}
+use Rattle.rungs.specs.Parts.{putAll}
 use Rattle.rungs.specs.Laws.Filling.{taken-out, row-of-buffers, labels-count, offsets-count, lengths-count}
-use Rattle.text.specs.Read.{ladderOf, keptBuffers, ReadCall, kept, refused, readText, ReadDone}
-use Rattle.text.specs.Read.{answerOf}
+use Rattle.text.specs.Read.{textLadder, keptBuffers, ReadCall, kept, refused, readText, ReadDone, textReadAnswer}
 use Rattle.text.specs.Parts.{sizesOf, fits, linesParsed, LinesAreKept, handOver}
 use Rattle.text.specs.declared.TextRead.{TextRead}
 use Rattle.text.specs.declared.TextRead.the-variants.{Kept as KeptCase, Refused as RefusedCase}
@@ -44,7 +44,7 @@ module _ (vars : ℕ) (new lent : Buffers) where
 
   refuses : (refusal : RefusalCase) → firstNo (ladderAnswer vars keptOf ∷ question13 (needs new lent) ∷ []) ≡ some (refusalOf refusal)
       → ReadDone (handOver vars new lent) (RefusedCase refusal) lent
-  unfolding handOver answerOf
+  unfolding handOver textReadAnswer
   refuses refusal e = record { answer = rw (e, handOver); same-buffers = rw (e, handOver) }
 
   pub over-refused : (refusal : RefusalCase) → ladderAnswer vars keptOf ≡ some (refusalOf refusal) → ReadDone (handOver vars new lent) (RefusedCase refusal) lent
@@ -52,9 +52,9 @@ module _ (vars : ℕ) (new lent : Buffers) where
   over-refused refusal e = refuses refusal (rw e)
 
   module _ (ok : ladderAnswer vars keptOf ≡ none) where
-    pub over-short : all longEnough (needs new lent) ≡ false → ReadDone (handOver vars new lent) (RefusedCase Buffer) lent
+    pub over-short : all longEnough (needs new lent) ≡ false → ReadDone (handOver vars new lent) (RefusedCase BufferCase) lent
     unfolding firstNo question13 ask refusalOf
-    over-short e = refuses Buffer (rw (ok, e))
+    over-short e = refuses BufferCase (rw (ok, e))
 
     asked : all longEnough (needs new lent) ≡ true → firstNo (ladderAnswer vars keptOf ∷ question13 (needs new lent) ∷ []) ≡ none
     unfolding firstNo question13 ask
@@ -64,7 +64,7 @@ module _ (vars : ℕ) (new lent : Buffers) where
         → after .labels ≡ written (new .labels) (lent .labels) → after .offsets ≡ written (new .offsets) (lent .offsets)
         → after .lengths ≡ written (new .lengths) (lent .lengths)
         → ReadDone (handOver vars new lent) (KeptCase (record { words = length (new .words); rungs = length (new .labels) })) after
-    unfolding handOver answerOf writtenOver
+    unfolding handOver textReadAnswer writtenOver
     over-kept e after ew el eo en =
         record {
           answer = rw (asked e, handOver);
@@ -120,8 +120,8 @@ module _ (vars : ℕ) (text : List ℕ) (lent : Buffers) where
       question1 vars ∷ question2 (length text) ∷ question3 text ∷ question5 gs ∷ question6 vars gs ∷ question7 gs ∷ question8 gs
       ∷ question13 (needs (keptBuffers gs) lent) ∷ []
 
-  read-refuses : (refusal : RefusalCase) → firstNo (questions (ladderOf text)) ≡ some (refusalOf refusal) → ReadDone (readText vars text lent) (RefusedCase refusal) lent
-  unfolding readText answerOf
+  read-refuses : (refusal : RefusalCase) → firstNo (questions (textLadder text)) ≡ some (refusalOf refusal) → ReadDone (readText vars text lent) (RefusedCase refusal) lent
+  unfolding readText textReadAnswer
   read-refuses refusal e = record { answer = rw (e, readText); same-buffers = rw (e, readText) }
 
   pub read-refused-1 : varsInRange vars ≡ false → ReadDone (readText vars text lent) (RefusedCase Variables) lent
@@ -143,9 +143,9 @@ module _ (vars : ℕ) (text : List ℕ) (lent : Buffers) where
       read-refused-3 p e = read-refuses (Text p) (rw (yes1, yes2, no3 p e))
 
       module _ (n : ℕ) (gs : Ladder) (e : textOf text ≡ read n gs) where
-        ladder-of : ladderOf text ≡ gs
-        unfolding ladderOf
-        ladder-of = rw (e, ladderOf)
+        ladder-of : textLadder text ≡ gs
+        unfolding textLadder
+        ladder-of = rw (e, textLadder)
 
         yes3 : question3 text ≡ none
         unfolding question3
@@ -163,7 +163,7 @@ module _ (vars : ℕ) (text : List ℕ) (lent : Buffers) where
           -- questions 4 and 9 always get a "yes"
           same-no : firstNo (ladderAnswer vars (record { words = keptBuffers gs .words; records = rowOf (keptBuffers gs .labels) (keptBuffers gs .offsets) (keptBuffers gs .lengths) })
               ∷ question13 (needs (keptBuffers gs) lent) ∷ []) ≡ firstNo (questions gs)
-          unfolding ladderAnswer question1 question2 question5 ask
+          unfolding ladderAnswer ladderQuestions question1 question2 question5 ask
           same-no = rw (kept-back, ladder-is (encode gs) gs back, yes1, yes2, yes3, yes4, yes5, yes9) (joined (question6 vars gs) (question7 gs) (question8 gs) _)
 
           rungs-read : length (keptBuffers gs .labels) ≡ length gs
@@ -180,15 +180,15 @@ module _ (vars : ℕ) (text : List ℕ) (lent : Buffers) where
               go : (x : Answer) → firstNo (questions gs) ≡ x → handOver vars (keptBuffers gs) lent ≡ readText vars text lent
               go (some refusal) q =
                   let a = same-no ∙ q in
-                  let b : firstNo (questions (ladderOf text)) ≡ some refusal = ap (λ hs. firstNo (questions hs)) ladder-of ∙ q in
+                  let b : firstNo (questions (textLadder text)) ≡ some refusal = ap (λ hs. firstNo (questions hs)) ladder-of ∙ q in
                   let x : handOver vars (keptBuffers gs) lent ≡ record { answer = refused refusal; buffers = lent } = rw (a, handOver) in
                   let y : readText vars text lent ≡ record { answer = refused refusal; buffers = lent } = rw (b, readText) in
                   x ∙ sym y
               go none q =
                   let a = same-no ∙ q in
-                  let b : firstNo (questions (ladderOf text)) ≡ none = ap (λ hs. firstNo (questions hs)) ladder-of ∙ q in
+                  let b : firstNo (questions (textLadder text)) ≡ none = ap (λ hs. firstNo (questions hs)) ladder-of ∙ q in
                   let x : handOver vars (keptBuffers gs) lent ≡ accepts gs (length (keptBuffers gs .labels)) = rw (a, handOver) in
-                  let y : readText vars text lent ≡ accepts (ladderOf text) (length (ladderOf text)) = rw (b, readText) in
+                  let y : readText vars text lent ≡ accepts (textLadder text) (length (textLadder text)) = rw (b, readText) in
                   x ∙ ap (accepts gs) rungs-read ∙ sym (ap (λ hs. accepts hs (length hs)) ladder-of) ∙ sym y
 
 -- ---- from the lines to the questions

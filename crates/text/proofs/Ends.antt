@@ -7,9 +7,9 @@ use native.Mathlib.Numerals.{sub-one}
 use borrow.Author.Tests.{eq-eqb, ne-eqb}
 use lib.ListN.{length, getD}
 use Rattle.rungs.specs.Words.{word}
-use Rattle.drawing.specs.Tree.{Output, coil, coiln, jump, jumpn, Rear, output}
-use Rattle.drawing.specs.Kept.{outputWord, rearWords}
-use Rattle.grammar.specs.Reader.{Parse, stuck, mapP, followed, numberOf, factorOf, endBy, endOf, branchBy, branchOf, rearBy, rearOf}
+use Rattle.drawing.specs.Tree.{Output, coil, coiln, jump, jumpn, Rear, output, outputNames, number}
+use Rattle.drawing.specs.Kept.{outputWord, rearWords, outputKind}
+use Rattle.grammar.specs.Reader.{Parse, stuck, mapP, followed, numeralOf, factorOf, endBy, endOf, branchBy, branchOf, rearBy, rearOf}
 use Rattle.text.specs.Parts.{PartRead, oneWord, leafOf}
 use Rattle.text.specs.declared.part.Parsed.{Parsed}
 use Rattle.text.specs.declared.part.Parsed.the-variants.{Stuck}
@@ -24,7 +24,7 @@ unfolding rearOf branchOf
 rear-law d s at = refl
 
 outputOf : (ℕ → Output) → List ℕ → ℕ → Parse Rear
-outputOf make s at = mapP (λ v. output (make v)) (numberOf s (at + 1))
+outputOf make s at = mapP (λ v. output (make v)) (numeralOf s (at + 1))
 
 -- a leaf is the end whose output has its word
 leaf-end : (kind : ℕ) (make : ℕ → Output) → ((v : ℕ) → rearWords (output (make v)) ≡ oneWord (word kind v)) → (s : List ℕ) (at : ℕ) (q : Parse Rear)
@@ -33,7 +33,7 @@ leaf-end : (kind : ℕ) (make : ℕ → Output) → ((v : ℕ) → rearWords (ou
 unfolding leafOf outputOf
 leaf-end kind make w s at q h r put e x f =
     renamed rearWords (outputOf make s at) q s at r put e x (sym h)
-    (other-tree oneWord rearWords (word kind) (λ v. output (make v)) w (numberOf s (at + 1)) s at r put e x f)
+    (other-tree oneWord rearWords (word kind) (λ v. output (make v)) w (numeralOf s (at + 1)) s at r put e x f)
 
 end-is : (d : ℕ) (s : List ℕ) (at : ℕ) → (i : Parse Rear) × (endOf d s at ≡ endBy i s at)
 unfolding endOf
@@ -46,7 +46,7 @@ module _ (d : ℕ) (s : List ℕ) (at b : ℕ) (e : b ≡ getD s at 0) where
   by-o o = end-is d s at .1 ∙ simp (← e, eq-eqb _ _ o)
 
   pub end-o : b ≡ 111 → (r : Parsed) (put : ℕ) (l x : List ℕ) → PartRead oneWord (leafOf 5 s at) s at r put l x → PartRead rearWords (endOf d s at) s at r put l x
-  unfolding rearWords outputWord
+  unfolding rearWords outputWord outputKind outputNames number
   end-o o = leaf-end 5 coil (λ v. refl) s at (endOf d s at) (by-o o)
 
   module _ (o : b ≡ 111 → ⊥) where
@@ -55,7 +55,7 @@ module _ (d : ℕ) (s : List ℕ) (at b : ℕ) (e : b ≡ getD s at 0) where
     by-q q = end-is d s at .1 ∙ simp (← e, ne-eqb _ _ o, eq-eqb _ _ q)
 
     pub end-q : b ≡ 113 → (r : Parsed) (put : ℕ) (l x : List ℕ) → PartRead oneWord (leafOf 6 s at) s at r put l x → PartRead rearWords (endOf d s at) s at r put l x
-    unfolding rearWords outputWord
+    unfolding rearWords outputWord outputKind outputNames number
     end-q q = leaf-end 6 coiln (λ v. refl) s at (endOf d s at) (by-q q)
 
     module _ (q : b ≡ 113 → ⊥) where
@@ -64,7 +64,7 @@ module _ (d : ℕ) (s : List ℕ) (at b : ℕ) (e : b ≡ getD s at 0) where
       by-j j = end-is d s at .1 ∙ simp (← e, ne-eqb _ _ o, ne-eqb _ _ q, eq-eqb _ _ j)
 
       pub end-j : b ≡ 106 → (r : Parsed) (put : ℕ) (l x : List ℕ) → PartRead oneWord (leafOf 7 s at) s at r put l x → PartRead rearWords (endOf d s at) s at r put l x
-      unfolding rearWords outputWord
+      unfolding rearWords outputWord outputKind outputNames number
       end-j j = leaf-end 7 jump (λ v. refl) s at (endOf d s at) (by-j j)
 
       module _ (j : b ≡ 106 → ⊥) where
@@ -73,7 +73,7 @@ module _ (d : ℕ) (s : List ℕ) (at b : ℕ) (e : b ≡ getD s at 0) where
         by-k k = end-is d s at .1 ∙ simp (← e, ne-eqb _ _ o, ne-eqb _ _ q, ne-eqb _ _ j, eq-eqb _ _ k)
 
         pub end-k : b ≡ 107 → (r : Parsed) (put : ℕ) (l x : List ℕ) → PartRead oneWord (leafOf 8 s at) s at r put l x → PartRead rearWords (endOf d s at) s at r put l x
-        unfolding rearWords outputWord
+        unfolding rearWords outputWord outputKind outputNames number
         end-k k = leaf-end 8 jumpn (λ v. refl) s at (endOf d s at) (by-k k)
 
         module _ (k : b ≡ 107 → ⊥) where

@@ -7,9 +7,9 @@ use native.Mathlib.Numerals.{sub-one}
 use borrow.Author.Tests.{eq-eqb, ne-eqb}
 use lib.ListN.{length, getD}
 use Rattle.rungs.specs.Words.{word}
-use Rattle.drawing.specs.Tree.{contact, contactn, input, frontAnd, frontOr}
-use Rattle.drawing.specs.Kept.{inputWord, frontWords}
-use Rattle.grammar.specs.Reader.{stuck, mapP, chain, followed, numberOf, factorBy, factorOf, termBy, termOf, frontBy, frontOf}
+use Rattle.drawing.specs.Tree.{contact, contactn, input, frontAnd, frontOr, inputVariable}
+use Rattle.drawing.specs.Kept.{inputWord, frontWords, inputKind}
+use Rattle.grammar.specs.Reader.{stuck, mapP, chain, followed, numeralOf, factorBy, factorOf, termBy, termOf, frontBy, frontOf}
 use Rattle.grammar.specs.Laws.Spans.{inside}
 use Rattle.text.specs.Parts.{PartRead, oneWord, leafOf}
 use Rattle.text.specs.declared.part.Parsed.{Parsed}
@@ -22,11 +22,11 @@ inside-by s i b e h = inside s i (omega arith)
 
 -- a leaf's word as a front
 contact-words : (v : ℕ) → frontWords (input (contact v)) ≡ oneWord (word 1 v)
-unfolding frontWords inputWord
+unfolding frontWords inputWord inputKind inputVariable
 contact-words v = refl
 
 contactn-words : (v : ℕ) → frontWords (input (contactn v)) ≡ oneWord (word 2 v)
-unfolding frontWords inputWord
+unfolding frontWords inputWord inputKind inputVariable
 contactn-words v = refl
 
 -- a term and a front as chains
@@ -40,7 +40,7 @@ front-law d s at = refl
 
 -- a factor by the byte b that stands there
 module _ (s : List ℕ) (at b : ℕ) (e : b ≡ getD s at 0) where
-  by-c : (d : ℕ) → b ≡ 99 → factorOf d s at ≡ mapP (λ v. input (contact v)) (numberOf s (at + 1))
+  by-c : (d : ℕ) → b ≡ 99 → factorOf d s at ≡ mapP (λ v. input (contact v)) (numeralOf s (at + 1))
   unfolding factorOf factorBy
   by-c zero c = simp (← e, eq-eqb _ _ c)
   by-c (suc d) c = simp (← e, eq-eqb _ _ c)
@@ -49,10 +49,10 @@ module _ (s : List ℕ) (at b : ℕ) (e : b ≡ getD s at 0) where
       → PartRead oneWord (leafOf 1 s at) s at r put x y → PartRead frontWords (factorOf d s at) s at r put x y
   unfolding leafOf
   factor-contact d c r put x y f =
-      rw (by-c d c) (other-tree oneWord frontWords (word 1) (λ v. input (contact v)) contact-words (numberOf s (at + 1)) s at r put x y f)
+      rw (by-c d c) (other-tree oneWord frontWords (word 1) (λ v. input (contact v)) contact-words (numeralOf s (at + 1)) s at r put x y f)
 
   module _ (c : b ≡ 99 → ⊥) where
-    by-n : (d : ℕ) → b ≡ 110 → factorOf d s at ≡ mapP (λ v. input (contactn v)) (numberOf s (at + 1))
+    by-n : (d : ℕ) → b ≡ 110 → factorOf d s at ≡ mapP (λ v. input (contactn v)) (numeralOf s (at + 1))
     unfolding factorOf factorBy
     by-n zero n = simp (← e, ne-eqb _ _ c, eq-eqb _ _ n)
     by-n (suc d) n = simp (← e, ne-eqb _ _ c, eq-eqb _ _ n)
@@ -61,7 +61,7 @@ module _ (s : List ℕ) (at b : ℕ) (e : b ≡ getD s at 0) where
         → PartRead oneWord (leafOf 2 s at) s at r put x y → PartRead frontWords (factorOf d s at) s at r put x y
     unfolding leafOf
     factor-contactn d n r put x y f =
-        rw (by-n d n) (other-tree oneWord frontWords (word 2) (λ v. input (contactn v)) contactn-words (numberOf s (at + 1)) s at r put x y f)
+        rw (by-n d n) (other-tree oneWord frontWords (word 2) (λ v. input (contactn v)) contactn-words (numeralOf s (at + 1)) s at r put x y f)
 
     module _ (n : b ≡ 110 → ⊥) where
       by-none : (d : ℕ) → (b ≡ 40 → ⊥) → factorOf d s at ≡ stuck at

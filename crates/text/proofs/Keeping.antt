@@ -1,6 +1,5 @@
 -- Laws of rungs that are kept in buffers one after the other, and of what they take. Assumes nothing.
 use mathlib.Core.Path.{_≡_, refl, sym, ap, subst, _∙_}
-use mathlib.Core.Logic.{_⊎_, inl, inr}
 use mathlib.Core.List.{List, [], _∷_, _++_, map, flatMap, map-append, append-assoc}
 use Prim.Native.Nat.{ℕ, zero, suc, _+_, _≤_, _<_, max}
 use native.Mathlib.Nat.{zero-add}
@@ -14,7 +13,8 @@ use Rattle.rungs.specs.Laws.Layout.{pieces-length, lay-length, flatMap-snoc, la
 use Rattle.drawing.specs.Tree.{Rung, Ladder}
 use Rattle.drawing.specs.Kept.{rungWords, encode}
 use Rattle.grammar.specs.Reader.{pick, Parse, read, stuck, mapP, bind, lineOf, linesOf, textOf}
-use Rattle.rungs.specs.Buffers.{Buffers, asBuffers, putAll}
+use Rattle.rungs.specs.Buffers.{Buffers, asBuffers}
+use Rattle.rungs.specs.Parts.{putAll}
 use Rattle.text.specs.Read.{keptBuffers}
 use Rattle.text.specs.Parts.{lineParsed, LineRead, withRung, putRung, lineKept, LineIsKept, sizesOf, LinesAreKept}
 use Rattle.text.specs.declared.lines.Sizes.{Sizes}
@@ -32,11 +32,6 @@ use Rattle.text.proofs.Sets.{taken}
 pub grown-by : (z : Sizes) (count m : ℕ) → m ≡ max (z .longest) count → record { words = z .words + count; rungs = z .rungs + 1; longest = m } ≡ withRung z count
 unfolding withRung
 grown-by z count m e = rw e refl
-
--- the larger of two, by a test
-pub larger : (a b m : ℕ) → ((a < b) × (m ≡ b)) ⊎ ((b ≤ a) × (m ≡ a)) → m ≡ max a b
-larger a b m (inl t) = let l = t .0 in let e = t .1 in omega arith
-larger a b m (inr t) = let l = t .0 in let e = t .1 in omega arith
 
 -- four stores
 pub stored : (b : Buffers) (z : Sizes) (label count : ℕ) (ws words labels offsets lengths : List ℕ) → words ≡ sets (b .words) (z .words) ws

@@ -8,7 +8,7 @@ use lib.Seq.{sets, length-sets}
 use Rattle.questions.specs.Bytes.{byte}
 use Rattle.drawing.specs.Tree.{Front, Rear, Rung}
 use Rattle.drawing.specs.Kept.{frontWords, rearWords, rungWords}
-use Rattle.grammar.specs.Reader.{Parse, read, stuck, mapP, bind, followed, numberOf, frontOf, rearOf, rung, lineOf}
+use Rattle.grammar.specs.Reader.{Parse, read, stuck, mapP, bind, followed, numeralOf, frontOf, rearOf, rung, lineOf}
 use Rattle.grammar.specs.Numbers.{NumberRead}
 use Rattle.grammar.specs.declared.Numeral.{Numeral}
 use Rattle.grammar.specs.declared.Numeral.the-variants.{Value, Missing}
@@ -149,15 +149,15 @@ label-of label s at n g e = label-bound label s (followed s (byte ">") (frontOf 
 
 -- ---- a line
 
-line-parts : (s : List ℕ) (at : ℕ) → lineOf s at ≡ bind (followed s (byte ":") (numberOf s at)) (λ n l. rungOf l s n)
+line-parts : (s : List ℕ) (at : ℕ) → lineOf s at ≡ bind (followed s (byte ":") (numeralOf s at)) (λ n l. rungOf l s n)
 unfolding lineOf rungOf
 line-parts s at = refl
 
-line-stuck-at : (s : List ℕ) (at x : ℕ) → followed s (byte ":") (numberOf s at) ≡ stuck x → lineOf s at ≡ stuck x
-line-stuck-at s at x e = line-parts s at ∙ bind-stuck (followed s (byte ":") (numberOf s at)) (λ n l. rungOf l s n) x e
+line-stuck-at : (s : List ℕ) (at x : ℕ) → followed s (byte ":") (numeralOf s at) ≡ stuck x → lineOf s at ≡ stuck x
+line-stuck-at s at x e = line-parts s at ∙ bind-stuck (followed s (byte ":") (numeralOf s at)) (λ n l. rungOf l s n) x e
 
-line-from : (s : List ℕ) (at n l : ℕ) → followed s (byte ":") (numberOf s at) ≡ read n l → lineOf s at ≡ rungOf l s n
-line-from s at n l e = line-parts s at ∙ bind-read (followed s (byte ":") (numberOf s at)) (λ n l. rungOf l s n) n l e
+line-from : (s : List ℕ) (at n l : ℕ) → followed s (byte ":") (numeralOf s at) ≡ read n l → lineOf s at ≡ rungOf l s n
+line-from s at n l e = line-parts s at ∙ bind-read (followed s (byte ":") (numeralOf s at)) (λ n l. rungOf l s n) n l e
 
 line-bad : (p : Parse Rung) (s : List ℕ) (at x : ℕ) (e y : List ℕ) → p ≡ stuck x → LineRead p s at (LineStuckCase x) e y
 line-bad p s at x e y q = record { same = rw q refl; within = tt; out = λ n g b h. absurd (not-both p x n g q b) }
@@ -169,7 +169,7 @@ module _ (s : List ℕ) (at : ℕ) (r : Numeral) (fr : NumberRead s at r) (e : L
   pub no-number : (y : List ℕ) → r ≡ Missing → LineRead (lineOf s at) s at (LineStuckCase at) e y
   no-number y q =
       let f : NumberRead s at Missing = subst (NumberRead s at) q fr in
-      line-bad (lineOf s at) s at at e y (line-stuck-at s at at (followed-stuck s (byte ":") (numberOf s at) at (sym (f .same))))
+      line-bad (lineOf s at) s at at e y (line-stuck-at s at at (followed-stuck s (byte ":") (numeralOf s at) at (sym (f .same))))
 
   module _ (v n : ℕ) (q : r ≡ Value v n) (b : ℕ) (eb : b ≡ getD s n 0) where
     number-read : NumberRead s at (Value v n)
@@ -177,11 +177,11 @@ module _ (s : List ℕ) (at : ℕ) (r : Numeral) (fr : NumberRead s at r) (e : L
 
     pub no-colon : (y : List ℕ) → (b ≡ 58 → ⊥) → LineRead (lineOf s at) s at (LineStuckCase n) e y
     no-colon y h = line-bad (lineOf s at) s at n e y
-        (line-stuck-at s at n (followed-short s (byte ":") (numberOf s at) n b v (sym (number-read .same)) eb h))
+        (line-stuck-at s at n (followed-short s (byte ":") (numeralOf s at) n b v (sym (number-read .same)) eb h))
 
     module _ (h : b ≡ 58) (r₂ : Parsed) (x : List ℕ) (f₂ : (label : ℕ) → PartRead rungWords (rungOf label s (n + 1)) s (n + 1) r₂ 0 e x) where
       after-colon : lineOf s at ≡ rungOf v s (n + 1)
-      after-colon = line-from s at (n + 1) v (followed-read s (byte ":") (numberOf s at) n b v (sym (number-read .same)) eb h)
+      after-colon = line-from s at (n + 1) v (followed-read s (byte ":") (numeralOf s at) n b v (sym (number-read .same)) eb h)
 
       pub rung-bad : (m : ℕ) → r₂ ≡ Stuck m → LineRead (lineOf s at) s at (LineStuckCase m) e x
       rung-bad m k =

@@ -11,11 +11,12 @@ use Rattle.questions.specs.Bytes.{byte}
 use Rattle.questions.specs.Questions.{firstNo, question13}
 use Rattle.rungs.specs.Words.{word}
 use Rattle.rungs.specs.Records.{rowOf, longest}
-use Rattle.rungs.specs.Buffers.{Buffers, needs, writtenOver, putAll}
+use Rattle.rungs.specs.Buffers.{Buffers, needs, writtenOver}
+use Rattle.rungs.specs.Parts.{putAll}
 use Rattle.drawing.specs.Tree.{Rung, Ladder}
 use Rattle.drawing.specs.Kept.{rungWords, encode}
 use Rattle.drawing.specs.Questions.{mostRungs, mostRungWords, mostWords, ladderAnswer}
-use Rattle.grammar.specs.Reader.{Parse, read, stuck, mapP, bind, followed, numberOf, frontOf, rearOf, rung}
+use Rattle.grammar.specs.Reader.{Parse, read, stuck, mapP, bind, followed, numeralOf, frontOf, rearOf, rung}
 use Rattle.text.specs.Read.{keptBuffers, ReadCall, kept, refused}
 use Rattle.text.specs.declared.part.Parsed.{Parsed}
 use Rattle.text.specs.declared.part.Parsed.the-variants.{Read, Stuck}
@@ -26,6 +27,7 @@ use Rattle.text.specs.declared.lines.LineKept.{LineKept}
 use Rattle.text.specs.declared.lines.LineKept.the-variants.{Read as LineKeptCase, Stuck as LineNotKept}
 use Rattle.text.specs.declared.lines.LinesParsed.{LinesParsed}
 use Rattle.text.specs.declared.lines.LinesParsed.the-variants.{Read as LinesReadCase, Stuck as LinesStuckCase}
+use Rattle.grammar.specs.Grammar.{mostBrackets}
 
 -- a word before the `count` words that stand from `from` on, where all have room
 pub record Inserted (e : List ℕ) (from count w : ℕ) (x : List ℕ) : Type 0 where
@@ -52,11 +54,11 @@ abbrev pub oneWord : ℕ → List ℕ
 oneWord w = w ∷ []
 
 unfoldable pub leafOf : ℕ → List ℕ → ℕ → Parse ℕ
-leafOf kind s at = mapP (word kind) (numberOf s (at + 1))
+leafOf kind s at = mapP (word kind) (numeralOf s (at + 1))
 
 -- a line from after its label's ":" on
 unfoldable pub rungOf : ℕ → List ℕ → ℕ → Parse Rung
-rungOf label s at = bind (followed s (byte ">") (frontOf 15 s at)) (λ n f. mapP (rung label f) (followed s (byte "\n") (rearOf 15 s n)))
+rungOf label s at = bind (followed s (byte ">") (frontOf mostBrackets s at)) (λ n f. mapP (rung label f) (followed s (byte "\n") (rearOf mostBrackets s n)))
 
 abbrev pub lineParsed : Parse Rung → LineParsed
 lineParsed (read n g) = LineReadCase (g .label) n (length (rungWords g))
@@ -97,7 +99,7 @@ KeptWithin s at z (LineNotKept p) = Unit {0}
 pub record LineIsKept (p : Parse Rung) (s : List ℕ) (at : ℕ) (z : Sizes) (r : LineKept) (before after : Buffers) : Type 0 where
   pub same : r ≡ lineKept z p
   pub within : KeptWithin s at z r
-  pub out : (n : ℕ) (g : Rung) → p ≡ read n g → length (rungWords g) ≤ 128 → after ≡ putRung before z (g .label) (length (rungWords g)) (rungWords g)
+  pub out : (n : ℕ) (g : Rung) → p ≡ read n g → length (rungWords g) ≤ mostRungWords → after ≡ putRung before z (g .label) (length (rungWords g)) (rungWords g)
 
 unfoldable pub sizesOf : Ladder → Sizes
 sizesOf gs = record { words = length (encode gs .words); rungs = length gs; longest = longest (encode gs .records) }
@@ -113,7 +115,7 @@ linesParsed (stuck p) = LinesStuckCase p
 -- a text is read, and where no rung is too long all are kept, as far as there is room
 pub record LinesAreKept (p : Parse Ladder) (r : LinesParsed) (before after : Buffers) : Type 0 where
   pub same : r ≡ linesParsed p
-  pub out : (n : ℕ) (gs : Ladder) → p ≡ read n gs → sizesOf gs .longest ≤ 128 → after ≡ putAll before (keptBuffers gs)
+  pub out : (n : ℕ) (gs : Ladder) → p ≡ read n gs → sizesOf gs .longest ≤ mostRungWords → after ≡ putAll before (keptBuffers gs)
 
 -- questions 4 to 8 and 13 of a ladder that was read, and the writing of the lent buffers
 unfoldable pub handOver : ℕ → Buffers → Buffers → ReadCall

@@ -16,8 +16,8 @@ use Rattle.text.specs.declared.TextRead.{TextRead}
 use Rattle.text.specs.declared.TextRead.the-variants.{Kept as KeptCase, Refused as RefusedCase}
 
 -- the ladder of a text; no rung where the text is not in the grammar
-unfoldable pub ladderOf : List ℕ → Ladder
-ladderOf text = elim (textOf text) [ read n gs ↦ gs | stuck p ↦ [] ]
+unfoldable pub textLadder : List ℕ → Ladder
+textLadder text = elim (textOf text) [ read n gs ↦ gs | stuck p ↦ [] ]
 
 -- a ladder's words and records as buffers of just their size
 abbrev pub keptBuffers : Ladder → Buffers
@@ -35,7 +35,7 @@ pub record ReadCall : Type 0 where
 -- questions 1, 2, 3, 5, 6, 7, 8 and 13 in order; a refusal leaves the buffers, and else "writes words and records likewise"
 unfoldable pub readText : ℕ → List ℕ → Buffers → ReadCall
 readText vars text lent =
-    let gs = ladderOf text in
+    let gs = textLadder text in
     let new = keptBuffers gs in
     elim (firstNo (question1 vars ∷ question2 (length text) ∷ question3 text ∷ question5 gs ∷ question6 vars gs ∷ question7 gs ∷ question8 gs ∷ question13 (needs new lent) ∷ [])) [
       | some refusal ↦ record { answer = refused refusal; buffers = lent }
@@ -47,11 +47,11 @@ unfoldable pub writtenKept : Buffers → ℕ → ℕ → Kept
 writtenKept b words rungs = record { words = writtenWords b words; records = writtenRecords b rungs }
 
 -- document 01's values for each case of the enum TextRead
-unfoldable pub answerOf : TextRead → ReadAnswer
-answerOf (KeptCase c) = kept (c .words) (c .rungs)
-answerOf (RefusedCase refusal) = refused (refusalOf refusal)
+unfoldable pub textReadAnswer : TextRead → ReadAnswer
+textReadAnswer (KeptCase c) = kept (c .words) (c .rungs)
+textReadAnswer (RefusedCase refusal) = refused (refusalOf refusal)
 
 -- the promise of read: answer and buffers are those of the definition
 pub record ReadDone (call : ReadCall) (r : TextRead) (lent : Buffers) : Type 0 where
-  pub answer : answerOf r ≡ call .answer
+  pub answer : textReadAnswer r ≡ call .answer
   pub same-buffers : lent ≡ call .buffers

@@ -3,26 +3,28 @@ ghost use Prim.Native.Nat.{_≤_};
 ghost use Rattle.grammar.specs.Reader.{frontOf, termOf, factorOf};
 ghost use Rattle.drawing.specs.Kept.{frontWords};
 ghost use Rattle.text.specs.Parts.{PartRead};
+ghost use Rattle.grammar.specs.Grammar.{mostBrackets};
 use crate::part;
 use crate::part::Parsed;
 use crate::words;
+use rungs::OPERANDS;
 
-// The words of kinds 3 and 4.
-const FRONT_AND: u32 = 196608;
+// The words of a front-and and a front-or.
+const FRONT_AND: u32 = kinds::FRONT_AND * OPERANDS;
 
-const FRONT_OR: u32 = 262144;
+const FRONT_OR: u32 = kinds::FRONT_OR * OPERANDS;
 
 pub fn factor(text: &[u8], at: usize, depth: usize, rung: &mut [u32], put: usize) -> Parsed
-    requires { ⌜ (depth ≤ 15) × (put ≤ at) ⌝ }
+    requires { ⌜ (depth ≤ mostBrackets) × (put ≤ at) ⌝ }
     ensures { λ r. ⌜ PartRead frontWords (factorOf depth (now (text .entry)) at) (now (text .entry)) at r put
         (now (rung .entry)) (now (rung .exit)) ⌝ }
 {
     let b = grammar::byte_at(text, at);
     if b == b'c' {
-        return part::leaf(text, at, 1, rung, put);
+        return part::leaf(text, at, kinds::CONTACT, rung, put);
     }
     if b == b'n' {
-        return part::leaf(text, at, 2, rung, put);
+        return part::leaf(text, at, kinds::NEGATED_CONTACT, rung, put);
     }
     if b != b'(' {
         return Parsed::Stuck { place: at };
@@ -47,7 +49,7 @@ pub fn factor(text: &[u8], at: usize, depth: usize, rung: &mut [u32], put: usize
 
 // Factors joined by "&", grouped to the left.
 pub fn term(text: &[u8], at: usize, depth: usize, rung: &mut [u32], put: usize) -> Parsed
-    requires { ⌜ (depth ≤ 15) × (put ≤ at) ⌝ }
+    requires { ⌜ (depth ≤ mostBrackets) × (put ≤ at) ⌝ }
     ensures { λ r. ⌜ PartRead frontWords (termOf depth (now (text .entry)) at) (now (text .entry)) at r put
         (now (rung .entry)) (now (rung .exit)) ⌝ }
 {
@@ -79,7 +81,7 @@ pub fn term(text: &[u8], at: usize, depth: usize, rung: &mut [u32], put: usize) 
 
 // Terms joined by "|", grouped to the left.
 pub fn front(text: &[u8], at: usize, depth: usize, rung: &mut [u32], put: usize) -> Parsed
-    requires { ⌜ (depth ≤ 15) × (put ≤ at) ⌝ }
+    requires { ⌜ (depth ≤ mostBrackets) × (put ≤ at) ⌝ }
     ensures { λ r. ⌜ PartRead frontWords (frontOf depth (now (text .entry)) at) (now (text .entry)) at r put
         (now (rung .entry)) (now (rung .exit)) ⌝ }
 {

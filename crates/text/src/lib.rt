@@ -2,13 +2,17 @@
 ghost use mathlib.Core.Path.{_≡_};
 ghost use lib.Dec.{leb};
 ghost use mathlib.Core.Bool.{_&&_};
+ghost use Rattle.questions.specs.Questions.{mostTextBytes};
 ghost use Rattle.rungs.specs.Buffers.{buffers};
 ghost use Rattle.text.specs.Read.{readText, ReadDone};
 ghost use Rattle.text.specs.Parts.{handOver, fits};
+use kinds::MOST_RUNG_WORDS;
+use kinds::MOST_WORDS;
 use lines::LinesParsed;
 use lines::Sizes;
 use questions::Refusal;
 use questions::Verdict;
+use rungs::MOST_RECORDS;
 
 mod front;
 mod lines;
@@ -17,12 +21,7 @@ mod rear;
 mod words;
 
 // Text of 1 to 65,535 bytes.
-const MOST_TEXT_BYTES: usize = 65535;
-
-// At most 256 rungs, 128 words a rung, 8,192 words.
-const MOST_RUNGS: usize = 256;
-
-const MOST_WORDS: usize = 8192;
+pub const MOST_TEXT_BYTES: usize = 65535;
 
 // The words and rungs of a ladder.
 pub struct Counts {
@@ -38,7 +37,7 @@ pub enum TextRead {
 
 // Question 2.
 fn length_in_range(bytes: usize) -> bool
-    ensures { λ r. ⌜ r ≡ (leb 1 bytes && leb bytes 65535) ⌝ }
+    ensures { λ r. ⌜ r ≡ (leb 1 bytes && leb bytes mostTextBytes) ⌝ }
 {
     if bytes < 1 {
         return false;
@@ -50,10 +49,10 @@ fn length_in_range(bytes: usize) -> bool
 fn sizes_in_range(sizes: Sizes) -> bool
     ensures { λ r. ⌜ r ≡ fits sizes ⌝ }
 {
-    if MOST_RUNGS < sizes.rungs {
+    if MOST_RECORDS < sizes.rungs {
         return false;
     }
-    if lines::MOST_RUNG_WORDS < sizes.longest {
+    if MOST_RUNG_WORDS < sizes.longest {
         return false;
     }
     sizes.words <= MOST_WORDS
@@ -124,9 +123,9 @@ pub fn read(
         return TextRead::Refused(Refusal::TextLength);
     }
     let mut new_words = [0u32; MOST_WORDS];
-    let mut new_labels = [0u16; MOST_RUNGS];
-    let mut new_offsets = [0u32; MOST_RUNGS];
-    let mut new_lengths = [0u32; MOST_RUNGS];
+    let mut new_labels = [0u16; MOST_RECORDS];
+    let mut new_offsets = [0u32; MOST_RECORDS];
+    let mut new_lengths = [0u32; MOST_RECORDS];
     match lines::lines(
         text,
         &mut new_words,

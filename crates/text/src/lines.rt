@@ -11,12 +11,10 @@ use crate::part::Parsed;
 use crate::rear;
 use crate::words;
 use grammar::Numeral;
+use kinds::MOST_RUNG_WORDS;
 
 // The most brackets of both sorts that are open together.
 const MOST_BRACKETS: usize = 15;
-
-// The most words of a rung.
-pub const MOST_RUNG_WORDS: usize = 128;
 
 // A line's label, the position after it and how many words its rung makes, or the place where reading is stuck.
 pub enum LineParsed {
@@ -108,14 +106,10 @@ fn grown(sizes: Sizes, count: usize) -> Sizes
     requires { ⌜ (sizes .words + count < 2 ^ 64) × (sizes .rungs + 1 < 2 ^ 64) ⌝ }
     ensures { λ r. ⌜ r ≡ withRung sizes count ⌝ }
 {
-    let mut longest = sizes.longest;
-    if longest < count {
-        longest = count;
-    }
     Sizes {
         words: sizes.words + count,
         rungs: sizes.rungs + 1,
-        longest,
+        longest: rungs::larger(sizes.longest, count),
     }
 }
 

@@ -3,8 +3,10 @@
 
 ghost use Prim.Native.Nat.{_<_, _≤_};
 ghost use lib.ListN.{length};
+ghost use Rattle.rungs.specs.Words.{operands};
 ghost use Rattle.text.specs.Parts.{oneWord, leafOf, PartRead};
 use grammar::Numeral;
+use rungs::OPERANDS;
 
 // The position after the part and how many words it makes, or the place where reading is stuck.
 pub enum Parsed {
@@ -14,13 +16,13 @@ pub enum Parsed {
 
 // A contact or an output, by its kind: its letter stands at `at`, its number after it.
 pub fn leaf(text: &[u8], at: usize, kind: u32, rung: &mut [u32], put: usize) -> Parsed
-    requires { ⌜ (at < length (now text)) × (kind ≤ 8) ⌝ }
+    requires { ⌜ (at < length (now text)) × (kind < operands) ⌝ }
     ensures { λ r. ⌜ PartRead oneWord (leafOf kind (now (text .entry)) at) (now (text .entry)) at r put
         (now (rung .entry)) (now (rung .exit)) ⌝ }
 {
     match grammar::number(text, at + 1) {
         Numeral::Value { value, next } => {
-            rungs::put_word(rung, put, kind * 65536 + value);
+            rungs::put_word(rung, put, kind * OPERANDS + value);
             Parsed::Read { next, count: 1 }
         }
         Numeral::Missing => Parsed::Stuck { place: at + 1 },

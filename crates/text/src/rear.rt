@@ -4,15 +4,17 @@ ghost use Prim.Native.Nat.{_<_, _≤_};
 ghost use Rattle.grammar.specs.Reader.{rearOf, branchOf, endOf, opensFactor};
 ghost use Rattle.drawing.specs.Kept.{rearWords};
 ghost use Rattle.text.specs.Parts.{PartRead};
+ghost use Rattle.grammar.specs.Grammar.{mostBrackets};
 use crate::front;
 use crate::part;
 use crate::part::Parsed;
 use crate::words;
+use rungs::OPERANDS;
 
-// The words of kinds 9 and 10.
-const REAR_AND: u32 = 589824;
+// The words of a rear-and and a rear-or.
+const REAR_AND: u32 = kinds::REAR_AND * OPERANDS;
 
-const REAR_OR: u32 = 655360;
+const REAR_OR: u32 = kinds::REAR_OR * OPERANDS;
 
 // Whether a factor begins with a byte.
 fn opens(b: u8) -> bool
@@ -28,22 +30,22 @@ fn opens(b: u8) -> bool
 
 // The end of a branch: an output, or a rear in brackets.
 pub fn rear_end(text: &[u8], at: usize, depth: usize, rung: &mut [u32], put: usize) -> Parsed
-    requires { ⌜ (depth ≤ 15) × (put < at) ⌝ }
+    requires { ⌜ (depth ≤ mostBrackets) × (put < at) ⌝ }
     ensures { λ r. ⌜ PartRead rearWords (endOf depth (now (text .entry)) at) (now (text .entry)) at r put
         (now (rung .entry)) (now (rung .exit)) ⌝ }
 {
     let b = grammar::byte_at(text, at);
     if b == b'o' {
-        return part::leaf(text, at, 5, rung, put);
+        return part::leaf(text, at, kinds::COIL, rung, put);
     }
     if b == b'q' {
-        return part::leaf(text, at, 6, rung, put);
+        return part::leaf(text, at, kinds::NEGATED_COIL, rung, put);
     }
     if b == b'j' {
-        return part::leaf(text, at, 7, rung, put);
+        return part::leaf(text, at, kinds::JUMP, rung, put);
     }
     if b == b'k' {
-        return part::leaf(text, at, 8, rung, put);
+        return part::leaf(text, at, kinds::NEGATED_JUMP, rung, put);
     }
     if b != b'[' {
         return Parsed::Stuck { place: at };
@@ -68,7 +70,7 @@ pub fn rear_end(text: &[u8], at: usize, depth: usize, rung: &mut [u32], put: usi
 
 // Factors, each followed by "&", then an end; grouped to the right.
 pub fn branch(text: &[u8], at: usize, depth: usize, rung: &mut [u32], put: usize) -> Parsed
-    requires { ⌜ (depth ≤ 15) × (put < at) ⌝ }
+    requires { ⌜ (depth ≤ mostBrackets) × (put < at) ⌝ }
     ensures { λ r. ⌜ PartRead rearWords (branchOf depth (now (text .entry)) at) (now (text .entry)) at r put
         (now (rung .entry)) (now (rung .exit)) ⌝ }
 {
@@ -100,7 +102,7 @@ pub fn branch(text: &[u8], at: usize, depth: usize, rung: &mut [u32], put: usize
 
 // Branches joined by "|", grouped to the right.
 pub fn rear(text: &[u8], at: usize, depth: usize, rung: &mut [u32], put: usize) -> Parsed
-    requires { ⌜ (depth ≤ 15) × (put < at) ⌝ }
+    requires { ⌜ (depth ≤ mostBrackets) × (put < at) ⌝ }
     ensures { λ r. ⌜ PartRead rearWords (rearOf depth (now (text .entry)) at) (now (text .entry)) at r put
         (now (rung .entry)) (now (rung .exit)) ⌝ }
 {

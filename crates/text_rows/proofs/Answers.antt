@@ -11,17 +11,16 @@ use Rattle.questions.specs.Questions.{Answer, question1, question2}
 use Rattle.questions.specs.Laws.Answers.{first-yes, later-yes, ask-passed}
 use Rattle.questions.specs.Refusals.{refusalOf}
 use Rattle.questions.specs.declared.Refusal.{Refusal as RefusalCase}
-use Rattle.rungs.specs.Records.{RungRecord}
+use Rattle.rungs.specs.Records.{RungRecord, mostRecords}
 use Rattle.rungs.specs.Buffers.{Buffers, buffers, asBuffers}
 use Rattle.rungs.specs.Laws.Layout.{lay-length}
-use Rattle.rows.specs.Rows.{mostRungs, scattered}
+use Rattle.rows.specs.Parts.{scattered}
 use Rattle.rows.specs.Laws.Written.{same-asked, few-written, within-written, fields, same-refused, same-written}
 use Rattle.drawing.specs.Tree.{Ladder}
 use Rattle.drawing.specs.Kept.{rungWords, encode}
 use Rattle.drawing.specs.Questions.{sizesInRange, question5}
 use Rattle.grammar.specs.Questions.{question3}
-use Rattle.text.specs.Read.{ladderOf, kept, readText, ReadDone}
-use Rattle.text.specs.Read.{answerOf as readOf}
+use Rattle.text.specs.Read.{textLadder, kept, readText, ReadDone, textReadAnswer}
 use Rattle.text.specs.Laws.Reads.{not-both, before, asked, call-refused, call-kept, all-yes, rungs-count}
 use Rattle.text.specs.declared.Counts.{Counts}
 use Rattle.text.specs.declared.TextRead.{TextRead}
@@ -31,7 +30,7 @@ use Rattle.text_rows.specs.declared.ReadFields.{ReadFields}
 
 module _ (vars : ℕ) (text : List ℕ) where
   abbrev gs : Ladder
-  gs = ladderOf text
+  gs = textLadder text
 
   abbrev ks : List RungRecord
   ks = encode gs .records
@@ -43,16 +42,16 @@ module _ (vars : ℕ) (text : List ℕ) where
   unfolding encode
   rungs-laid = lay-length (λ g. g .label) (λ g. length (rungWords g)) 0 gs
 
-  pub few-rungs : before vars text ≡ none → length ks ≤ mostRungs
+  pub few-rungs : before vars text ≡ none → length ks ≤ mostRecords
   unfolding question5 sizesInRange
   few-rungs e =
       let five = first-yes (question5 gs) _ (later-yes (question3 text) _ (later-yes (question2 (length text)) _ (later-yes (question1 vars) _ e))) in
       let n = rungs-laid in
-      let l = leb→le (length gs) mostRungs (and-yes (leb (length gs) mostRungs) _ (ask-passed 5 _ five) .0) in
+      let l = leb→le (length gs) mostRecords (and-yes (leb (length gs) mostRecords) _ (ask-passed 5 _ five) .0) in
       omega arith
 
   -- Read, done on a copy of as many fields as a row of `lent` records has room for
-  module _ (words : List ℕ) (lent : ℕ) (zl zo zn : List ℕ) (el : length zl ≡ min mostRungs lent) (eo : length zo ≡ min mostRungs lent) (en : length zn ≡ min mostRungs lent)
+  module _ (words : List ℕ) (lent : ℕ) (zl zo zn : List ℕ) (el : length zl ≡ min mostRecords lent) (eo : length zo ≡ min mostRecords lent) (en : length zn ≡ min mostRecords lent)
       (r : TextRead) (words′ ls os ns : List ℕ) (done : ReadDone (readText vars text (buffers words zl zo zn)) r (buffers words′ ls os ns)) (rest : List ℕ) where
     abbrev lends : Buffers
     lends = buffers words zl zo zn
@@ -68,7 +67,7 @@ module _ (vars : ℕ) (text : List ℕ) where
 
     module _ (x : RefusalCase) (is : r ≡ RefusedCase x) where
       refused-done : RowDone (fieldsRead r 0)
-      unfolding readOf
+      unfolding textReadAnswer
       refused-done rs e = go (asked vars text lends) refl
         where
           go : (a : Answer) → asked vars text lends ≡ a → ReadDone (readText vars text (asBuffers words rs)) r (asBuffers words′ (scattered 0 (fieldsRead r 0 .rows) rs))
@@ -80,15 +79,15 @@ module _ (vars : ℕ) (text : List ℕ) where
                 same-buffers = same-refused (before vars text) nw ks few-rungs words lent zl zo zn el eo en words′ ls os ns rest (done .same-buffers ∙ ap (λ k. k .buffers) small) rs
                     ∙ sym (ap (λ k. k .buffers) whole);
               }
-          go none q = absurd (not-both _ _ (refusalOf x) (sym (ap (λ k. k .answer) (call-kept vars text lends q)) ∙ sym (done .answer) ∙ ap readOf is))
+          go none q = absurd (not-both _ _ (refusalOf x) (sym (ap (λ k. k .answer) (call-kept vars text lends q)) ∙ sym (done .answer) ∙ ap textReadAnswer is))
 
       pub read-refused : FieldsRead vars text words lent (fieldsRead r 0) words′
       read-refused = record { same = refused-done; few = omega arith; within = omega arith }
 
     module _ (c : Counts) (is : r ≡ KeptCase c) (same-l : length ls ≡ length zl) (same-o : length os ≡ length zo) (same-n : length ns ≡ length zn) where
       answer-is : readText vars text lends .answer ≡ kept (c .words) (c .rungs)
-      unfolding readOf
-      answer-is = sym (done .answer) ∙ ap readOf is
+      unfolding textReadAnswer
+      answer-is = sym (done .answer) ∙ ap textReadAnswer is
 
       was-kept : asked vars text lends ≡ none
       was-kept = all-yes vars text lends (c .words) (c .rungs) answer-is
@@ -101,7 +100,7 @@ module _ (vars : ℕ) (text : List ℕ) where
           let small = call-kept vars text lends was-kept in
           let whole = call-kept vars text (asBuffers words rs) (sym (still-asked rs e) ∙ was-kept) in
           record {
-            answer = ap readOf (sym is) ∙ done .answer ∙ ap (λ k. k .answer) small ∙ sym (ap (λ k. k .answer) whole);
+            answer = ap textReadAnswer (sym is) ∙ done .answer ∙ ap (λ k. k .answer) small ∙ sym (ap (λ k. k .answer) whole);
             same-buffers = same-written (before vars text) nw ks few-rungs words lent zl zo zn el eo en words′ ls os ns rest (done .same-buffers ∙ ap (λ k. k .buffers) small) same-l same-o same-n rs
                 ∙ sym (ap (λ k. k .buffers) whole);
           }

@@ -6,10 +6,8 @@ ghost use Rattle.text.specs.Read.{readText, ReadDone};
 ghost use Rattle.text_rows.specs.Parts.{FieldsRead};
 use rows::Rows;
 use rows::Rung;
+use rungs::MOST_RECORDS;
 use text::TextRead;
-
-// At most 256 rungs.
-const MOST_RUNGS: usize = 256;
 
 // What Read answers, and the fields of the records that it writes: as many as `rows` keeps.
 pub struct ReadFields {
@@ -21,9 +19,9 @@ pub struct ReadFields {
 fn read_fields(vars: u32, text: &[u8], words: &mut [u32], lent: usize) -> ReadFields
     ensures { λ r. ⌜ FieldsRead vars (now (text .entry)) (now (words .entry)) lent r (now (words .exit)) ⌝ }
 {
-    let mut labels = [0u16; MOST_RUNGS];
-    let mut offsets = [0u32; MOST_RUNGS];
-    let mut lengths = [0u32; MOST_RUNGS];
+    let mut labels = [0u16; MOST_RECORDS];
+    let mut offsets = [0u32; MOST_RECORDS];
+    let mut lengths = [0u32; MOST_RECORDS];
     let room = rows::room(lent);
     let answer = text::read(
         vars,

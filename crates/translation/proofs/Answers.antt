@@ -11,21 +11,22 @@ use Rattle.questions.specs.Tests.{all}
 use Rattle.questions.specs.Questions.{ask, firstNo, longEnough, question13}
 use Rattle.questions.specs.Refusals.{refusalOf}
 use Rattle.questions.specs.declared.Refusal.{Refusal as RefusalCase}
-use Rattle.questions.specs.declared.Refusal.the-variants.{Buffer}
+use Rattle.questions.specs.declared.Refusal.the-variants.{Buffer as BufferCase}
 use Rattle.rungs.specs.Records.{offsets, search}
 use Rattle.rungs.specs.Buffers.{Buffers, asBuffers, needs, written}
 use Rattle.rungs.specs.Laws.Layout.{lay-length}
 use Rattle.rungs.specs.Laws.Filling.{written-sets, labels-count, offsets-count, lengths-count, short-words, short-labels, short-offsets, short-lengths, enough, put-written}
 use Rattle.drawing.specs.Tree.{Ladder}
 use Rattle.drawing.specs.Kept.{Kept}
-use Rattle.drawing.specs.Questions.{ladderOf, ladderAnswer}
+use Rattle.drawing.specs.Questions.{mostRungs, ladderOf, ladderAnswer}
 use Rattle.ladder.specs.Held.{LadderHeld}
 use Rattle.drawing.specs.Laws.Accepting.{accepted}
 use Rattle.ladder.specs.Laws.Held.{keptOf, held, as-many}
 use Rattle.list.specs.Instruction.{instrWord}
 use Rattle.translation.specs.Translate.{rungCode, listRecords, translate}
-use Rattle.translation.specs.TranslateKept.{listBuffers, countsOf, translateKept, answerOf, TranslateDone}
+use Rattle.translation.specs.TranslateKept.{listBuffers, countsOf, translateKept, translatedAnswer, TranslateDone}
 use Rattle.translation.specs.Laws.Legal.{sized}
+use Rattle.translation.specs.Laws.Answers.{call-refused, call-written}
 use Rattle.translation.specs.Parts.{startIn, LadderReady, LaidOut, ListPut}
 use Rattle.translation.specs.declared.Translated.the-variants.{Written as WrittenCase, Refused as RefusedCase}
 use Rattle.translation.specs.declared.write.Layout.{Layout}
@@ -54,7 +55,7 @@ module _ (vars : ℕ) (ws ls os ns : List ℕ) (ok : ladderAnswer vars (keptOf w
   is-held : LadderHeld ws ls os (ladderOf (keptOf ws ls os ns))
   is-held = held ws ls os ns (ladderOf (keptOf ws ls os ns)) (accepted vars (keptOf ws ls os ns) ok .0) (accepted vars (keptOf ws ls os ns) ok .1 .some-rung)
 
-  pub ready : (starts : List ℕ) → length starts ≡ 256 → LadderReady vars ws ls os starts
+  pub ready : (starts : List ℕ) → length starts ≡ mostRungs → LadderReady vars ws ls os starts
   ready starts e = record { ladder = ladderOf (keptOf ws ls os ns); held = is-held; accepted = accepted vars (keptOf ws ls os ns) ok .1; enough = e }
 
 module _ (vars : ℕ) (ws ls os ns : List ℕ) (lent : Buffers) where
@@ -69,8 +70,8 @@ module _ (vars : ℕ) (ws ls os ns : List ℕ) (lent : Buffers) where
 
   refuses : (refusal : RefusalCase) → firstNo (ladderAnswer vars kept ∷ question13 (needs new lent) ∷ []) ≡ some (refusalOf refusal)
       → TranslateDone (translateKept vars kept lent) (RefusedCase refusal) lent
-  unfolding translateKept answerOf
-  refuses refusal e = record { answer = rw (e, translateKept); same-buffers = rw (e, translateKept) }
+  unfolding translatedAnswer
+  refuses refusal e = let c = call-refused vars kept lent (refusalOf refusal) e in record { answer = sym (ap (λ t. t .answer) c); same-buffers = sym (ap (λ t. t .buffers) c) }
 
   pub translate-refused : (refusal : RefusalCase) → ladderAnswer vars kept ≡ some (refusalOf refusal) → TranslateDone (translateKept vars kept lent) (RefusedCase refusal) lent
   unfolding firstNo
@@ -97,28 +98,28 @@ module _ (vars : ℕ) (ws ls os ns : List ℕ) (lent : Buffers) where
     lengths-many : length (new .lengths) ≡ length os
     lengths-many = lengths-count (map instrWord (translate vars gs .code)) (translate vars gs .records) ∙ records-many
 
-    short : all longEnough (needs new lent) ≡ false → TranslateDone (translateKept vars kept lent) (RefusedCase Buffer) lent
+    short : all longEnough (needs new lent) ≡ false → TranslateDone (translateKept vars kept lent) (RefusedCase BufferCase) lent
     unfolding firstNo question13 ask refusalOf
-    short e = refuses Buffer (rw (ok, e))
+    short e = refuses BufferCase (rw (ok, e))
 
     module _ (r : Layout) (e x : List ℕ) (laid : LaidOut vars ws ls os r e x) where
       words-many : length (new .words) ≡ r .instructions
       unfolding asBuffers translate
       words-many = length-map (translate vars gs .code) instrWord ∙ sym (laid .instructions gs the-held)
 
-      pub short-of-code : length (lent .words) < r .instructions → TranslateDone (translateKept vars kept lent) (RefusedCase Buffer) lent
+      pub short-of-code : length (lent .words) < r .instructions → TranslateDone (translateKept vars kept lent) (RefusedCase BufferCase) lent
       short-of-code h = short (short-words new lent (omega (arith, words-many)))
 
       module _ (w : r .instructions ≤ length (lent .words)) where
-        pub short-of-labels : length (lent .labels) < length os → TranslateDone (translateKept vars kept lent) (RefusedCase Buffer) lent
+        pub short-of-labels : length (lent .labels) < length os → TranslateDone (translateKept vars kept lent) (RefusedCase BufferCase) lent
         short-of-labels h = short (short-labels new lent (omega (arith, words-many)) (omega (arith, labels-many)))
 
         module _ (l : length os ≤ length (lent .labels)) where
-          pub short-of-offsets : length (lent .offsets) < length os → TranslateDone (translateKept vars kept lent) (RefusedCase Buffer) lent
+          pub short-of-offsets : length (lent .offsets) < length os → TranslateDone (translateKept vars kept lent) (RefusedCase BufferCase) lent
           short-of-offsets h = short (short-offsets new lent (omega (arith, words-many)) (omega (arith, labels-many)) (omega (arith, offsets-many)))
 
           module _ (o : length os ≤ length (lent .offsets)) where
-            pub short-of-lengths : length (lent .lengths) < length os → TranslateDone (translateKept vars kept lent) (RefusedCase Buffer) lent
+            pub short-of-lengths : length (lent .lengths) < length os → TranslateDone (translateKept vars kept lent) (RefusedCase BufferCase) lent
             short-of-lengths h = short (short-lengths new lent (omega (arith, words-many)) (omega (arith, labels-many)) (omega (arith, offsets-many)) (omega (arith, lengths-many)))
 
             module _ (n : length os ≤ length (lent .lengths)) where
@@ -129,20 +130,21 @@ module _ (vars : ℕ) (ws ls os ns : List ℕ) (lent : Buffers) where
                   rw (ok, f) refl
 
               -- the starts that were laid out are those of the list
-              starts-laid : e ≡ replicate 256 0 → (i : ℕ) → startIn ls x i ≡ startIn ls (offsets (listRecords vars gs)) i
+              starts-laid : e ≡ replicate mostRungs 0 → (i : ℕ) → startIn ls x i ≡ startIn ls (offsets (listRecords vars gs)) i
               unfolding startIn translate
               starts-laid z i =
                   ap (λ s. getD s (search i ls) 0) (laid .starts gs the-held ∙ ap (λ s. sets s 0 (offsets (listRecords vars gs))) z)
-                  ∙ over-zeros (offsets (listRecords vars gs)) 256 (search i ls) (omega (arith, length-map (listRecords vars gs) (λ r. r .offset), records-many, rungs-many, sized gs (accepted vars kept ok .1 .sizes) .rungs))
+                  ∙ over-zeros (offsets (listRecords vars gs)) mostRungs (search i ls) (omega (arith, length-map (listRecords vars gs) (λ r. r .offset), records-many, rungs-many, sized gs (accepted vars kept ok .1 .sizes) .rungs))
 
-              pub translate-done : e ≡ replicate 256 0 → (after : Buffers) → ListPut vars ws ls os x lent after
+              pub translate-done : e ≡ replicate mostRungs 0 → (after : Buffers) → ListPut vars ws ls os x lent after
                   → TranslateDone (translateKept vars kept lent) (WrittenCase (record { instructions = r .instructions; rungs = length os; longest = r .longest })) after
-              unfolding translateKept answerOf countsOf translate
+              unfolding translatedAnswer countsOf translate
               translate-done z after put =
                   let counted = laid .instructions gs the-held in
+                  let c = call-written vars kept lent asked in
                   record {
-                    answer = rw (asked, translateKept, counted, laid .longest gs the-held, ← records-many) refl;
-                    same-buffers = rw (asked, translateKept)
+                    answer = rw (c, counted, laid .longest gs the-held, ← records-many) refl;
+                    same-buffers = rw c
                         (put .wrote gs the-held (starts-laid z)
                         ∙ put-written new lent (omega (arith, words-many)) (omega (arith, labels-many)) (omega (arith, offsets-many)) (omega (arith, lengths-many)));
                   }

@@ -8,15 +8,13 @@ use Rattle.questions.specs.declared.Refusal.{Refusal as RefusalCase}
 use Rattle.rungs.specs.Records.{rowOf}
 use Rattle.rungs.specs.Buffers.{Buffers, writtenWords, writtenRecords}
 use Rattle.drawing.specs.Kept.{Kept}
-use Rattle.ladder.specs.LadderScan.{ladderScan, LadderScanDone}
+use Rattle.ladder.specs.LadderScan.{callLadderScan, LadderScanDone}
 use Rattle.ladder.specs.declared.LadderScanned.{LadderScanned}
-use Rattle.list.specs.ListScan.{listScan, ListScanDone}
+use Rattle.list.specs.ListScan.{callListScan, ListScanDone}
 use Rattle.list.specs.declared.ListScanned.{ListScanned}
-use Rattle.translation.specs.TranslateKept.{translated, refused, translateKept, countsIn, TranslateDone}
-use Rattle.translation.specs.TranslateKept.{answerOf as translatedOf}
+use Rattle.translation.specs.TranslateKept.{translated, refused, translateKept, countsIn, TranslateDone, translatedAnswer}
 use Rattle.translation.specs.Laws.Answers.{refused-same, written-room}
-use Rattle.translation.specs.BothScans.{copied, Lent, scanBoth, bothScans, BothScansDone}
-use Rattle.translation.specs.BothScans.{answerOf as bothOf}
+use Rattle.translation.specs.BothScans.{copied, Lent, scanBoth, bothScans, BothScansDone, bothScannedAnswer}
 use Rattle.translation.specs.declared.Counts.{Counts as CountsStruct}
 use Rattle.translation.specs.declared.Translated.{Translated}
 use Rattle.translation.specs.declared.Translated.the-variants.{Written as WrittenCase, Refused as RefusedCase}
@@ -26,8 +24,8 @@ use Rattle.translation.specs.declared.BothScanned.the-variants.{Scanned 
 
 module _ (vars : ℕ) (k : Kept) (lent : Buffers) (r : Translated) (after : Buffers) (done : TranslateDone (translateKept vars k lent) r after) (c : CountsStruct) (e : r ≡ WrittenCase c) where
   answer-is : translateKept vars k lent .answer ≡ translated (countsIn c)
-  unfolding translatedOf
-  answer-is = sym (done .answer) ∙ ap translatedOf e
+  unfolding translatedAnswer
+  answer-is = sym (done .answer) ∙ ap translatedAnswer e
 
   pub room : (c .instructions ≤ length (lent .words)) × (c .rungs ≤ length (lent .labels)) × (c .rungs ≤ length (lent .offsets)) × (c .rungs ≤ length (lent .lengths))
   room = written-room vars k lent (countsIn c) answer-is
@@ -37,12 +35,12 @@ module _ (vars : ℕ) (k : Kept) (lent : Buffers) (r : Translated) (after : Buff
 module _ (vars : ℕ) (k : Kept) (table : List ℕ) (lent : Lent) (n w : ℕ) (r : Translated) (after : Buffers)
     (done : TranslateDone (translateKept vars k (lent .buffers)) r after) where
   refused-answer : (x : RefusalCase) → r ≡ RefusedCase x → translateKept vars k (lent .buffers) .answer ≡ refused (refusalOf x)
-  unfolding translatedOf
-  refused-answer x e = sym (done .answer) ∙ ap translatedOf e
+  unfolding translatedAnswer
+  refused-answer x e = sym (done .answer) ∙ ap translatedAnswer e
 
   pub both-refused : (x : RefusalCase) → r ≡ RefusedCase x
       → BothScansDone (bothScans vars k table lent n w) (BothRefused x) (record { ladderTable = lent .ladderTable; listTable = lent .listTable; buffers = after })
-  unfolding bothScans bothOf
+  unfolding bothScans bothScannedAnswer
   both-refused x e =
       let a = refused-answer x e in
       record {
@@ -55,11 +53,11 @@ module _ (vars : ℕ) (k : Kept) (table : List ℕ) (lent : Lent) (n w : ℕ) (r
     written-answer = answer-is vars k (lent .buffers) r after done c e
 
     pub both-scanned : (t u : List ℕ) → t ≡ copied table (lent .ladderTable) → u ≡ copied table (lent .listTable)
-        → (x : LadderScanned) (t′ : List ℕ) → LadderScanDone (ladderScan vars k t n) x t′
+        → (x : LadderScanned) (t′ : List ℕ) → LadderScanDone (callLadderScan vars k t n) x t′
         → (y : ListScanned) (u′ : List ℕ)
-        → ListScanDone (listScan vars (take (c .instructions) (after .words)) (rowOf (take (c .rungs) (after .labels)) (take (c .rungs) (after .offsets)) (take (c .rungs) (after .lengths))) u w) y u′
+        → ListScanDone (callListScan vars (take (c .instructions) (after .words)) (rowOf (take (c .rungs) (after .labels)) (take (c .rungs) (after .offsets)) (take (c .rungs) (after .lengths))) u w) y u′
         → BothScansDone (bothScans vars k table lent n w) (BothCase x y) (record { ladderTable = t′; listTable = u′; buffers = after })
-    unfolding bothScans scanBoth bothOf writtenWords writtenRecords
+    unfolding bothScans scanBoth bothScannedAnswer writtenWords writtenRecords
     both-scanned t u et eu x t′ dx y u′ dy =
         record {
           answer = rw (written-answer, bothScans, ← (done .same-buffers), ← et, ← eu, ← (dx .answer), ← (dy .answer)) refl;

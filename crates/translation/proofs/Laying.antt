@@ -18,7 +18,7 @@ use Rattle.translation.specs.Translate.{rungCode, listRecords, translate
 use Rattle.translation.specs.Parts.{CodePut, RungPut, LadderReady, LaidOut, startIn}
 use Rattle.translation.specs.Laws.Parts.{same-length}
 use Rattle.translation.specs.Laws.Legal.{sized}
-use Rattle.translation.specs.declared.code.Stands.{Stands}
+use Rattle.translation.specs.declared.code.Positions.{Positions}
 use Rattle.questions.specs.Laws.Stores.{sets-append}
 
 -- ---- one rung more
@@ -148,7 +148,7 @@ module _ (vars : ℕ) (ws ls os : List ℕ) (k put : ℕ) (b : Before vars ws ls
       (few-vars vars ws ls os starts r, m, omega arith)
 
 -- one rung's instructions put, from its offset on
-module _ (vars : ℕ) (ws ls os : List ℕ) (k put : ℕ) (h : k < length os) (at : ℕ) (here : at ≡ getD os k 0) (st : List ℕ) (r : Stands) (e x : List ℕ)
+module _ (vars : ℕ) (ws ls os : List ℕ) (k put : ℕ) (h : k < length os) (at : ℕ) (here : at ≡ getD os k 0) (st : List ℕ) (r : Positions) (e x : List ℕ)
     (p : RungPut vars ws at ls st put r e x) where
   module _ (gs : Ladder) (held : LadderHeld ws ls os gs) where
     abbrev pub rungAt : Rung
@@ -219,7 +219,7 @@ module _ (vars : ℕ) (ws ls os e x none : List ℕ) (k put most : ℕ) (l : Lay
       let d = r .enough in
       (a, omega arith, omega arith)
 
-  pub laying-more : k < length os → (at : ℕ) → at ≡ getD os k 0 → (st : List ℕ) (r : Stands) (a b : List ℕ) → RungPut vars ws at ls st put r a b
+  pub laying-more : k < length os → (at : ℕ) → at ≡ getD os k 0 → (st : List ℕ) (r : Positions) (a b : List ℕ) → RungPut vars ws at ls st put r a b
       → (most′ : ℕ) → most′ ≡ max most (r .put - put) → (none′ : List ℕ) → length none′ ≡ 0 → Laying vars ws ls os e (set x k put) none′ (k + 1) (r .put) most′
   laying-more h at here st r a b p most′ m none′ z = record {
     put-before = before-more vars ws ls os k put h at here st r a b p (l .put-before);

@@ -1,4 +1,5 @@
 -- Laws that the proofs of this crate's functions cite.
+pub mod Sorts
 pub mod Fronts
 pub mod Rears
 pub mod Laying

@@ -6,9 +6,9 @@ use native.Mathlib.Nat.{zero-add}
 use native.Mathlib.Omega.{arith}
 use lib.ListN.{length, getD, take, set, length-map}
 use lib.Seq.{sets, length-sets}
-use Rattle.rungs.specs.Records.{RungRecord, lay, search, startOf}
-use Rattle.rungs.specs.Records.{labels as labelsOf, offsets as offsetsOf}
-use Rattle.rungs.specs.Buffers.{Buffers, asBuffers, putAll}
+use Rattle.rungs.specs.Records.{RungRecord, lay, search, startOf, labels as labelsOf, offsets as offsetsOf}
+use Rattle.rungs.specs.Buffers.{Buffers, asBuffers}
+use Rattle.rungs.specs.Parts.{putAll}
 use Rattle.rungs.specs.Laws.Layout.{sizes, lay-labels, flatMap-snoc}
 use Rattle.drawing.specs.Tree.{Ladder}
 use Rattle.ladder.specs.Held.{LadderHeld}
@@ -17,10 +17,9 @@ use Rattle.list.specs.Instruction.{instrWord}
 use Rattle.translation.specs.Translate.{rungCode, listRecords, translate}
 use Rattle.translation.specs.TranslateKept.{listBuffers}
 use Rattle.translation.specs.Parts.{RungPut, LadderReady, ListPut, startIn}
-use Rattle.translation.specs.declared.code.Stands.{Stands}
+use Rattle.translation.specs.declared.code.Positions.{Positions}
 use Rattle.questions.specs.Laws.Stores.{sets-append}
-use Rattle.translation.proofs.Laying.{sizeOf, firsts, Next, upto-one, stored-label, stored-offset, stored-length, in-ladder, nextOf, few-rungs}
-use Rattle.translation.proofs.Laying.{Before, before-first, few-put, one-put, one-size, before-more, all-taken, all-firsts, code-length}
+use Rattle.translation.proofs.Laying.{sizeOf, firsts, Next, upto-one, stored-label, stored-offset, stored-length, in-ladder, nextOf, few-rungs, Before, before-first, few-put, one-put, one-size, before-more, all-taken, all-firsts, code-length}
 
 -- the words of the list's first k rungs, whose jumps lead where `start` says
 abbrev pub firstWords : ℕ → (ℕ → ℕ) → Ladder → ℕ → List ℕ
@@ -91,7 +90,7 @@ module _ (vars : ℕ) (ws ls os starts : List ℕ) (e x : Buffers) (k put : ℕ)
     lengths = kept-long _ (e .lengths) 0 (map (λ (q : RungRecord). q .length) (firsts vars (r .ladder) k)) (w .lengths (r .ladder) (r .held));
   }
 
-  module _ (h : k < length os) (at : ℕ) (here : at ≡ getD os k 0) (r : Stands) (c : List ℕ) (p : RungPut vars ws at ls starts put r (x .words) c) where
+  module _ (h : k < length os) (at : ℕ) (here : at ≡ getD os k 0) (r : Positions) (c : List ℕ) (p : RungPut vars ws at ls starts put r (x .words) c) where
     after : Before vars ws ls os (k + 1) (r .put)
     after = before-more vars ws ls os k put h at here starts r (x .words) c p (w .put-before)
 

@@ -8,10 +8,8 @@ use Rattle.questions.specs.Questions.{Refusal}
 use Rattle.questions.specs.Refusals.{refusalOf}
 use Rattle.rungs.specs.Buffers.{Buffers, writtenWords, writtenRecords}
 use Rattle.drawing.specs.Kept.{Kept}
-use Rattle.ladder.specs.LadderScan.{ladderScan}
-use Rattle.ladder.specs.LadderScan.{ScanAnswer as LadderAnswer, answerOf as ladderAnswerOf}
-use Rattle.list.specs.ListScan.{listScan}
-use Rattle.list.specs.ListScan.{ScanAnswer as ListAnswer, answerOf as listAnswerOf}
+use Rattle.ladder.specs.LadderScan.{callLadderScan, LadderScanAnswer, ladderScannedAnswer}
+use Rattle.list.specs.ListScan.{callListScan, ListScanAnswer, listScannedAnswer}
 use Rattle.translation.specs.TranslateKept.{Counts, translateKept, translated, refused}
 use Rattle.translation.specs.declared.BothScanned.{BothScanned}
 use Rattle.translation.specs.declared.BothScanned.the-variants.{Scanned as ScannedCase, Refused as RefusedCase}
@@ -31,7 +29,7 @@ lends ladderTable listTable buffers = record { ladderTable = ladderTable; listTa
 
 -- the answers of both scans, or Translate's refusal
 pub data BothAnswer : Type 0 where
-  both : LadderAnswer → ListAnswer → BothAnswer
+  both : LadderScanAnswer → ListScanAnswer → BothAnswer
   refusedAs : Refusal → BothAnswer
 
 pub record BothCall : Type 0 where
@@ -41,8 +39,8 @@ pub record BothCall : Type 0 where
 -- both scans, once Translate has written a list with its counts
 unfoldable pub scanBoth : ℕ → Kept → List ℕ → Lent → ℕ → ℕ → Buffers → Counts → BothCall
 scanBoth vars k table lent n w written counts =
-    let ladder = ladderScan vars k (copied table (lent .ladderTable)) n in
-    let list = listScan vars (writtenWords written (counts .instructions)) (writtenRecords written (counts .rungs)) (copied table (lent .listTable)) w in
+    let ladder = callLadderScan vars k (copied table (lent .ladderTable)) n in
+    let list = callListScan vars (writtenWords written (counts .instructions)) (writtenRecords written (counts .rungs)) (copied table (lent .listTable)) w in
     record { answer = both (ladder .answer) (list .answer); lent = record { ladderTable = ladder .table; listTable = list .table; buffers = written } }
 
 -- Translate, then Ladder scan under the rung watchdog n and List scan under the instruction watchdog w. A refusal of Translate leaves all that was lent.
@@ -55,11 +53,11 @@ bothScans vars k table lent n w =
     ]
 
 -- the values of each case of the enum BothScanned
-unfoldable pub answerOf : BothScanned → BothAnswer
-answerOf (ScannedCase ladder list) = both (ladderAnswerOf ladder) (listAnswerOf list)
-answerOf (RefusedCase refusal) = refusedAs (refusalOf refusal)
+unfoldable pub bothScannedAnswer : BothScanned → BothAnswer
+bothScannedAnswer (ScannedCase ladder list) = both (ladderScannedAnswer ladder) (listScannedAnswer list)
+bothScannedAnswer (RefusedCase refusal) = refusedAs (refusalOf refusal)
 
 -- the promise of both_scans: answer, tables and buffers are those of the definition
 pub record BothScansDone (call : BothCall) (r : BothScanned) (lent : Lent) : Type 0 where
-  pub answer : answerOf r ≡ call .answer
+  pub answer : bothScannedAnswer r ≡ call .answer
   pub same-lent : lent ≡ call .lent

@@ -3,6 +3,7 @@ pub mod Exec
 pub mod Places
 pub mod Parts
 pub mod Scans
+pub mod Operands
 pub mod Lists
 pub mod Legal
 pub mod Exact

@@ -4,24 +4,20 @@
 use Prim.Native.Nat.{ℕ, _*_, _≤_}
 use mathlib.Core.Path.{_≡_}
 use mathlib.Core.Bool.{Bool}
-use mathlib.Core.Option.{none}
 use mathlib.Core.List.{List, [], _∷_, map}
-use lib.ListN.{take}
-use Rattle.questions.specs.Questions.{question12, mostInstructionWatchdog}
-use Rattle.table.specs.State.{writtenAt}
+use Rattle.questions.specs.Questions.{yes, question12, mostInstructionWatchdog}
+use Rattle.table.specs.State.{stateOf, writtenAt, SameButScratch}
 use Rattle.table.specs.Halt.{Ended}
 use Rattle.table.specs.Questions.{question11}
 use Rattle.rungs.specs.Records.{longest}
 use Rattle.drawing.specs.Kept.{Kept}
 use Rattle.drawing.specs.Questions.{ladderOf, ladderAnswer}
-use Rattle.ladder.specs.LadderScan.{ladderScan}
-use Rattle.ladder.specs.LadderScan.{ScanCall as LadderScanCall, scanned as ladderScanned}
+use Rattle.ladder.specs.LadderScan.{LadderCounts, LadderScanCall, callLadderScan, scanned as ladderScanned}
 use Rattle.list.specs.Instruction.{instrWord}
 use Rattle.list.specs.Machine.{InstructionList}
-use Rattle.list.specs.ListScan.{listScan}
-use Rattle.list.specs.ListScan.{ScanCall as ListScanCall}
+use Rattle.list.specs.ListScan.{ListScanCall, callListScan}
 use Rattle.translation.specs.Translate.{translate}
-use Rattle.translation.specs.Calls.{EndedCalls}
+use Rattle.translation.specs.Demand3.{EndedAlike}
 
 -- a variable, and the value, 0 or 1, that the input phase gives it; that it is below V need not be asked
 pub record InputValue : Type 0 where
@@ -39,28 +35,28 @@ pub record Scan : Type 0 where
   pub rungWatchdog : ℕ
   pub instructionWatchdog : ℕ
 
-module _ (vars : ℕ) (k : Kept) where
+module _ (vars : ℕ) (kept : Kept) where
   -- the ladder's list, and L
   abbrev pub listFor : InstructionList
-  listFor = translate vars (ladderOf k)
+  listFor = translate vars (ladderOf kept)
 
   abbrev pub longestFor : ℕ
   longestFor = longest (listFor .records)
 
   -- the input phase and the ladder scan, on the ladder's table
   unfoldable pub ladderWith : Scan → List ℕ → LadderScanCall
-  ladderWith scan table = ladderScan vars k (inputPhase (scan .inputs) table) (scan .rungWatchdog)
+  ladderWith scan table = callLadderScan vars kept (inputPhase (scan .inputs) table) (scan .rungWatchdog)
 
   -- the input phase and the list scan, on the list's table
   unfoldable pub listWith : Scan → List ℕ → ListScanCall
-  listWith scan table = listScan vars (map instrWord (listFor .code)) (listFor .records) (inputPhase (scan .inputs) table) (scan .instructionWatchdog)
+  listWith scan table = callListScan vars (map instrWord (listFor .code)) (listFor .records) (inputPhase (scan .inputs) table) (scan .instructionWatchdog)
 
   -- The ladder scan answers Ended with k rungs entered, and w is a legal instruction watchdog of k × L or more.
   pub record LadderEnds (scan : Scan) (ladder : LadderScanCall) : Type 0 where
-    pub rungs : ℕ
-    pub ended : ladder .answer ≡ ladderScanned Ended rungs
-    pub watchdog : question12 mostInstructionWatchdog (scan .instructionWatchdog) ≡ none
-    pub enough : rungs * longestFor ≤ scan .instructionWatchdog
+    pub counts : LadderCounts
+    pub ended : ladder .answer ≡ ladderScanned Ended counts
+    pub watchdog : question12 mostInstructionWatchdog (scan .instructionWatchdog) ≡ yes
+    pub enough : counts .rungs * longestFor ≤ scan .instructionWatchdog
 
   -- Every ladder scan does so, from the table t on; each begins on the table that the one before it left.
   unfoldable pub LaddersEnd : List Scan → List ℕ → Type 0
@@ -69,18 +65,17 @@ module _ (vars : ℕ) (k : Kept) where
 
   -- an accepted ladder; two legal tables, t for the ladder and u for its list, with the same V variables, while scratch may differ; and ladder scans that end
   pub record ManyGiven (scans : List Scan) (t u : List ℕ) : Type 0 where
-    pub accepted : ladderAnswer vars k ≡ none
-    pub ladder-legal : question11 (record { vars = vars; bytes = t }) ≡ none
-    pub list-legal : question11 (record { vars = vars; bytes = u }) ≡ none
-    pub same-variables : take vars t ≡ take vars u
+    pub accepted : ladderAnswer vars kept ≡ yes
+    pub ladder-legal : question11 (stateOf vars t) ≡ yes
+    pub list-legal : question11 (stateOf vars u) ≡ yes
+    pub same : SameButScratch (stateOf vars t) (stateOf vars u)
     pub ladders-end : LaddersEnd scans t
 
-  -- Both scans answer Ended with the same k rungs entered; then the V variables are equal in the two tables, and the list scan carried out at least 2 × k and
-  -- at most k × L instructions.
+  -- The ladder scan answers Ended with k rungs entered, and the list scan ends alike: demand 3's ended half.
   pub record BothEnd (ladder : LadderScanCall) (list : ListScanCall) : Type 0 where
-    pub rungs : ℕ
-    pub ladder-ended : ladder .answer ≡ ladderScanned Ended rungs
-    pub list-ended : EndedCalls vars rungs longestFor ladder list
+    pub counts : LadderCounts
+    pub ladder-ended : ladder .answer ≡ ladderScanned Ended counts
+    pub list-ended : EndedAlike 2 longestFor (counts .rungs) (stateOf vars (ladder .table)) (list .answer) (stateOf vars (list .table))
 
   -- Both scans do so every time, from the tables t and u on.
   unfoldable pub ManyAgree : List Scan → List ℕ → List ℕ → Type 0

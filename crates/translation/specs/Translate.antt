@@ -1,5 +1,5 @@
 -- A ladder's list. Document 01, "Translation". Assumes nothing.
-use Prim.Native.Nat.{ℕ, _+_}
+use Prim.Native.Nat.{ℕ, _+_, _*_}
 use mathlib.Core.List.{List, [], _∷_, _++_, flatMap}
 use lib.ListN.{length}
 use Rattle.table.specs.State.{scratchIndex}
@@ -47,3 +47,7 @@ listRecords vars gs = lay (λ g. g .label) (λ g. length (rungCode vars (λ l. 0
 -- "In demand 3 a ladder's list is what Translate writes for it, records included."
 unfoldable pub translate : ℕ → Ladder → InstructionList
 translate vars gs = record { code = flatMap (rungCode vars (startOf (listRecords vars gs))) gs; records = listRecords vars gs }
+
+-- two instructions a word: a part's code has at most so many instructions for its words (Theorems, few-instructions)
+abbrev pub codeBound : ℕ → ℕ
+codeBound words = 2 * words

@@ -2,14 +2,14 @@
 use Prim.Native.Nat.{ℕ}
 use mathlib.Core.Path.{_≡_}
 use mathlib.Core.Option.{none, some}
-use mathlib.Core.List.{[], _∷_, map}
+use mathlib.Core.List.{[], _∷_, _++_, map}
 use lib.ListN.{length}
-use Rattle.questions.specs.Questions.{Refusal, firstNo, question13}
+use Rattle.questions.specs.Questions.{Refusal, firstNo, question1, question13}
 use Rattle.questions.specs.Refusals.{refusalOf}
 use Rattle.rungs.specs.Records.{longest}
 use Rattle.rungs.specs.Buffers.{Buffers, asBuffers, needs, writtenOver}
 use Rattle.drawing.specs.Kept.{Kept}
-use Rattle.drawing.specs.Questions.{ladderOf, ladderAnswer}
+use Rattle.drawing.specs.Questions.{ladderOf, ladderQuestions}
 use Rattle.list.specs.Instruction.{instrWord}
 use Rattle.list.specs.Machine.{InstructionList}
 use Rattle.translation.specs.Translate.{translate}
@@ -43,7 +43,7 @@ unfoldable pub translateKept : ℕ → Kept → Buffers → TranslateCall
 translateKept vars k lent =
     let list = translate vars (ladderOf k) in
     let new = listBuffers list in
-    elim (firstNo (ladderAnswer vars k ∷ question13 (needs new lent) ∷ [])) [
+    elim (firstNo (question1 vars ∷ ladderQuestions vars k ++ question13 (needs new lent) ∷ [])) [
       | some refusal ↦ record { answer = refused refusal; buffers = lent }
       | none ↦ record { answer = translated (countsOf list); buffers = writtenOver new lent }
     ]
@@ -53,11 +53,11 @@ abbrev pub countsIn : CountsStruct → Counts
 countsIn c = record { instructions = c .instructions; rungs = c .rungs; longest = c .longest }
 
 -- document 01's values for each case of the enum Translated
-unfoldable pub answerOf : Translated → TranslateAnswer
-answerOf (WrittenCase c) = translated (countsIn c)
-answerOf (RefusedCase refusal) = refused (refusalOf refusal)
+unfoldable pub translatedAnswer : Translated → TranslateAnswer
+translatedAnswer (WrittenCase c) = translated (countsIn c)
+translatedAnswer (RefusedCase refusal) = refused (refusalOf refusal)
 
 -- the promise of translate: answer and buffers are those of the definition
 pub record TranslateDone (call : TranslateCall) (r : Translated) (lent : Buffers) : Type 0 where
-  pub answer : answerOf r ≡ call .answer
+  pub answer : translatedAnswer r ≡ call .answer
   pub same-buffers : lent ≡ call .buffers

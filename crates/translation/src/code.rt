@@ -2,49 +2,37 @@
 // puts its part's instructions into a buffer from `put` on; past the buffer's end nothing is written, so that the same functions
 // count, over a buffer of none. `depth` numbers the next free scratch byte.
 ghost use mathlib.Core.Path.{_≡_};
-ghost use Prim.Native.Nat.{_+_, _-_, _*_, _≤_, _<_, _^_};
+ghost use Prim.Native.Nat.{_+_, _-_, _≤_, _<_, _^_};
 ghost use lib.ListN.{length, set};
-ghost use Rattle.rungs.specs.Words.{word};
+ghost use Rattle.questions.specs.Questions.{mostVariables};
+ghost use Rattle.rungs.specs.Words.{operands, word};
+ghost use Rattle.drawing.specs.Questions.{mostWords};
+ghost use Rattle.translation.specs.Translate.{codeBound};
 ghost use Rattle.translation.specs.Parts.{OnePut, FrontPut, JoinPut, RearPut, RungPut, startIn};
-
-// The ops that F and R write.
-const LD: u32 = 1;
-
-const LDN: u32 = 2;
-
-const ST: u32 = 3;
-
-const STN: u32 = 4;
-
-const AND: u32 = 5;
-
-const OR: u32 = 7;
-
-const JMPC: u32 = 13;
-
-const JMPCN: u32 = 14;
+use list::ops;
+use rungs::OPERANDS;
 
 // The position after a part's words, and after its instructions.
-pub struct Stands {
+pub struct Positions {
     pub next: usize,
     pub put: usize,
 }
 
 // One instruction.
 fn put_instruction(code: &mut [u32], put: usize, op: u32, operand: u32)
-    requires { ⌜ (op ≤ 14) × (operand < 65536) ⌝ }
+    requires { ⌜ (op < operands) × (operand < operands) ⌝ }
     ensures { λ _. ⌜ now (code .exit) ≡ set (now (code .entry)) put (word op operand) ⌝ }
 {
-    rungs::put_word(code, put, op * 65536 + operand);
+    rungs::put_word(code, put, op * OPERANDS + operand);
 }
 
 // One instruction for the word at a position.
-fn put_one(code: &mut [u32], put: usize, at: usize, op: u32, operand: u32) -> Stands
-    requires { ⌜ (op ≤ 14) × (operand < 65536) × (at < 2 ^ 32) × (put < 2 ^ 32) ⌝ }
+fn put_one(code: &mut [u32], put: usize, at: usize, op: u32, operand: u32) -> Positions
+    requires { ⌜ (op < operands) × (operand < operands) × (at < 2 ^ 32) × (put < 2 ^ 32) ⌝ }
     ensures { λ r. ⌜ OnePut at put op operand r (now (code .entry)) (now (code .exit)) ⌝ }
 {
     put_instruction(code, put, op, operand);
-    Stands {
+    Positions {
         next: at + 1,
         put: put + 1,
     }
@@ -58,24 +46,24 @@ pub fn front_code(
     depth: u32,
     code: &mut [u32],
     put: usize,
-) -> Stands
-    requires { ⌜ (vars ≤ 1024) × (length (now words) ≤ 8192) × (depth + (length (now words) - at) ≤ 8192)
-        × (put + 2 * (length (now words) - at) < 2 ^ 31) ⌝ }
+) -> Positions
+    requires { ⌜ (vars ≤ mostVariables) × (length (now words) ≤ mostWords) × (depth + (length (now words) - at) ≤ mostWords)
+        × (put + codeBound (length (now words) - at) < 2 ^ 31) ⌝ }
     ensures { λ r. ⌜ FrontPut vars (now (words .entry)) at depth put r (now (code .entry)) (now (code .exit)) ⌝ }
 {
     let word = rungs::word_at(words, at);
-    match word / 65536 {
-        1 => put_one(code, put, at, LD, word % 65536),
-        2 => put_one(code, put, at, LDN, word % 65536),
-        3 => {
+    match word / OPERANDS {
+        kinds::CONTACT => put_one(code, put, at, ops::LD, word % OPERANDS),
+        kinds::NEGATED_CONTACT => put_one(code, put, at, ops::LDN, word % OPERANDS),
+        kinds::FRONT_AND => {
             let first = front_code(vars, words, at + 1, depth, code, put);
-            join_code(vars, words, first.next, AND, depth, code, first.put)
+            join_code(vars, words, first.next, ops::AND, depth, code, first.put)
         }
-        4 => {
+        kinds::FRONT_OR => {
             let first = front_code(vars, words, at + 1, depth, code, put);
-            join_code(vars, words, first.next, OR, depth, code, first.put)
+            join_code(vars, words, first.next, ops::OR, depth, code, first.put)
         }
-        _ => Stands { next: at, put },
+        _ => Positions { next: at, put },
     }
 }
 
@@ -89,20 +77,20 @@ pub fn join_code(
     depth: u32,
     code: &mut [u32],
     put: usize,
-) -> Stands
-    requires { ⌜ (vars ≤ 1024) × (length (now words) ≤ 8192) × (depth + 1 + (length (now words) - at) ≤ 8192) × (op ≤ 7)
-        × (put + 2 * (length (now words) - at) + 2 < 2 ^ 31) ⌝ }
+) -> Positions
+    requires { ⌜ (vars ≤ mostVariables) × (length (now words) ≤ mostWords) × (depth + 1 + (length (now words) - at) ≤ mostWords)
+        × (op + 1 < operands) × (put + codeBound (length (now words) - at) + 2 < 2 ^ 31) ⌝ }
     ensures { λ r. ⌜ JoinPut vars (now (words .entry)) at op depth put r (now (code .entry)) (now (code .exit)) ⌝ }
 {
     let word = rungs::word_at(words, at);
-    match word / 65536 {
-        1 => put_one(code, put, at, op, word % 65536),
-        2 => put_one(code, put, at, op + 1, word % 65536),
+    match word / OPERANDS {
+        kinds::CONTACT => put_one(code, put, at, op, word % OPERANDS),
+        kinds::NEGATED_CONTACT => put_one(code, put, at, op + 1, word % OPERANDS),
         _ => {
-            put_instruction(code, put, ST, vars + depth);
+            put_instruction(code, put, ops::ST, vars + depth);
             let inner = front_code(vars, words, at, depth + 1, code, put + 1);
             put_instruction(code, inner.put, op, vars + depth);
-            Stands {
+            Positions {
                 next: inner.next,
                 put: inner.put + 1,
             }
@@ -112,7 +100,7 @@ pub fn join_code(
 
 // Where the rung with a label begins in the list.
 fn start_of(labels: &[u16], starts: &[u16], label: u32) -> u32
-    ensures { λ r. ⌜ (r ≡ startIn (now (labels .entry)) (now (starts .entry)) label) × (r < 65536) ⌝ }
+    ensures { λ r. ⌜ (r ≡ startIn (now (labels .entry)) (now (starts .entry)) label) × (r < operands) ⌝ }
 {
     let rung = rungs::search_label(labels, label);
     if rung < starts.len() {
@@ -132,20 +120,32 @@ pub fn rear_code(
     starts: &[u16],
     code: &mut [u32],
     put: usize,
-) -> Stands
-    requires { ⌜ (vars ≤ 1024) × (length (now words) ≤ 8192) × (depth + (length (now words) - at) ≤ 8192)
-        × (put + 2 * (length (now words) - at) < 2 ^ 31) ⌝ }
+) -> Positions
+    requires { ⌜ (vars ≤ mostVariables) × (length (now words) ≤ mostWords) × (depth + (length (now words) - at) ≤ mostWords)
+        × (put + codeBound (length (now words) - at) < 2 ^ 31) ⌝ }
     ensures { λ r. ⌜ RearPut vars (now (words .entry)) at depth (now (labels .entry)) (now (starts .entry)) put r
         (now (code .entry)) (now (code .exit)) ⌝ }
 {
     let word = rungs::word_at(words, at);
-    match word / 65536 {
-        5 => put_one(code, put, at, ST, word % 65536),
-        6 => put_one(code, put, at, STN, word % 65536),
-        7 => put_one(code, put, at, JMPC, start_of(labels, starts, word % 65536)),
-        8 => put_one(code, put, at, JMPCN, start_of(labels, starts, word % 65536)),
-        9 => {
-            let joined = join_code(vars, words, at + 1, AND, depth, code, put);
+    match word / OPERANDS {
+        kinds::COIL => put_one(code, put, at, ops::ST, word % OPERANDS),
+        kinds::NEGATED_COIL => put_one(code, put, at, ops::STN, word % OPERANDS),
+        kinds::JUMP => put_one(
+            code,
+            put,
+            at,
+            ops::JMPC,
+            start_of(labels, starts, word % OPERANDS),
+        ),
+        kinds::NEGATED_JUMP => put_one(
+            code,
+            put,
+            at,
+            ops::JMPCN,
+            start_of(labels, starts, word % OPERANDS),
+        ),
+        kinds::REAR_AND => {
+            let joined = join_code(vars, words, at + 1, ops::AND, depth, code, put);
             rear_code(
                 vars,
                 words,
@@ -157,8 +157,8 @@ pub fn rear_code(
                 joined.put,
             )
         }
-        10 => {
-            put_instruction(code, put, ST, vars + depth);
+        kinds::REAR_OR => {
+            put_instruction(code, put, ops::ST, vars + depth);
             let first = rear_code(
                 vars,
                 words,
@@ -169,7 +169,7 @@ pub fn rear_code(
                 code,
                 put + 1,
             );
-            put_instruction(code, first.put, LD, vars + depth);
+            put_instruction(code, first.put, ops::LD, vars + depth);
             rear_code(
                 vars,
                 words,
@@ -181,7 +181,7 @@ pub fn rear_code(
                 first.put + 1,
             )
         }
-        _ => Stands { next: at, put },
+        _ => Positions { next: at, put },
     }
 }
 
@@ -194,8 +194,8 @@ pub fn rung_code(
     starts: &[u16],
     code: &mut [u32],
     put: usize,
-) -> Stands
-    requires { ⌜ (vars ≤ 1024) × (length (now words) ≤ 8192) × (put + 2 * (length (now words) - at) < 2 ^ 31) ⌝ }
+) -> Positions
+    requires { ⌜ (vars ≤ mostVariables) × (length (now words) ≤ mostWords) × (put + codeBound (length (now words) - at) < 2 ^ 31) ⌝ }
     ensures { λ r. ⌜ RungPut vars (now (words .entry)) at (now (labels .entry)) (now (starts .entry)) put r
         (now (code .entry)) (now (code .exit)) ⌝ }
 {

@@ -8,12 +8,10 @@ use ladder::LadderScanned;
 use list::ListScanned;
 use questions::Refusal;
 use questions::Verdict;
+use rungs::MOST_RECORDS;
 
 mod code;
 mod write;
-
-// At most 256 rungs.
-const MOST_RUNGS: usize = 256;
 
 // The instructions and rungs of a list, and L, the length of its longest rung.
 pub struct Counts {
@@ -57,7 +55,7 @@ pub fn translate(
         }
         Verdict::Accepted => {}
     }
-    let mut starts = [0u16; MOST_RUNGS];
+    let mut starts = [0u16; MOST_RECORDS];
     let layout = write::lay_out(vars, words, labels, offsets, &mut starts);
     let rungs = offsets.len();
     if code.len() < layout.instructions {

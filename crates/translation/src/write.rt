@@ -28,9 +28,9 @@ pub fn lay_out(
     while rung < offsets.len() {
         starts[rung] = instructions as u16;
         let at = offsets[rung] as usize;
-        let stands = code::rung_code(vars, words, at, labels, starts, &mut none, instructions);
-        longest = rungs::larger(longest, stands.put - instructions);
-        instructions = stands.put;
+        let after = code::rung_code(vars, words, at, labels, starts, &mut none, instructions);
+        longest = rungs::larger(longest, after.put - instructions);
+        instructions = after.put;
         rung += 1;
     }
     Layout {
@@ -60,11 +60,11 @@ pub fn write_list(
     let mut rung: usize = 0;
     while rung < offsets.len() {
         let at = offsets[rung] as usize;
-        let stands = code::rung_code(vars, words, at, labels, starts, code, put);
+        let after = code::rung_code(vars, words, at, labels, starts, code, put);
         rungs::put_label(code_labels, rung, labels[rung]);
         rungs::put_word(code_offsets, rung, put as u32);
-        rungs::put_word(code_lengths, rung, (stands.put - put) as u32);
-        put = stands.put;
+        rungs::put_word(code_lengths, rung, (after.put - put) as u32);
+        put = after.put;
         rung += 1;
     }
 }

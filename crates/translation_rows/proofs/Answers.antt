@@ -12,10 +12,10 @@ use Rattle.questions.specs.Questions.{Answer, Refusal, firstNo, question13}
 use Rattle.questions.specs.Laws.Answers.{ask-passed}
 use Rattle.questions.specs.Refusals.{refusalOf}
 use Rattle.questions.specs.declared.Refusal.{Refusal as RefusalCase}
-use Rattle.rungs.specs.Records.{RungRecord, rowOf}
+use Rattle.rungs.specs.Records.{RungRecord, rowOf, mostRecords}
 use Rattle.rungs.specs.Buffers.{Buffers, buffers, asBuffers, needs}
 use Rattle.rungs.specs.Laws.Layout.{lay-length}
-use Rattle.rows.specs.Rows.{mostRungs, gathered, scattered}
+use Rattle.rows.specs.Parts.{gathered, scattered}
 use Rattle.rows.specs.Laws.Gathered.{gathered-whole}
 use Rattle.rows.specs.Laws.Written.{same-asked, few-written, within-written, fields, same-refused, same-written, scattered-none}
 use Rattle.rows.specs.declared.Rows.{Rows}
@@ -25,8 +25,7 @@ use Rattle.drawing.specs.Laws.Accepting.{accepted}
 use Rattle.list.specs.Instruction.{instrWord}
 use Rattle.list.specs.Machine.{InstructionList}
 use Rattle.translation.specs.Translate.{listRecords, translate}
-use Rattle.translation.specs.TranslateKept.{countsOf, listBuffers, translated, translateKept, countsIn, TranslateDone}
-use Rattle.translation.specs.TranslateKept.{answerOf as translatedOf}
+use Rattle.translation.specs.TranslateKept.{countsOf, listBuffers, translated, translateKept, countsIn, TranslateDone, translatedAnswer}
 use Rattle.translation.specs.Laws.Answers.{not-both, asked, call-refused, call-written, all-yes, counts-are}
 use Rattle.translation.specs.declared.Counts.{Counts as CountsStruct}
 use Rattle.translation.specs.declared.Translated.{Translated}
@@ -48,15 +47,15 @@ module _ (vars : ℕ) (k : Kept) where
   unfolding translate listRecords
   rungs-laid = lay-length _ _ 0 (ladderOf k)
 
-  pub few-rungs : ladderAnswer vars k ≡ none → length ks ≤ mostRungs
+  pub few-rungs : ladderAnswer vars k ≡ none → length ks ≤ mostRecords
   unfolding question5 sizesInRange
   few-rungs e =
       let n = rungs-laid in
-      let l = leb→le (length (ladderOf k)) mostRungs (and-yes (leb (length (ladderOf k)) mostRungs) _ (ask-passed 5 _ (accepted vars k e .1 .sizes)) .0) in
+      let l = leb→le (length (ladderOf k)) mostRecords (and-yes (leb (length (ladderOf k)) mostRecords) _ (ask-passed 5 _ (accepted vars k e .1 .sizes)) .0) in
       omega arith
 
   -- Translate, done on a copy of as many fields as a row of `lent` records has room for
-  module _ (words : List ℕ) (lent : ℕ) (zl zo zn : List ℕ) (el : length zl ≡ min mostRungs lent) (eo : length zo ≡ min mostRungs lent) (en : length zn ≡ min mostRungs lent)
+  module _ (words : List ℕ) (lent : ℕ) (zl zo zn : List ℕ) (el : length zl ≡ min mostRecords lent) (eo : length zo ≡ min mostRecords lent) (en : length zn ≡ min mostRecords lent)
       (r : Translated) (words′ ls os ns : List ℕ) (done : TranslateDone (translateKept vars k (buffers words zl zo zn)) r (buffers words′ ls os ns)) (rest : List ℕ) where
     abbrev lends : Buffers
     lends = buffers words zl zo zn
@@ -66,7 +65,7 @@ module _ (vars : ℕ) (k : Kept) where
 
     pub record RowDone (answer : Translated) (m : ℕ) : Type 0 where
       pub same : (rs : List RungRecord) → length rs ≡ lent → TranslateDone (translateKept vars k (asBuffers words rs)) answer (asBuffers words′ (scattered m (fieldsWritten m) rs))
-      pub few : m ≤ mostRungs
+      pub few : m ≤ mostRecords
       pub within : m ≤ lent
 
     still-asked : (rs : List RungRecord) → length rs ≡ lent → asked vars k lends ≡ asked vars k (asBuffers words rs)
@@ -74,7 +73,7 @@ module _ (vars : ℕ) (k : Kept) where
 
     module _ (x : RefusalCase) (is : r ≡ RefusedCase x) where
       refused-done : (rs : List RungRecord) → length rs ≡ lent → TranslateDone (translateKept vars k (asBuffers words rs)) r (asBuffers words′ (scattered 0 (fieldsWritten 0) rs))
-      unfolding translatedOf
+      unfolding translatedAnswer
       refused-done rs e = go (asked vars k lends) refl
         where
           go : (a : Answer) → asked vars k lends ≡ a → TranslateDone (translateKept vars k (asBuffers words rs)) r (asBuffers words′ (scattered 0 (fieldsWritten 0) rs))
@@ -86,15 +85,15 @@ module _ (vars : ℕ) (k : Kept) where
                 same-buffers = same-refused (ladderAnswer vars k) nw ks few-rungs words lent zl zo zn el eo en words′ ls os ns rest (done .same-buffers ∙ ap (λ c. c .buffers) small) rs
                     ∙ sym (ap (λ c. c .buffers) whole);
               }
-          go none q = absurd (not-both _ (refusalOf x) (sym (ap (λ c. c .answer) (call-written vars k lends q)) ∙ sym (done .answer) ∙ ap translatedOf is))
+          go none q = absurd (not-both _ (refusalOf x) (sym (ap (λ c. c .answer) (call-written vars k lends q)) ∙ sym (done .answer) ∙ ap translatedAnswer is))
 
       pub row-refused : RowDone r 0
       row-refused = record { same = refused-done; few = omega arith; within = omega arith }
 
     module _ (c : CountsStruct) (is : r ≡ WrittenCase c) (same-l : length ls ≡ length zl) (same-o : length os ≡ length zo) (same-n : length ns ≡ length zn) where
       answer-is : translateKept vars k lends .answer ≡ translated (countsIn c)
-      unfolding translatedOf
-      answer-is = sym (done .answer) ∙ ap translatedOf is
+      unfolding translatedAnswer
+      answer-is = sym (done .answer) ∙ ap translatedAnswer is
 
       was-written : asked vars k lends ≡ none
       was-written = all-yes vars k lends (countsIn c) answer-is
@@ -108,7 +107,7 @@ module _ (vars : ℕ) (k : Kept) where
           let small = call-written vars k lends was-written in
           let whole = call-written vars k (asBuffers words rs) (sym (still-asked rs e) ∙ was-written) in
           record {
-            answer = ap translatedOf (sym is) ∙ done .answer ∙ ap (λ c. c .answer) small ∙ sym (ap (λ c. c .answer) whole);
+            answer = ap translatedAnswer (sym is) ∙ done .answer ∙ ap (λ c. c .answer) small ∙ sym (ap (λ c. c .answer) whole);
             same-buffers = same-written (ladderAnswer vars k) nw ks few-rungs words lent zl zo zn el eo en words′ ls os ns rest (done .same-buffers ∙ ap (λ c. c .buffers) small) same-l same-o same-n rs
                 ∙ sym (ap (λ c. c .buffers) whole);
           }
@@ -126,7 +125,7 @@ rows-n : (ks : List RungRecord) → gathered ks .n ≡ length ks
 unfolding gathered
 rows-n ks = refl
 
-rows-kept : (ks : List RungRecord) → length ks ≤ mostRungs → gathered ks .n ≡ gathered ks .kept
+rows-kept : (ks : List RungRecord) → length ks ≤ mostRecords → gathered ks .n ≡ gathered ks .kept
 unfolding gathered
 rows-kept ks h = omega arith
 
@@ -136,8 +135,8 @@ first-no a b r e = rw (e, firstNo)
 
 module _ (vars : ℕ) (ws : List ℕ) (rows : Rows) (long : Bool) (code : List ℕ) (lent : ℕ) where
   -- more records than are copied
-  pub long-refused : mostRungs < rows .n → (x : RefusalCase) → LongRefused vars long x → FieldsTranslated vars ws rows long code lent (refusedFields x rows) code
-  unfolding refusedFields translatedOf
+  pub long-refused : mostRecords < rows .n → (x : RefusalCase) → LongRefused vars long x → FieldsTranslated vars ws rows long code lent (refusedFields x rows) code
+  unfolding refusedFields translatedAnswer
   long-refused h x refused-by = record {
     same = λ ks e held rs n.
         let a = refused-by .same ws ks (rw (← rows-n ks, ← e) h) held in
@@ -149,7 +148,7 @@ module _ (vars : ℕ) (ws : List ℕ) (rows : Rows) (long : Bool) (code : List �
   }
 
   -- all of them are copied
-  module _ (h : rows .n ≤ mostRungs) (zl zo zn : List ℕ) (el : length zl ≡ min mostRungs lent) (eo : length zo ≡ min mostRungs lent) (en : length zn ≡ min mostRungs lent)
+  module _ (h : rows .n ≤ mostRecords) (zl zo zn : List ℕ) (el : length zl ≡ min mostRecords lent) (eo : length zo ≡ min mostRecords lent) (en : length zn ≡ min mostRecords lent)
       (r : Translated) (code′ ls os ns rest : List ℕ)
       (done : TranslateDone (translateKept vars (record { words = ws; records = rowOf (take (rows .n) (rows .labels)) (take (rows .n) (rows .offsets)) (take (rows .n) (rows .lengths)) }) (buffers code zl zo zn)) r (buffers code′ ls os ns)) where
     abbrev copied : List RungRecord
@@ -158,7 +157,7 @@ module _ (vars : ℕ) (ws : List ℕ) (rows : Rows) (long : Bool) (code : List �
     copied-row : (ks : List RungRecord) → rows ≡ gathered ks → copied ≡ ks
     copied-row ks e = (λ i. rowOf (take (n-is i) (e i .labels)) (take (n-is i) (e i .offsets)) (take (n-is i) (e i .lengths))) ∙ gathered-whole ks few
       where
-        few : length ks ≤ mostRungs
+        few : length ks ≤ mostRecords
         few = rw (← rows-n ks, ← e) h
 
         n-is : rows .n ≡ gathered ks .kept

@@ -5,9 +5,9 @@ use mathlib.Core.Bool.{Bool}
 use mathlib.Core.List.{List}
 use lib.ListN.{length}
 use Rattle.questions.specs.declared.Refusal.{Refusal}
-use Rattle.rungs.specs.Records.{RungRecord}
+use Rattle.rungs.specs.Records.{RungRecord, mostRecords}
 use Rattle.rungs.specs.Buffers.{asBuffers}
-use Rattle.rows.specs.Rows.{mostRungs, gathered, scattered}
+use Rattle.rows.specs.Parts.{gathered, scattered}
 use Rattle.rows.specs.declared.Rows.{Rows}
 use Rattle.translation.specs.TranslateKept.{translateKept, TranslateDone}
 use Rattle.translation.specs.declared.Translated.the-variants.{Refused as RefusedCase}
@@ -24,5 +24,5 @@ refusedFields x rows = record {
 pub record FieldsTranslated (vars : ℕ) (ws : List ℕ) (rows : Rows) (long : Bool) (code : List ℕ) (lent : ℕ) (r : TranslatedFields) (after : List ℕ) : Type 0 where
   pub same : (ks : List RungRecord) → rows ≡ gathered ks → long ≡ longHolds ws ks → (rs : List RungRecord) → length rs ≡ lent
       → TranslateDone (translateKept vars (record { words = ws; records = ks }) (asBuffers code rs)) (r .answer) (asBuffers after (scattered (r .rows .kept) (r .rows) rs))
-  pub few : r .rows .kept ≤ mostRungs
+  pub few : r .rows .kept ≤ mostRecords
   pub within : r .rows .kept ≤ lent

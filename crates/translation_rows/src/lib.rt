@@ -8,10 +8,8 @@ ghost use Rattle.translation_rows.specs.Parts.{refusedFields, FieldsTran
 use questions::Refusal;
 use rows::Rows;
 use rows::Rung;
+use rungs::MOST_RECORDS;
 use translation::Translated;
-
-// At most 256 rungs.
-const MOST_RUNGS: usize = 256;
 
 // What Translate answers, and the fields of the records that it writes: as many as `rows` keeps.
 pub struct TranslatedFields {
@@ -42,16 +40,16 @@ fn translate_fields(
 ) -> TranslatedFields
     ensures { λ r. ⌜ FieldsTranslated vars (now (words .entry)) rows long (now (code .entry)) lent r (now (code .exit)) ⌝ }
 {
-    if MOST_RUNGS < rows.n {
+    if MOST_RECORDS < rows.n {
         return refused(ladder_rows::long_refusal(vars, long), rows);
     }
     let labels = rows.labels;
     let offsets = rows.offsets;
     let lengths = rows.lengths;
     let m = rows.n;
-    let mut code_labels = [0u16; MOST_RUNGS];
-    let mut code_offsets = [0u32; MOST_RUNGS];
-    let mut code_lengths = [0u32; MOST_RUNGS];
+    let mut code_labels = [0u16; MOST_RECORDS];
+    let mut code_offsets = [0u32; MOST_RECORDS];
+    let mut code_lengths = [0u32; MOST_RECORDS];
     let room = rows::room(lent);
     let answer = translation::translate(
         vars,

@@ -3,15 +3,15 @@ use Prim.Native.Nat.{ℕ, _≤_}
 use native.Mathlib.Omega.{arith}
 use mathlib.Core.Path.{_≡_, refl}
 use mathlib.Core.Option.{Option, none, some}
-use mathlib.Core.List.{[]}
+use mathlib.Core.List.{List, [], _∷_, _++_}
 use lib.Dec.{T, leb→le, le→leb}
 use lib.ListN.{length}
 use Rattle.questions.specs.Tests.{all}
-use Rattle.questions.specs.Questions.{firstNo, question1}
-use Rattle.questions.specs.Laws.Answers.{ask-passed, passed-ask, first-yes, later-yes}
+use Rattle.questions.specs.Questions.{Answer, firstNo, question1}
+use Rattle.questions.specs.Laws.Answers.{ask-passed, passed-ask, first-yes, later-yes, first-append}
 use Rattle.drawing.specs.Tree.{Ladder}
 use Rattle.drawing.specs.Kept.{Kept, encode, decode}
-use Rattle.drawing.specs.Questions.{ladderOf, holdsLadder, question4, question5, question6, question7, question8, question9, ladderAnswer, Accepted}
+use Rattle.drawing.specs.Questions.{ladderOf, holdsLadder, question4, question5, question6, question7, question8, question9, ladderQuestions, ladderAnswer, Accepted}
 use Rattle.drawing.specs.Laws.Decoding.{rungFits, ladder-back, ladder-held}
 
 pub decode-encode : (gs : Ladder) → T (all rungFits gs) → decode (encode gs) ≡ some gs
@@ -46,7 +46,7 @@ some-question4 k h = passed-ask 4 _ (le→leb 1 (length (ladderOf k)) h)
 
 -- the questions that got a yes, one by one
 pub accepted : (vars : ℕ) (k : Kept) → ladderAnswer vars k ≡ none → (decode k ≡ some (ladderOf k)) × Accepted vars (ladderOf k)
-unfolding ladderAnswer
+unfolding ladderAnswer ladderQuestions
 accepted vars k e =
     let gs = ladderOf k in
     let e4 = later-yes (question1 vars) _ e in
@@ -69,5 +69,10 @@ accepted vars k e =
     )
 
 pub accepting : (vars : ℕ) (k : Kept) → Accepted vars (ladderOf k) → ladderAnswer vars k ≡ none
-unfolding ladderAnswer firstNo
+unfolding ladderAnswer ladderQuestions firstNo
 accepting vars k a = rw (a .range, some-question4 k (a .some-rung), a .sizes, a .variables, a .differ, a .jumps, a .scratch)
+
+-- questions 1 and 4 to 9 before others: their answer first
+pub ladder-first : (vars : ℕ) (k : Kept) (later : List Answer) → firstNo (question1 vars ∷ ladderQuestions vars k ++ later) ≡ firstNo (ladderAnswer vars k ∷ later)
+unfolding ladderAnswer
+ladder-first vars k later = first-append (question1 vars ∷ ladderQuestions vars k) later

@@ -12,9 +12,9 @@ use mir.Facts.{and-yes, yes-and}
 use Rattle.questions.specs.Tests.{all}
 use Rattle.questions.specs.Laws.Tests.{none-some, T→true, all-head, all-tail, all-cons}
 use Rattle.rungs.specs.Records.{RungRecord, lay}
-use Rattle.drawing.specs.Tree.{Input, contact, contactn, Front, input, frontAnd, frontOr, Output, coil, coiln, jump, jumpn, Rear, output, rearAnd, rearOr, Rung, Ladder, frontAll, rearAll, rungAll}
+use Rattle.drawing.specs.Tree.{Input, contact, contactn, Front, input, frontAnd, frontOr, Output, coil, coiln, jump, jumpn, Rear, output, rearAnd, rearOr, Rung, Ladder, frontAll, rearAll, rungAll, inputVariable, outputNames, number}
 use Rattle.rungs.specs.Words.{operands, word}
-use Rattle.drawing.specs.Kept.{inputWord, outputWord, frontWords, rearWords, rungWords, Trees, trees, putInput, putFront, putOutput, putRearAnd, putRearOr, noKind, kinds, decodeWords, oneRung, decodeRung, decodeFrom, inputFits, outputFits}
+use Rattle.drawing.specs.Kept.{inputKind, outputKind, inputWord, outputWord, frontWords, rearWords, rungWords, Trees, trees, putInput, putFront, putOutput, putRearAnd, putRearOr, noKind, kinds, decodeWords, oneRung, decodeRung, decodeFrom, inputFits, outputFits}
 
 abbrev frontFits : Front → Bool
 frontFits = frontAll inputFits
@@ -37,7 +37,7 @@ operand-word k o ws ts h e = let l = ltb→lt o operands h in decode-word (word 
 
 front-back : (f : Front) (ws : List ℕ) (fs : List Front) (rs : List Rear) → T (frontFits f) → decodeWords ws ≡ some (trees fs rs)
     → decodeWords (frontWords f ++ ws) ≡ some (trees (f ∷ fs) rs)
-unfolding frontWords inputWord frontAll inputFits kinds putInput putFront
+unfolding frontWords inputWord inputKind inputVariable frontAll inputFits kinds putInput putFront
 front-back (input (contact v)) ws fs rs h e = operand-word 1 v ws _ h e
 front-back (input (contactn v)) ws fs rs h e = operand-word 2 v ws _ h e
 front-back (frontAnd f g) ws fs rs h e =
@@ -48,7 +48,7 @@ front-back (frontOr f g) ws fs rs h e =
     rw append-assoc (decode-word (word 4 0) 4 0 (frontWords f ++ (frontWords g ++ ws)) _ (front-back f (frontWords g ++ ws) _ _ (b .0) (front-back g ws fs rs (b .1) e)) refl refl)
 
 rear-back : (r : Rear) (ws : List ℕ) (rs : List Rear) → T (rearFits r) → decodeWords ws ≡ some (trees [] rs) → decodeWords (rearWords r ++ ws) ≡ some (trees [] (r ∷ rs))
-unfolding rearWords outputWord rearAll outputFits kinds putOutput putRearAnd putRearOr
+unfolding rearWords outputWord outputKind outputNames number rearAll outputFits kinds putOutput putRearAnd putRearOr
 rear-back (output (coil v)) ws rs h e = operand-word 5 v ws _ h e
 rear-back (output (coiln v)) ws rs h e = operand-word 6 v ws _ h e
 rear-back (output (jump l)) ws rs h e = operand-word 7 l ws _ h e
@@ -152,7 +152,7 @@ fits : (v : ℕ) → v < operands → T (ltb v operands)
 fits v h = lt→ltb v operands h
 
 put-word : (k o : ℕ) (ts us : Trees) → getD kinds k noKind o ts ≡ some us → Put (word k o) o ts us
-unfolding kinds inputWord outputWord frontWords inputFits outputFits frontAll
+unfolding kinds inputWord inputKind inputVariable outputWord outputKind outputNames number frontWords inputFits outputFits frontAll
 put-word zero o ts us e = absurd (none-some e)
 put-word (suc zero) o ts us e = put-input 1 contact (λ v. refl) fits o ts us e
 put-word (suc (suc zero)) o ts us e = put-input 2 contactn (λ v. refl) fits o ts us e

@@ -11,9 +11,9 @@ use Rattle.questions.specs.Laws.Tests.{all-head, all-tail, all-second}
 use Rattle.table.specs.State.{State}
 use Rattle.table.specs.Laws.Alike.{Alike, value-alike, write-both, ScratchStays, scratch-self, scratch-both, scratch-written}
 use Rattle.rungs.specs.Records.{search}
-use Rattle.drawing.specs.Tree.{contact, contactn, Front, input, frontAnd, frontOr, Output, coil, coiln, jump, jumpn, Rear, output, rearAnd, rearOr, Rung, Ladder, labels, frontAll, rearAll, rungAll}
-use Rattle.drawing.specs.Meaning.{Worked, workInput, workFront, Run, onward, jumped, left, jumpIf, unlessJumped, runOutput, runRear, runRung, from, follow, LadderScan, scanFrom, scanLadder}
-use Rattle.drawing.specs.Questions.{inputBelow, outputBelow, rungBelow}
+use Rattle.drawing.specs.Tree.{contact, contactn, Front, input, frontAnd, frontOr, Output, coil, coiln, jump, jumpn, Rear, output, rearAnd, rearOr, Rung, Ladder, labels, frontAll, rearAll, rungAll, inputVariable, outputNames}
+use Rattle.drawing.specs.Meaning.{Worked, workInput, workFront, Run, onward, jumped, left, jumpIf, unlessJumped, runOutput, runRear, runRung, from, follow, LadderResult, scanFrom, scanLadder}
+use Rattle.drawing.specs.Questions.{inputBelow, namedBelow, outputBelow, rungBelow}
 
 -- rungs that follow are of the ladder
 pub all-follow : (test : Rung → Bool) (gs rest : Ladder) (x : Run) → T (all test gs) → T (all test rest) → T (all test (follow gs rest x))
@@ -39,7 +39,7 @@ module _ (vars : ℕ) where
   rearBelow = rearAll (inputBelow vars) (outputBelow vars)
 
   front-alike : (f : Front) (s t : State) → T (frontBelow f) → Alike vars s t → WorkedAlike vars (workFront f s) (workFront f t)
-  unfolding workFront workInput frontAll inputBelow
+  unfolding workFront workInput frontAll inputBelow inputVariable
   front-alike (input (contact v)) s t b p = record { power = sym (value-alike p v (ltb→lt v vars b)); state = p }
   front-alike (input (contactn v)) s t b p = record { power = ap not (sym (value-alike p v (ltb→lt v vars b))); state = p }
   front-alike (frontAnd f g) s t b p =
@@ -59,7 +59,7 @@ module _ (vars : ℕ) where
   jump-alike false l s t p = onwards p
 
   output-alike : (o : Output) (q : Bool) (s t : State) → T (outputBelow vars o) → Alike vars s t → RunsAlike vars (runOutput o q s) (runOutput o q t)
-  unfolding runOutput outputBelow
+  unfolding runOutput outputBelow namedBelow outputNames
   output-alike (coil v) q s t b p = onwards (write-both p v q (ltb→lt v vars b))
   output-alike (coiln v) q s t b p = onwards (write-both p v (not q) (ltb→lt v vars b))
   output-alike (jump l) q s t b p = jump-alike q l s t p
@@ -88,7 +88,7 @@ module _ (vars : ℕ) where
       let x = front-alike (g .front) s t (bb .0) p in
       rw (x .power) (rear-alike (g .rear) (workFront (g .front) t .power) (workFront (g .front) s .state) (workFront (g .front) t .state) (bb .1) (x .state))
 
-  pub record ScansAlike (x y : LadderScan) : Type 0 where
+  pub record ScansAlike (x y : LadderResult) : Type 0 where
     pub halt : x .halt ≡ y .halt
     pub rungs : x .rungs ≡ y .rungs
     pub state : Alike vars (x .state) (y .state)
@@ -128,7 +128,7 @@ jump-stays true l s = scratch-self s
 jump-stays false l s = scratch-self s
 
 output-stays : (o : Output) (p : Bool) (s : State) → T (outputBelow (s .vars) o) → ScratchStays s (left (runOutput o p s))
-unfolding runOutput outputBelow left
+unfolding runOutput outputBelow namedBelow outputNames left
 output-stays (coil v) p s b = scratch-written s v p (ltb→lt v (s .vars) b)
 output-stays (coiln v) p s b = scratch-written s v (not p) (ltb→lt v (s .vars) b)
 output-stays (jump l) p s b = jump-stays p l s

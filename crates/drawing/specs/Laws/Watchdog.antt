@@ -8,7 +8,7 @@ use mathlib.Core.List.{[], _∷_}
 use Rattle.table.specs.State.{State}
 use Rattle.table.specs.Halt.{Ended, Stopped}
 use Rattle.drawing.specs.Tree.{Rung, Ladder}
-use Rattle.drawing.specs.Meaning.{runRung, follow, left, LadderScan, scanFrom, scanLadder}
+use Rattle.drawing.specs.Meaning.{runRung, follow, left, LadderResult, scanFrom, scanLadder}
 use Rattle.drawing.specs.Standing.{Stands, atFirst, afterRung}
 
 -- with n more before the watchdog the scan goes on from where it stands
@@ -19,7 +19,7 @@ goes-on {gs} {s} (afterRung {k} d) n = let e : k + 1 + n ≡ k + suc n = omega a
 
 module _ (gs : Ladder) (s : State) where
   -- how the scan halts from where it stands
-  Halts : ℕ → LadderScan → Type 0
+  Halts : ℕ → LadderResult → Type 0
   Halts most x = ((k : ℕ) × (t : State) × Stands gs s k [] t × (k ≤ most) × (x ≡ record { halt = Ended; rungs = k; state = t }))
       ⊎ ((g : Rung) × (rest : Ladder) × (t : State) × Stands gs s most (g ∷ rest) t × (x ≡ record { halt = Stopped; rungs = most; state = t }))
 
@@ -47,7 +47,7 @@ module _ (gs : Ladder) (s : State) where
       over (suc n) = refl
 
   -- one answer is not both
-  apart : {x : LadderScan} {k k′ : ℕ} {t t′ : State} → x ≡ record { halt = Ended; rungs = k; state = t } → x ≡ record { halt = Stopped; rungs = k′; state = t′ } → ⊥
+  apart : {x : LadderResult} {k k′ : ℕ} {t t′ : State} → x ≡ record { halt = Ended; rungs = k; state = t } → x ≡ record { halt = Stopped; rungs = k′; state = t′ } → ⊥
   apart p q =
       let z : Ended ≡ Stopped = ap (λ y. y .halt) (sym p ∙ q) in
       let n : _≡_ {A = ℕ} 0 1 = cc in

@@ -12,17 +12,17 @@ use Rattle.questions.specs.Tests.{all}
 use Rattle.questions.specs.Laws.Tests.{all-one, all-cons}
 use Rattle.questions.specs.Laws.Answers.{passed-ask}
 use Rattle.table.specs.State.{scratchBytes}
-use Rattle.rungs.specs.Words.{isOperand}
-use Rattle.drawing.specs.Tree.{contact, contactn, Front, input, frontAnd, frontOr, coil, coiln, jump, jumpn, Rear, output, rearAnd, rearOr, frontAll, rearAll, rungAll, Rung, Ladder}
+use Rattle.rungs.specs.Words.{operands, isOperand}
+use Rattle.drawing.specs.Tree.{contact, contactn, Front, input, frontAnd, frontOr, coil, coiln, jump, jumpn, Rear, output, rearAnd, rearOr, frontAll, rearAll, rungAll, Rung, Ladder, inputVariable, outputNames, number}
 use Rattle.drawing.specs.Kept.{encode, decode, inputFits, outputFits}
 use Rattle.drawing.specs.Questions.{joinScratch, frontScratch, rearScratch, rungScratch, scratchInRange, question4, question9}
 use Rattle.drawing.specs.Theorems.{decoded-exactly}
 use Rattle.drawing.specs.Laws.Accepting.{ladder-is, some-question4}
-use Rattle.grammar.specs.Grammar.{IsNumber, nought, digits, IsFront, oneTerm, moreTerm, IsTerm, oneFactor, moreFactor, IsFactor, cNumber, nNumber, inRound, IsRear, oneBranch, moreBranch, IsBranch, atEnd, factorAnd, IsEnd, oNumber, qNumber, jNumber, kNumber, inSquare, IsLine, line, IsText, oneLine, moreLines}
+use Rattle.grammar.specs.Grammar.{IsNumber, nought, digits, IsFront, oneTerm, moreTerm, IsTerm, oneFactor, moreFactor, IsFactor, cNumber, nNumber, inRound, IsRear, oneBranch, moreBranch, IsBranch, atEnd, factorAnd, IsEnd, oNumber, qNumber, jNumber, kNumber, inSquare, IsLine, line, IsText, oneLine, moreLines, mostBrackets}
 
 number-fits : {w : List ℕ} {v : ℕ} → IsNumber w v → T (isOperand v)
-number-fits nought = lt→ltb 0 65536 (omega arith)
-number-fits (digits {v = v} x h) = lt→ltb v 65536 (omega arith)
+number-fits nought = lt→ltb 0 operands (omega arith)
+number-fits (digits {v = v} x h) = lt→ltb v operands (omega arith)
 
 abbrev frontFits : Front → Bool
 frontFits f = frontAll inputFits f
@@ -65,11 +65,11 @@ rear-more : {n m : ℕ} {r : Rear} → n ≤ m → RearIn n r → RearIn m r
 rear-more l x = let o = x .own in record { fit = x .fit; own = omega arith }
 
 contact-joined : (n v : ℕ) → T (isOperand v) → Joined n (input (contact v))
-unfolding frontAll inputFits frontScratch joinScratch
+unfolding frontAll inputFits inputVariable frontScratch joinScratch
 contact-joined n v h = record { front = record { fit = h; own = omega arith }; join = omega arith }
 
 contactn-joined : (n v : ℕ) → T (isOperand v) → Joined n (input (contactn v))
-unfolding frontAll inputFits frontScratch joinScratch
+unfolding frontAll inputFits inputVariable frontScratch joinScratch
 contactn-joined n v h = record { front = record { fit = h; own = omega arith }; join = omega arith }
 
 and-in : {n : ℕ} {f g : Front} → FrontIn n f → Joined n g → FrontIn n (frontAnd f g)
@@ -81,19 +81,19 @@ unfolding frontAll frontScratch
 or-in {f = f} {g = g} x y = let a = x .own in let b = y .join in record { fit = yes-and (frontFits f) (frontFits g) (x .fit) (y .front .fit); own = omega arith }
 
 coil-in : (n v : ℕ) → T (isOperand v) → RearIn n (output (coil v))
-unfolding rearAll outputFits rearScratch
+unfolding rearAll outputFits outputNames number rearScratch
 coil-in n v h = record { fit = h; own = omega arith }
 
 coiln-in : (n v : ℕ) → T (isOperand v) → RearIn n (output (coiln v))
-unfolding rearAll outputFits rearScratch
+unfolding rearAll outputFits outputNames number rearScratch
 coiln-in n v h = record { fit = h; own = omega arith }
 
 jump-in : (n l : ℕ) → T (isOperand l) → RearIn n (output (jump l))
-unfolding rearAll outputFits rearScratch
+unfolding rearAll outputFits outputNames number rearScratch
 jump-in n l h = record { fit = h; own = omega arith }
 
 jumpn-in : (n l : ℕ) → T (isOperand l) → RearIn n (output (jumpn l))
-unfolding rearAll outputFits rearScratch
+unfolding rearAll outputFits outputNames number rearScratch
 jumpn-in n l h = record { fit = h; own = omega arith }
 
 rear-and : {n : ℕ} {f : Front} {r : Rear} → Joined n f → RearIn n r → RearIn n (rearAnd f r)
@@ -144,14 +144,14 @@ end-in (suc d) w r (inSquare x) = rear-more (omega arith) (rear-in d (end-in d) 
 
 line-fits : {w : List ℕ} {g : Rung} → IsLine w g → T (rungAll inputFits outputFits g)
 unfolding rungAll
-line-fits (line {f = f} {r = r} xl xf xr) = yes-and (frontFits f) (rearFits r) (front-in 15 (factor-in 15) xf .fit) (rear-in 15 (end-in 15) xr .fit)
+line-fits (line {f = f} {r = r} xl xf xr) = yes-and (frontFits f) (rearFits r) (front-in mostBrackets (factor-in mostBrackets) xf .fit) (rear-in mostBrackets (end-in mostBrackets) xr .fit)
 
 -- at 15 brackets a front and a rear take at most 31 bytes
 line-scratch : {w : List ℕ} {g : Rung} → IsLine w g → T (leb (rungScratch g) scratchBytes)
 unfolding rungScratch
 line-scratch (line {f = f} {r = r} xl xf xr) =
-    let a = front-in 15 (factor-in 15) xf .own in
-    let b = rear-in 15 (end-in 15) xr .own in
+    let a = front-in mostBrackets (factor-in mostBrackets) xf .own in
+    let b = rear-in mostBrackets (end-in mostBrackets) xr .own in
     le→leb (max (frontScratch f) (rearScratch r)) scratchBytes (omega arith)
 
 pub operands-fit : {s : List ℕ} {gs : Ladder} → IsText s gs → T (all (rungAll inputFits outputFits) gs)

@@ -8,8 +8,8 @@ use borrow.Author.Tests.{eq-eqb, ne-eqb, lt-leb, lt-ltb, le-ltb}
 use lib.ListN.{length, getD, length-append}
 use lib.Seq.{drop-length}
 use Rattle.drawing.specs.Tree.{contact, contactn, Front, input, frontAnd, frontOr, coil, coiln, jump, jumpn, Rear, output, rearAnd, rearOr, Rung, Ladder}
-use Rattle.grammar.specs.Grammar.{IsDigits, first, next, IsNumber, nought, digits, IsFront, oneTerm, moreTerm, IsTerm, oneFactor, moreFactor, IsFactor, cNumber, nNumber, inRound, IsRear, oneBranch, moreBranch, IsBranch, atEnd, factorAnd, IsEnd, oNumber, qNumber, jNumber, kNumber, inSquare, IsLine, line, IsText, oneLine, moreLines}
-use Rattle.grammar.specs.Reader.{Parse, read, mapP, bind, followed, digitOf, digitsFrom, numberOf, chain, termBy, frontBy, factorBy, factorOf, termOf, frontOf, opensFactor, branchBy, rearBy, endBy, endOf, rearOf, rung, lineOf, linesOf, textOf}
+use Rattle.grammar.specs.Grammar.{IsDigits, first, next, IsNumber, nought, digits, IsFront, oneTerm, moreTerm, IsTerm, oneFactor, moreFactor, IsFactor, cNumber, nNumber, inRound, IsRear, oneBranch, moreBranch, IsBranch, atEnd, factorAnd, IsEnd, oNumber, qNumber, jNumber, kNumber, inSquare, IsLine, line, IsText, oneLine, moreLines, mostNumber, mostBrackets}
+use Rattle.grammar.specs.Reader.{Parse, read, mapP, bind, followed, digitOf, digitsFrom, numeralOf, chain, termBy, frontBy, factorBy, factorOf, termOf, frontOf, opensFactor, branchBy, rearBy, endBy, endOf, rearOf, rung, lineOf, linesOf, textOf}
 use Rattle.grammar.specs.Laws.Spans.{Span, inside, span-cut, span-head, span-tail, digit-of}
 
 low : (b : ℕ) → b < 48 → digitOf b ≡ 10
@@ -46,26 +46,26 @@ module _ (s : List ℕ) where
   ends-high : (m b : ℕ) → getD s m 0 ≡ b → 57 < b → Ends m
   ends-high m b e h = ap digitOf e ∙ high b h
 
-  digits-more : (j v d m : ℕ) → Least j ≤ v → v * 10 + d ≤ 65535 → d ≤ 9 → digitOf (getD s m 0) ≡ d
+  digits-more : (j v d m : ℕ) → Least j ≤ v → v * 10 + d ≤ mostNumber → d ≤ 9 → digitOf (getD s m 0) ≡ d
       → (i : ℕ) × (Least i ≤ v * 10 + d) × (digitsFrom s j v m ≡ digitsFrom s i (v * 10 + d) (m + 1))
   unfolding digitsFrom
   digits-more zero v d m l h g e = absurd (omega arith)
-  digits-more (suc i) v d m l h g e = (i, least-down i v d l, rw (e, lt-leb 10 d (omega arith), le-ltb 65535 (v * 10 + d) h) refl)
+  digits-more (suc i) v d m l h g e = (i, least-down i v d l, rw (e, lt-leb 10 d (omega arith), le-ltb mostNumber (v * 10 + d) h) refl)
 
   digits-end : (j v m : ℕ) → Ends m → digitsFrom s j v m ≡ read m v
   unfolding digitsFrom
   digits-end zero v m e = refl
   digits-end (suc j) v m e = rw e refl
 
-  number-nought : (at : ℕ) → digitOf (getD s at 0) ≡ 0 → numberOf s at ≡ read (at + 1) 0
-  unfolding numberOf
+  number-nought : (at : ℕ) → digitOf (getD s at 0) ≡ 0 → numeralOf s at ≡ read (at + 1) 0
+  unfolding numeralOf
   number-nought at e = rw e refl
 
-  number-first : (at d : ℕ) → 1 ≤ d → d ≤ 9 → digitOf (getD s at 0) ≡ d → numberOf s at ≡ digitsFrom s 4 d (at + 1)
-  unfolding numberOf
+  number-first : (at d : ℕ) → 1 ≤ d → d ≤ 9 → digitOf (getD s at 0) ≡ d → numeralOf s at ≡ digitsFrom s 4 d (at + 1)
+  unfolding numeralOf
   number-first at d l g e = rw (e, lt-leb 10 d (omega arith), ne-eqb d 0 (λ z. omega arith)) refl
 
-  digits-run : {w : List ℕ} {v : ℕ} → IsDigits w v → (at m : ℕ) → v ≤ 65535 → Span s at m w → (j : ℕ) × (Least j ≤ v) × (numberOf s at ≡ digitsFrom s j v m)
+  digits-run : {w : List ℕ} {v : ℕ} → IsDigits w v → (at m : ℕ) → v ≤ mostNumber → Span s at m w → (j : ℕ) × (Least j ≤ v) × (numeralOf s at ≡ digitsFrom s j v m)
   digits-run (first d l g) at m h z =
       (4, l, number-first at d l g (ap digitOf (span-head z) ∙ digit-of d g) ∙ ap (λ i. digitsFrom s 4 d i) (sym (z .long)))
   digits-run (next {s = u} {v = v} x d g) at m h z =
@@ -74,17 +74,17 @@ module _ (s : List ℕ) where
       let t = digits-more (r .0) v d (at + length u) (r .1) h g (ap digitOf (span-head (y .1)) ∙ digit-of d g) in
       (t .0, t .1, r .2 ∙ (t .2 ∙ ap (λ i. digitsFrom s (t .0) (v * 10 + d) i) (sym (y .1 .long))))
 
-  pub number-read : {w : List ℕ} {v : ℕ} → IsNumber w v → (at m : ℕ) → Span s at m w → Ends m → numberOf s at ≡ read m v
+  pub number-read : {w : List ℕ} {v : ℕ} → IsNumber w v → (at m : ℕ) → Span s at m w → Ends m → numeralOf s at ≡ read m v
   number-read nought at m z e = number-nought at (ap digitOf (span-head z) ∙ digit-of 0 (omega arith)) ∙ ap (λ i. read i 0) (sym (z .long))
   number-read (digits x h) at m z e = let r = digits-run x at m h z in r .2 ∙ digits-end (r .0) _ m e
 
   -- factors by their first byte
-  c-read : (d at m v : ℕ) → getD s at 0 ≡ 99 → numberOf s (at + 1) ≡ read m v → factorOf d s at ≡ read m (input (contact v))
+  c-read : (d at m v : ℕ) → getD s at 0 ≡ 99 → numeralOf s (at + 1) ≡ read m v → factorOf d s at ≡ read m (input (contact v))
   unfolding factorOf factorBy mapP
   c-read zero at m v b e = rw (eq-eqb _ _ b, e) refl
   c-read (suc d) at m v b e = rw (eq-eqb _ _ b, e) refl
 
-  n-read : (d at m v : ℕ) → getD s at 0 ≡ 110 → numberOf s (at + 1) ≡ read m v → factorOf d s at ≡ read m (input (contactn v))
+  n-read : (d at m v : ℕ) → getD s at 0 ≡ 110 → numeralOf s (at + 1) ≡ read m v → factorOf d s at ≡ read m (input (contactn v))
   unfolding factorOf factorBy mapP
   n-read zero at m v b e = rw (b, e) refl
   n-read (suc d) at m v b e = rw (b, e) refl
@@ -240,22 +240,22 @@ module _ (s : List ℕ) where
     unfolding RearRead rearWith rearOf
     rear-whole at m r h b = b (suc (length s)) (omega arith)
 
-  o-read : (d at m v : ℕ) → getD s at 0 ≡ 111 → numberOf s (at + 1) ≡ read m v → endOf d s at ≡ read m (output (coil v))
+  o-read : (d at m v : ℕ) → getD s at 0 ≡ 111 → numeralOf s (at + 1) ≡ read m v → endOf d s at ≡ read m (output (coil v))
   unfolding endOf endBy mapP
   o-read zero at m v b e = rw (b, e) refl
   o-read (suc d) at m v b e = rw (b, e) refl
 
-  q-read : (d at m v : ℕ) → getD s at 0 ≡ 113 → numberOf s (at + 1) ≡ read m v → endOf d s at ≡ read m (output (coiln v))
+  q-read : (d at m v : ℕ) → getD s at 0 ≡ 113 → numeralOf s (at + 1) ≡ read m v → endOf d s at ≡ read m (output (coiln v))
   unfolding endOf endBy mapP
   q-read zero at m v b e = rw (b, e) refl
   q-read (suc d) at m v b e = rw (b, e) refl
 
-  j-read : (d at m v : ℕ) → getD s at 0 ≡ 106 → numberOf s (at + 1) ≡ read m v → endOf d s at ≡ read m (output (jump v))
+  j-read : (d at m v : ℕ) → getD s at 0 ≡ 106 → numeralOf s (at + 1) ≡ read m v → endOf d s at ≡ read m (output (jump v))
   unfolding endOf endBy mapP
   j-read zero at m v b e = rw (b, e) refl
   j-read (suc d) at m v b e = rw (b, e) refl
 
-  k-read : (d at m v : ℕ) → getD s at 0 ≡ 107 → numberOf s (at + 1) ≡ read m v → endOf d s at ≡ read m (output (jumpn v))
+  k-read : (d at m v : ℕ) → getD s at 0 ≡ 107 → numeralOf s (at + 1) ≡ read m v → endOf d s at ≡ read m (output (jumpn v))
   unfolding endOf endBy mapP
   k-read zero at m v b e = rw (b, e) refl
   k-read (suc d) at m v b e = rw (b, e) refl
@@ -308,8 +308,8 @@ module _ (s : List ℕ) where
       square-read d at i r (span-head z) (rear-then d (end-read d) x (at + 1) i h (p .0) (ends-high i 93 b (omega arith)) (at-other i 93 124 b (λ q. omega arith))) b
       ∙ ap (λ i. read i r) (sym (p .1 .long))
 
-  line-parts : (at i j m l : ℕ) (f : Front) (r : Rear) → numberOf s at ≡ read i l → getD s i 0 ≡ 58 → frontOf 15 s (i + 1) ≡ read j f → getD s j 0 ≡ 62
-      → rearOf 15 s (j + 1) ≡ read m r → getD s m 0 ≡ 10 → lineOf s at ≡ read (m + 1) (rung l f r)
+  line-parts : (at i j m l : ℕ) (f : Front) (r : Rear) → numeralOf s at ≡ read i l → getD s i 0 ≡ 58 → frontOf mostBrackets s (i + 1) ≡ read j f → getD s j 0 ≡ 62
+      → rearOf mostBrackets s (j + 1) ≡ read m r → getD s m 0 ≡ 10 → lineOf s at ≡ read (m + 1) (rung l f r)
   unfolding lineOf bind followed mapP
   line-parts at i j m l f r a b c d e g = rw (a, b, c, d, e, g) refl
 
@@ -326,8 +326,8 @@ module _ (s : List ℕ) where
       let c = span-head (t .1) in
       let h = past j 62 b (omega arith) in
       line-parts at i j y l f r (number-read xl at i (p .0) (ends-high i 58 a (omega arith))) a
-      (front-then 15 (factor-read 15) xf (i + 1) j (q .0) (ends-high j 62 b (omega arith)) (at-other j 62 38 b (λ q. omega arith)) (at-other j 62 124 b (λ q. omega arith))) b
-      (rear-then 15 (end-read 15) xr (j + 1) y h (t .0) (ends-low y 10 c (omega arith)) (at-other y 10 124 c (λ q. omega arith))) c
+      (front-then mostBrackets (factor-read mostBrackets) xf (i + 1) j (q .0) (ends-high j 62 b (omega arith)) (at-other j 62 38 b (λ q. omega arith)) (at-other j 62 124 b (λ q. omega arith))) b
+      (rear-then mostBrackets (end-read mostBrackets) xr (j + 1) y h (t .0) (ends-low y 10 c (omega arith)) (at-other y 10 124 c (λ q. omega arith))) c
       ∙ ap (λ i. read i (rung l f r)) (sym (t .1 .long))
 
   pub line-some : {w : List ℕ} {g : Rung} → IsLine w g → 1 ≤ length w

@@ -8,8 +8,8 @@ use borrow.Author.Tests.{eqb-true, eqb-false, leb-false, ltb-false}
 use lib.Dec.{eqb, leb, ltb}
 use lib.ListN.{length, getD}
 use Rattle.drawing.specs.Tree.{contact, contactn, Front, input, frontAnd, frontOr, Output, coil, coiln, jump, jumpn, Rear, output, rearAnd, rearOr, Rung, Ladder}
-use Rattle.grammar.specs.Grammar.{IsDigits, first, next, IsNumber, nought, digits, IsFront, oneTerm, moreTerm, IsTerm, oneFactor, moreFactor, IsFactor, cNumber, nNumber, inRound, IsRear, oneBranch, moreBranch, IsBranch, atEnd, factorAnd, IsEnd, oNumber, qNumber, jNumber, kNumber, inSquare, IsLine, line, IsText, oneLine, moreLines}
-use Rattle.grammar.specs.Reader.{pick, Parse, read, stuck, mapP, bind, followed, digitOf, digitsFrom, numberOf, chain, termBy, frontBy, factorBy, factorOf, frontOf, opensFactor, branchBy, rearBy, endBy, endOf, rearOf, rung, lineOf, linesOf, textOf}
+use Rattle.grammar.specs.Grammar.{IsDigits, first, next, IsNumber, nought, digits, IsFront, oneTerm, moreTerm, IsTerm, oneFactor, moreFactor, IsFactor, cNumber, nNumber, inRound, IsRear, oneBranch, moreBranch, IsBranch, atEnd, factorAnd, IsEnd, oNumber, qNumber, jNumber, kNumber, inSquare, IsLine, line, IsText, oneLine, moreLines, mostNumber, mostBrackets}
+use Rattle.grammar.specs.Reader.{pick, Parse, read, stuck, mapP, bind, followed, digitOf, digitsFrom, numeralOf, chain, termBy, frontBy, factorBy, factorOf, frontOf, opensFactor, branchBy, rearBy, endBy, endOf, rearOf, rung, lineOf, linesOf, textOf}
 use Rattle.grammar.specs.Laws.Spans.{Span, span-none, span-byte, span-join, span-snoc, digit-is}
 
 -- A reader's answer at a place, against what a nonterminal has: what is read belongs to it, and what stands before the place where the reader is stuck begins something that belongs to it.
@@ -70,23 +70,23 @@ fits-more {L} sep g f {w} h z e (begins v rest a z′ x) =
     begins (w ++ sep ∷ v) rest (f a) (span-join z (span-join (span-byte sep g e) z′)) (rw append-assoc (h (v ++ rest) a x))
 
 module _ (s : List ℕ) where
-  digits-fit : (k v m at : ℕ) (w : List ℕ) → Span s at m w → IsDigits w v → v ≤ 65535 → Fits IsNumber s at (digitsFrom s k v m)
+  digits-fit : (k v m at : ℕ) (w : List ℕ) → Span s at m w → IsDigits w v → v ≤ mostNumber → Fits IsNumber s at (digitsFrom s k v m)
   unfolding digitsFrom
   digits-fit zero v m at w z x h = fits w z (digits x h)
   digits-fit (suc k) v m at w z x h =
       let d = digitOf (getD s m 0) in
       let more = digitsFrom s k (v * 10 + d) (m + 1) in
-      cases (Fits IsNumber s at) (leb 10 d) (read m v) (pick (ltb 65535 (v * 10 + d)) (read m v) more)
+      cases (Fits IsNumber s at) (leb 10 d) (read m v) (pick (ltb mostNumber (v * 10 + d)) (read m v) more)
       (λ t. fits w z (digits x h))
-      (λ t. cases (Fits IsNumber s at) (ltb 65535 (v * 10 + d)) (read m v) more
+      (λ t. cases (Fits IsNumber s at) (ltb mostNumber (v * 10 + d)) (read m v) more
       (λ u. fits w z (digits x h))
       (λ u.
       let l : d ≤ 9 = omega (arith, leb-false 10 d t) in
       digits-fit k (v * 10 + d) (m + 1) at (w ++ ((48 + d) ∷ [])) (span-snoc (48 + d) (omega arith) z (digit-is (getD s m 0) l)) (next x d l)
-      (ltb-false 65535 (v * 10 + d) u)))
+      (ltb-false mostNumber (v * 10 + d) u)))
 
-  pub number-fits : (at : ℕ) → Fits IsNumber s at (numberOf s at)
-  unfolding numberOf
+  pub number-fits : (at : ℕ) → Fits IsNumber s at (numeralOf s at)
+  unfolding numeralOf
   number-fits at =
       let d = digitOf (getD s at 0) in
       let more = digitsFrom s 4 d (at + 1) in
@@ -183,7 +183,7 @@ module _ (s : List ℕ) where
   end-by-fits d at inner h =
       let F = Fits (IsEnd d) s at in
       let one : (b : ℕ) → 0 < b → (make : ℕ → Output) → ((w : List ℕ) (v : ℕ) → IsNumber w v → IsEnd d (b ∷ w) (output (make v))) → eqb (getD s at 0) b ≡ true
-      → F (mapP (λ v. output (make v)) (numberOf s (at + 1))) =
+      → F (mapP (λ v. output (make v)) (numeralOf s (at + 1))) =
       λ b g make x t. fits-byte (IsEnd d) b g (eqb-true _ _ t) (λ w a y. y) (fits-map (λ w a. IsEnd d (b ∷ w) a) (λ v. output (make v)) x (number-fits (at + 1))) in
       cases F (eqb (getD s at 0) 111) _ _ (one 111 (omega arith) coil (λ w v x. oNumber x)) (λ t.
       cases F (eqb (getD s at 0) 113) _ _ (one 113 (omega arith) coiln (λ w v x. qNumber x)) (λ t.
@@ -209,27 +209,27 @@ module _ (s : List ℕ) where
   AfterLabel l v g = (w : List ℕ) → IsNumber w l → IsLine (w ++ 58 ∷ v) g
 
   AfterFront : ℕ → Front → List ℕ → Rung → Type 0
-  AfterFront l f v g = (w t : List ℕ) → IsNumber w l → IsFront 15 t f → IsLine (w ++ 58 ∷ (t ++ 62 ∷ v)) g
+  AfterFront l f v g = (w t : List ℕ) → IsNumber w l → IsFront mostBrackets t f → IsLine (w ++ 58 ∷ (t ++ 62 ∷ v)) g
 
-  rear-of-line : (l : ℕ) (f : Front) (at : ℕ) → Fits (AfterFront l f) s at (mapP (rung l f) (followed s 10 (rearOf 15 s at)))
+  rear-of-line : (l : ℕ) (f : Front) (at : ℕ) → Fits (AfterFront l f) s at (mapP (rung l f) (followed s 10 (rearOf mostBrackets s at)))
   unfolding AfterFront
   rear-of-line l f at =
       fits-map (AfterFront l f) (rung l f) (λ w r x. x)
-      (fits-followed (λ w r. AfterFront l f w (rung l f r)) 10 (omega arith) (λ u r x w t y z. line y z x) (rear-fits 15 at))
+      (fits-followed (λ w r. AfterFront l f w (rung l f r)) 10 (omega arith) (λ u r x w t y z. line y z x) (rear-fits mostBrackets at))
 
-  rest-of-line : (l at : ℕ) → Fits (AfterLabel l) s at (bind (followed s 62 (frontOf 15 s at)) (λ m f. mapP (rung l f) (followed s 10 (rearOf 15 s m))))
+  rest-of-line : (l at : ℕ) → Fits (AfterLabel l) s at (bind (followed s 62 (frontOf mostBrackets s at)) (λ m f. mapP (rung l f) (followed s 10 (rearOf mostBrackets s m))))
   unfolding AfterLabel AfterFront
   rest-of-line l at =
-      fits-bind (AfterFront l) (AfterLabel l) (λ m f. mapP (rung l f) (followed s 10 (rearOf 15 s m))) (λ w v a b x y. x v b y)
+      fits-bind (AfterFront l) (AfterLabel l) (λ m f. mapP (rung l f) (followed s 10 (rearOf mostBrackets s m))) (λ w v a b x y. x v b y)
       (λ f. (111 ∷ 48 ∷ 10 ∷ [], rung l f coil0, λ w t y z. line {u = 111 ∷ 48 ∷ []} y z (oneBranch (atEnd (oNumber nought)))))
       (fits-followed (λ w f. (v : List ℕ) (g : Rung) → AfterFront l f v g → AfterLabel l (w ++ v) g) 62 (omega arith)
-      (λ t f x v g y w z. rw append-assoc (y w t z x)) (front-fits 15 at))
+      (λ t f x v g y w z. rw append-assoc (y w t z x)) (front-fits mostBrackets at))
       (λ m f. rear-of-line l f m)
 
   pub line-fits : (at : ℕ) → Fits IsLine s at (lineOf s at)
   unfolding lineOf AfterLabel
   line-fits at =
-      fits-bind AfterLabel IsLine (λ m l. bind (followed s 62 (frontOf 15 s m)) (λ m f. mapP (rung l f) (followed s 10 (rearOf 15 s m)))) (λ w v a b x y. x v b y)
+      fits-bind AfterLabel IsLine (λ m l. bind (followed s 62 (frontOf mostBrackets s m)) (λ m f. mapP (rung l f) (followed s 10 (rearOf mostBrackets s m)))) (λ w v a b x y. x v b y)
       (λ l. (
         99 ∷ 48 ∷ 62 ∷ 111 ∷ 48 ∷ 10 ∷ [],
         rung l (input (contact 0)) coil0,

@@ -8,8 +8,8 @@ use borrow.Author.Tests.{ne-eqb, eqb-true}
 use lib.Dec.{eqb, leb, ltb}
 use lib.ListN.{length, getD, List·getD-eq-default}
 use Rattle.drawing.specs.Tree.{contact, contactn, Front, input, frontAnd, frontOr, Output, coil, coiln, jump, jumpn, Rear, output, rearAnd, rearOr, Rung, Ladder}
-use Rattle.grammar.specs.Grammar.{IsLine}
-use Rattle.grammar.specs.Reader.{pick, Parse, read, stuck, mapP, bind, followed, digitOf, digitsFrom, numberOf, chain, termBy, frontBy, factorBy, factorOf, frontOf, opensFactor, branchBy, rearBy, endBy, endOf, rearOf, rung, lineOf, linesOf, textOf}
+use Rattle.grammar.specs.Grammar.{IsLine, mostNumber, mostBrackets}
+use Rattle.grammar.specs.Reader.{pick, Parse, read, stuck, mapP, bind, followed, digitOf, digitsFrom, numeralOf, chain, termBy, frontBy, factorBy, factorOf, frontOf, opensFactor, branchBy, rearBy, endBy, endOf, rearOf, rung, lineOf, linesOf, textOf}
 use Rattle.grammar.specs.Laws.Fits.{Fits, fits, begins, number-fits, term-by-fits, front-by-fits, factor-fits, front-fits, branch-by-fits, rear-by-fits, rear-fits, end-fits, line-fits, lines-fit}
 use Rattle.grammar.specs.Laws.Complete.{past, line-some}
 
@@ -120,21 +120,21 @@ module _ (s t : List ℕ) where
   digits-reach (suc k) v m =
       let d = digitOf (getD s m 0) in
       let h = digits-reach k (v * 10 + d) (m + 1) in
-      pick-reach (leb 10 d) _ _ m (omega arith) (pick-reach (ltb 65535 (v * 10 + d)) _ _ m (omega arith) (omega arith))
+      pick-reach (leb 10 d) _ _ m (omega arith) (pick-reach (ltb mostNumber (v * 10 + d)) _ _ m (omega arith) (omega arith))
 
   digits-same : (k v m : ℕ) → Same (digitsFrom s k v m) (digitsFrom t k v m)
   unfolding digitsFrom
   digits-same zero v m = λ x. refl
   digits-same (suc k) v m =
       let d = digitOf (getD s m 0) in
-      let value : List ℕ → ℕ → Parse ℕ = λ r b. pick (leb 10 (digitOf b)) (read m v) (pick (ltb 65535 (v * 10 + digitOf b)) (read m v) (digitsFrom r k (v * 10 + digitOf b) (m + 1))) in
+      let value : List ℕ → ℕ → Parse ℕ = λ r b. pick (leb 10 (digitOf b)) (read m v) (pick (ltb mostNumber (v * 10 + digitOf b)) (read m v) (digitsFrom r k (v * 10 + digitOf b) (m + 1))) in
       let h = digits-reach k (v * 10 + d) (m + 1) in
-      same-at m (value s) (value t) (pick-reach (leb 10 d) _ _ m (omega arith) (pick-reach (ltb 65535 (v * 10 + d)) _ _ m (omega arith) (omega arith)))
+      same-at m (value s) (value t) (pick-reach (leb 10 d) _ _ m (omega arith) (pick-reach (ltb mostNumber (v * 10 + d)) _ _ m (omega arith) (omega arith)))
       (λ l. same-choice (leb 10 d) (read m v) (read m v) _ _ (same-refl (read m v))
-      (same-choice (ltb 65535 (v * 10 + d)) (read m v) (read m v) _ _ (same-refl (read m v)) (digits-same k (v * 10 + d) (m + 1))))
+      (same-choice (ltb mostNumber (v * 10 + d)) (read m v) (read m v) _ _ (same-refl (read m v)) (digits-same k (v * 10 + d) (m + 1))))
 
-  number-same : (at : ℕ) → Same (numberOf s at) (numberOf t at)
-  unfolding numberOf
+  number-same : (at : ℕ) → Same (numeralOf s at) (numeralOf t at)
+  unfolding numeralOf
   number-same at =
       let d = digitOf (getD s at 0) in
       let value : List ℕ → ℕ → Parse ℕ = λ r b. pick (leb 10 (digitOf b)) (stuck at) (pick (eqb (digitOf b) 0) (read (at + 1) 0) (digitsFrom r 4 (digitOf b) (at + 1))) in
@@ -193,11 +193,11 @@ module _ (s t : List ℕ) where
   front-by-same d at h =
       chain-whole (termBy (factorOf d s) s) (termBy (factorOf d t) t) 124 frontOr (omega arith) (λ m. fits-reach (term-by-fits s d (factorOf d s) (factor-fits s d) m)) (λ m. term-same d m h) at
 
-  number-ahead : {A : Type 0} (at : ℕ) (f : ℕ → A) → at ≤ reach (mapP f (numberOf s (at + 1)))
-  number-ahead at f = let h = map-reach f (numberOf s (at + 1)) in let g = fits-reach (number-fits s (at + 1)) in omega arith
+  number-ahead : {A : Type 0} (at : ℕ) (f : ℕ → A) → at ≤ reach (mapP f (numeralOf s (at + 1)))
+  number-ahead at f = let h = map-reach f (numeralOf s (at + 1)) in let g = fits-reach (number-fits s (at + 1)) in omega arith
 
-  number-map : {A : Type 0} (at : ℕ) (f : ℕ → A) → Same (mapP f (numberOf s (at + 1))) (mapP f (numberOf t (at + 1)))
-  number-map at f = same-map f (numberOf s (at + 1)) (numberOf t (at + 1)) (number-same (at + 1))
+  number-map : {A : Type 0} (at : ℕ) (f : ℕ → A) → Same (mapP f (numeralOf s (at + 1))) (mapP f (numeralOf t (at + 1)))
+  number-map at f = same-map f (numeralOf s (at + 1)) (numeralOf t (at + 1)) (number-same (at + 1))
 
   factor-by-same : (at : ℕ) (p q : Parse Front) → at ≤ reach p → Same p q → Same (factorBy p s at) (factorBy q t at)
   unfolding factorBy
@@ -310,26 +310,26 @@ module _ (s t : List ℕ) where
   line-same : (at : ℕ) → Same (lineOf s at) (lineOf t at)
   unfolding lineOf
   line-same at =
-      let tail : List ℕ → ℕ → Front → ℕ → Parse Rung = λ r l f m. mapP (rung l f) (followed r 10 (rearOf 15 r m)) in
-      let rest : List ℕ → ℕ → ℕ → Parse Rung = λ r m l. bind (followed r 62 (frontOf 15 r m)) (λ m f. tail r l f m) in
+      let tail : List ℕ → ℕ → Front → ℕ → Parse Rung = λ r l f m. mapP (rung l f) (followed r 10 (rearOf mostBrackets r m)) in
+      let rest : List ℕ → ℕ → ℕ → Parse Rung = λ r m l. bind (followed r 62 (frontOf mostBrackets r m)) (λ m f. tail r l f m) in
       let tail-ahead : (l : ℕ) (f : Front) (m : ℕ) → m ≤ reach (tail s l f m) = λ l f m.
-      let x = map-reach (rung l f) (followed s 10 (rearOf 15 s m)) in
-      let y = followed-reach s 10 (rearOf 15 s m) in
-      let z = fits-reach (rear-fits s 15 m) in
+      let x = map-reach (rung l f) (followed s 10 (rearOf mostBrackets s m)) in
+      let y = followed-reach s 10 (rearOf mostBrackets s m) in
+      let z = fits-reach (rear-fits s mostBrackets m) in
       omega arith in
       let rest-ahead : (m l : ℕ) → m ≤ reach (rest s m l) = λ m l.
-      let x = bind-reach (followed s 62 (frontOf 15 s m)) (λ m f. tail s l f m) (λ m f. tail-ahead l f m) in
-      let y = followed-reach s 62 (frontOf 15 s m) in
-      let z = fits-reach (front-fits s 15 m) in
+      let x = bind-reach (followed s 62 (frontOf mostBrackets s m)) (λ m f. tail s l f m) (λ m f. tail-ahead l f m) in
+      let y = followed-reach s 62 (frontOf mostBrackets s m) in
+      let z = fits-reach (front-fits s mostBrackets m) in
       omega arith in
-      same-bind (followed s 58 (numberOf s at)) (followed t 58 (numberOf t at)) (rest s) (rest t) (same-followed 58 (numberOf s at) (numberOf t at) (number-same at)) rest-ahead
-      (λ m l e a. same-bind (followed s 62 (frontOf 15 s m)) (followed t 62 (frontOf 15 t m)) (λ m f. tail s l f m) (λ m f. tail t l f m)
-      (same-followed 62 (frontOf 15 s m) (frontOf 15 t m) (front-same 15 m)) (λ m f. tail-ahead l f m)
+      same-bind (followed s 58 (numeralOf s at)) (followed t 58 (numeralOf t at)) (rest s) (rest t) (same-followed 58 (numeralOf s at) (numeralOf t at) (number-same at)) rest-ahead
+      (λ m l e a. same-bind (followed s 62 (frontOf mostBrackets s m)) (followed t 62 (frontOf mostBrackets t m)) (λ m f. tail s l f m) (λ m f. tail t l f m)
+      (same-followed 62 (frontOf mostBrackets s m) (frontOf mostBrackets t m) (front-same mostBrackets m)) (λ m f. tail-ahead l f m)
       (λ i f e a.
-      let x = followed-read s 62 (frontOf 15 s m) i f e in
+      let x = followed-read s 62 (frontOf mostBrackets s m) i f e in
       let u = past-both (x .0) 62 (x .3) (omega arith) (alike-down (x .0) (omega (arith, x .2)) a) in
-      same-map (rung l f) (followed s 10 (rearOf 15 s i)) (followed t 10 (rearOf 15 t i))
-      (same-followed 10 (rearOf 15 s i) (rearOf 15 t i) (rear-same 15 (end-same 15) i (omega (arith, x .2, u .0)) (omega (arith, x .2, u .1))))))
+      same-map (rung l f) (followed s 10 (rearOf mostBrackets s i)) (followed t 10 (rearOf mostBrackets t i))
+      (same-followed 10 (rearOf mostBrackets s i) (rearOf mostBrackets t i) (rear-same mostBrackets (end-same mostBrackets) i (omega (arith, x .2, u .0)) (omega (arith, x .2, u .1))))))
 
   line-ahead : (at m : ℕ) (g : Rung) → lineOf s at ≡ read m g → at < m
   line-ahead at m g e = go (subst (Fits IsLine s at) e (line-fits s at))

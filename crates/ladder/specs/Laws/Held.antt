@@ -7,8 +7,7 @@ use mathlib.Core.Option.{some}
 use mathlib.Core.List.{List, [], _∷_, flatMap}
 use lib.ListN.{length, getD, take, drop, length-map, take-append-drop}
 use Rattle.questions.specs.Laws.Tests.{all-head, all-second}
-use Rattle.rungs.specs.Records.{rowOf}
-use Rattle.rungs.specs.Records.{labels as recordLabels, offsets}
+use Rattle.rungs.specs.Records.{rowOf, labels as recordLabels, offsets}
 use Rattle.rungs.specs.Laws.Rows.{Even, row-even, row-labels, row-offsets}
 use Rattle.rungs.specs.Laws.Layout.{lay-length, lay-labels, sizes, offset-at, drop-pieces}
 use Rattle.drawing.specs.Tree.{Rung, Ladder, rungAll}

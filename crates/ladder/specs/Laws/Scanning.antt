@@ -6,12 +6,12 @@ use native.Mathlib.Omega.{arith}
 use mathlib.Core.Path.{_≡_, refl, sym, ap, _∙_}
 use mathlib.Core.List.{List, [], _∷_}
 use lib.ListN.{length, getD, drop, drop-of-length-le}
-use Rattle.table.specs.State.{State}
+use Rattle.table.specs.State.{State, withBytes}
 use Rattle.table.specs.Halt.{Ended, Stopped}
 use Rattle.rungs.specs.Records.{search}
 use Rattle.drawing.specs.Tree.{Rung, Ladder}
-use Rattle.drawing.specs.Meaning.{Run, left, runRung, from, follow, LadderScan, scanFrom, scanLadder}
-use Rattle.ladder.specs.LadderScan.{scanEnds, answerOf}
+use Rattle.drawing.specs.Meaning.{Run, left, runRung, from, follow, LadderResult, scanFrom, scanLadder}
+use Rattle.ladder.specs.LadderScan.{scanEnds, ladderScannedAnswer}
 use Rattle.ladder.specs.Walking.{RungRun, runOf}
 use Rattle.ladder.specs.Held.{LadderHeld}
 use Rattle.ladder.specs.Scanned.{Scanned}
@@ -34,74 +34,74 @@ scan-past gs rest n k g s x e = scan-step gs rest n k g s ∙ ap (λ y. scanFrom
 -- ---- the loop's invariant
 
 pub record Scanning (ws ls os t : List ℕ) (w : ℕ) (u : List ℕ) (entered rung : ℕ) : Type 0 where
-  pub same : (gs : Ladder) → LadderHeld ws ls os gs → (vars : ℕ)
-      → scanFrom gs (w - entered) entered (drop rung gs) (record { vars = vars; bytes = u }) ≡ scanLadder gs w (record { vars = vars; bytes = t })
+  pub same : (gs : Ladder) → LadderHeld ws ls os gs → (s : State)
+      → scanFrom gs (w - entered) entered (drop rung gs) (withBytes s u) ≡ scanLadder gs w (withBytes s t)
   pub within : entered ≤ w
   pub long : length u ≡ length t
 
 pub scanning-first : (ws ls os t : List ℕ) (w : ℕ) → Scanning ws ls os t w t 0 0
 unfolding scanLadder
-scanning-first ws ls os t w = record { same = λ gs held vars. rw sub-zero refl; within = omega arith; long = refl }
+scanning-first ws ls os t w = record { same = λ gs held s. rw sub-zero refl; within = omega arith; long = refl }
 
-module _ (ws ls os t : List ℕ) (w : ℕ) (u : List ℕ) (entered rung : ℕ) (s : Scanning ws ls os t w u entered rung) where
-  done : (gs : Ladder) → LadderHeld ws ls os gs → (vars : ℕ) (x : LadderScan)
-      → scanFrom gs (w - entered) entered (drop rung gs) (record { vars = vars; bytes = u }) ≡ x → x ≡ scanLadder gs w (record { vars = vars; bytes = t })
-  done gs held vars x e = sym e ∙ s .same gs held vars
+module _ (ws ls os t : List ℕ) (w : ℕ) (u : List ℕ) (entered rung : ℕ) (inv : Scanning ws ls os t w u entered rung) where
+  done : (gs : Ladder) → LadderHeld ws ls os gs → (s : State) (x : LadderResult)
+      → scanFrom gs (w - entered) entered (drop rung gs) (withBytes s u) ≡ x → x ≡ scanLadder gs w (withBytes s t)
+  done gs held s x e = sym e ∙ inv .same gs held s
 
   pub scan-ended : length ls ≤ rung → Scanned ws ls os t w (EndedCase (record { rungs = entered })) u
-  unfolding scanFrom scanEnds answerOf
+  unfolding scanFrom scanEnds ladderScannedAnswer
   scan-ended h = record {
-    same = λ gs held vars.
+    same = λ gs held s.
         let m = many ws ls os gs held in
         let none : drop rung gs ≡ [] = drop-of-length-le gs {i = rung} (omega arith) in
-        let e = done gs held vars (record { halt = Ended; rungs = entered; state = record { vars = vars; bytes = u } }) (rw none (over gs vars (w - entered))) in
+        let e = done gs held s (record { halt = Ended; rungs = entered; state = withBytes s u }) (rw none (over gs s (w - entered))) in
         record { answer = ap (λ x. scanEnds x .answer) e; same-table = ap (λ x. scanEnds x .table) e };
   }
     where
-      over : (gs : Ladder) (vars n : ℕ) → scanFrom gs n entered [] (record { vars = vars; bytes = u }) ≡ record { halt = Ended; rungs = entered; state = record { vars = vars; bytes = u } }
-      over gs vars zero = refl
-      over gs vars (suc n) = refl
+      over : (gs : Ladder) (s : State) (n : ℕ) → scanFrom gs n entered [] (withBytes s u) ≡ record { halt = Ended; rungs = entered; state = withBytes s u }
+      over gs s zero = refl
+      over gs s (suc n) = refl
 
   pub scan-stopped : rung < length ls → entered ≡ w → Scanned ws ls os t w (StoppedCase (record { rungs = entered })) u
-  unfolding scanFrom scanEnds answerOf
+  unfolding scanFrom scanEnds ladderScannedAnswer
   scan-stopped h z = record {
-    same = λ gs held vars.
+    same = λ gs held s.
         let m = many ws ls os gs held in
         let a = apart gs rung (omega arith) in
         let n : w - entered ≡ 0 = omega arith in
-        let e = done gs held vars (record { halt = Stopped; rungs = entered; state = record { vars = vars; bytes = u } }) (rw (n, a .here) refl) in
+        let e = done gs held s (record { halt = Stopped; rungs = entered; state = withBytes s u }) (rw (n, a .here) refl) in
         record { answer = ap (λ x. scanEnds x .answer) e; same-table = ap (λ x. scanEnds x .table) e };
   }
 
   module _ (h : rung < length ls) (z : entered ≡ w → ⊥) (start : ℕ) (at : start ≡ getD os rung 0) (r : Ran) (v : List ℕ) (run : RungRun ws start u r v) (stays : length v ≡ length u) where
     -- the scan after the rung
-    after : (gs : Ladder) → LadderHeld ws ls os gs → (vars : ℕ)
-        → scanFrom gs (w - (entered + 1)) (entered + 1) (follow gs (drop (suc rung) gs) (runOf r (record { vars = vars; bytes = v }))) (left (runOf r (record { vars = vars; bytes = v })))
-        ≡ scanLadder gs w (record { vars = vars; bytes = t })
-    after gs held vars =
+    after : (gs : Ladder) → LadderHeld ws ls os gs → (s : State)
+        → scanFrom gs (w - (entered + 1)) (entered + 1) (follow gs (drop (suc rung) gs) (runOf r (withBytes s v))) (left (runOf r (withBytes s v)))
+        ≡ scanLadder gs w (withBytes s t)
+    after gs held s =
         let m = many ws ls os gs held in
         let a = apart gs rung (omega arith) in
-        let d = run .done (a .rung) (rw at (rung-at ws ls os gs held rung (omega arith) a)) .same vars in
-        let b = s .within in
+        let d = run .done (a .rung) (rw at (rung-at ws ls os gs held rung (omega arith) a)) .same s in
+        let b = inv .within in
         let n : w - entered ≡ suc (w - (entered + 1)) = omega arith in
-        sym (ap (λ n. scanFrom gs n entered (drop rung gs) (record { vars = vars; bytes = u })) n
-        ∙ ap (λ l. scanFrom gs (suc (w - (entered + 1))) entered l (record { vars = vars; bytes = u })) (a .here)
-        ∙ scan-past gs (drop (suc rung) gs) (w - (entered + 1)) entered (a .rung) (record { vars = vars; bytes = u }) (runOf r (record { vars = vars; bytes = v })) d)
-        ∙ s .same gs held vars
+        sym (ap (λ n. scanFrom gs n entered (drop rung gs) (withBytes s u)) n
+        ∙ ap (λ l. scanFrom gs (suc (w - (entered + 1))) entered l (withBytes s u)) (a .here)
+        ∙ scan-past gs (drop (suc rung) gs) (w - (entered + 1)) entered (a .rung) (withBytes s u) (runOf r (withBytes s v)) d)
+        ∙ inv .same gs held s
 
     pub scan-onward : (n : ℕ) → r ≡ Onward n → Scanning ws ls os t w v (entered + 1) (rung + 1)
     unfolding runOf follow left
-    scan-onward n q = let b = s .within in record {
-      same = λ gs held vars. ap (λ k. scanFrom gs (w - (entered + 1)) (entered + 1) (drop k gs) (record { vars = vars; bytes = v })) (add-one rung)
-          ∙ (rw q at (after gs held vars));
+    scan-onward n q = let b = inv .within in record {
+      same = λ gs held s. ap (λ k. scanFrom gs (w - (entered + 1)) (entered + 1) (drop k gs) (withBytes s v)) (add-one rung)
+          ∙ (rw q at (after gs held s));
       within = omega arith;
-      long = stays ∙ s .long;
+      long = stays ∙ inv .long;
     }
 
     pub scan-jumped : (l found : ℕ) → r ≡ Jumped l → found ≡ search l ls → Scanning ws ls os t w v (entered + 1) found
     unfolding runOf follow left from
-    scan-jumped l found q f = let b = s .within in record {
-      same = λ gs held vars. rw (f, held .same-labels) (rw q at (after gs held vars));
+    scan-jumped l found q f = let b = inv .within in record {
+      same = λ gs held s. rw (f, held .same-labels) (rw q at (after gs held s));
       within = omega arith;
-      long = stays ∙ s .long;
+      long = stays ∙ inv .long;
     }

@@ -1,18 +1,21 @@
--- The tree whose words begin at a position is known by the kind of the word there: a law for each kind, and one for no kind. Assumes nothing.
+-- The tree whose words begin at a position is known by the kind of the word there: a law for each sort of kind, and one for no front and no rear.
+-- Assumes nothing.
 use Prim.Native.Nat.{ℕ, _+_, _≤_, _<_}
 use native.Mathlib.Nat.{add-zero}
 use native.Mathlib.Omega.{arith}
 use native.Mathlib.Decide.{decLe}
-use mathlib.Core.Path.{_≡_, sym, ap, _∙_}
+use mathlib.Core.Path.{_≡_, refl, sym, ap, subst, _∙_}
+use mathlib.Core.Bool.{Bool, true, false, true≢false}
 use mathlib.Core.List.{List, _∷_, _++_, append-assoc}
-use lib.Dec.{T, ltb, ltb→lt}
+use lib.Dec.{T, ltb→lt}
 use lib.ListN.{length, drop, getD, List·getD-eq-default}
 use lib.Seq.{drop-append-seam, drop-drop, getD-drop}
 use mir.Facts.{and-yes}
-use Rattle.rungs.specs.Words.{operands, word, numberOf, operandOf}
-use Rattle.drawing.specs.Tree.{Input, contact, contactn, Front, input, frontAnd, frontOr, Output, coil, coiln, jump, jumpn, Rear, output, rearAnd, rearOr, Rung, frontAll, rearAll, rungAll}
-use Rattle.drawing.specs.Kept.{inputWord, outputWord, frontWords, rearWords, rungWords, inputFits, outputFits}
+use Rattle.rungs.specs.Words.{operands, word, numberOf, operandOf, isOperand}
+use Rattle.drawing.specs.Tree.{Input, contact, contactn, Front, input, frontAnd, frontOr, Output, coil, coiln, jump, jumpn, Rear, output, rearAnd, rearOr, Rung, inputVariable, outputNames, number, frontAll, rearAll, rungAll}
+use Rattle.drawing.specs.Kept.{inputKind, outputKind, inputWord, outputWord, KindSort, contactSort, joinedSort, outputSort, rearAndSort, rearOrSort, noSort, kindSorts, kindSort, frontWords, rearWords, rungWords, inputFits, outputFits}
 use Rattle.ladder.specs.Held.{FrontAt, RearAt, RungAt}
+use Rattle.ladder.specs.Walking.{frontKind, rearKind}
 
 -- ---- words from a position on
 
@@ -31,43 +34,90 @@ first-part ws xs ys rest at w e = after-head ws _ at w e ∙ append-assoc xs ys 
 second-part : (ws xs ys rest : List ℕ) (at w : ℕ) → drop at ws ≡ w ∷ ((xs ++ ys) ++ rest) → drop (at + 1 + length xs) ws ≡ ys ++ rest
 second-part ws xs ys rest at w e = after ws xs (ys ++ rest) (at + 1) (first-part ws xs ys rest at w e)
 
--- a word of some kind is none past the end
-pub inside : (ws : List ℕ) (at w : ℕ) → w ≡ getD ws at 0 → 1 ≤ numberOf w → at < length ws
-inside ws at w e h = go (decLe (length ws) at)
+-- past the end stands the word 0, which is of no kind
+pub inside : (ws : List ℕ) (at w : ℕ) → w ≡ getD ws at 0 → (numberOf w ≡ 0 → ⊥) → at < length ws
+inside ws at w e n = go (decLe (length ws) at)
   where
     go : Dec (length ws ≤ at) → at < length ws
-    go (yes l) = let z = List·getD-eq-default ws 0 l in absurd (omega arith)
-    go (no n) = omega arith
+    go (yes l) = let z : w ≡ 0 = e ∙ List·getD-eq-default ws 0 l in absurd (n (rw z refl))
+    go (no m) = omega arith
+
+pub inside-sort : (ws : List ℕ) (at w : ℕ) → w ≡ getD ws at 0 → (s : KindSort) → kindSort (numberOf w) ≡ s → (s ≡ noSort → ⊥) → at < length ws
+unfolding kindSort kindSorts
+inside-sort ws at w e s k n = inside ws at w e (λ z. n (sym k ∙ rw z refl))
 
 -- ---- a tree's root
 
-abbrev frontKind : Front → ℕ
-frontKind (input (contact v)) = 1
-frontKind (input (contactn v)) = 2
-frontKind (frontAnd f g) = 3
-frontKind (frontOr f g) = 4
+-- the sort of a tree's first word
+abbrev frontSort : Front → KindSort
+frontSort (input i) = contactSort
+frontSort (frontAnd f g) = joinedSort
+frontSort (frontOr f g) = joinedSort
 
-abbrev frontOperand : Front → ℕ
-frontOperand (input (contact v)) = v
-frontOperand (input (contactn v)) = v
-frontOperand (frontAnd f g) = 0
-frontOperand (frontOr f g) = 0
+abbrev rearSort : Rear → KindSort
+rearSort (output o) = outputSort
+rearSort (rearAnd f r) = rearAndSort
+rearSort (rearOr a b) = rearOrSort
 
-abbrev rearKind : Rear → ℕ
-rearKind (output (coil v)) = 5
-rearKind (output (coiln v)) = 6
-rearKind (output (jump l)) = 7
-rearKind (output (jumpn l)) = 8
-rearKind (rearAnd f r) = 9
-rearKind (rearOr a b) = 10
+front-kind-sort : (f : Front) → kindSort (frontKind f) ≡ frontSort f
+unfolding kindSort kindSorts inputKind
+front-kind-sort (input (contact v)) = refl
+front-kind-sort (input (contactn v)) = refl
+front-kind-sort (frontAnd f g) = refl
+front-kind-sort (frontOr f g) = refl
 
-abbrev rearOperand : Rear → ℕ
-rearOperand (output (coil v)) = v
-rearOperand (output (coiln v)) = v
-rearOperand (output (jump l)) = l
-rearOperand (output (jumpn l)) = l
-rearOperand (rearAnd f r) = 0
-rearOperand (rearOr a b) = 0
+rear-kind-sort : (r : Rear) → kindSort (rearKind r) ≡ rearSort r
+unfolding kindSort kindSorts outputKind
+rear-kind-sort (output (coil v)) = refl
+rear-kind-sort (output (coiln v)) = refl
+rear-kind-sort (output (jump l)) = refl
+rear-kind-sort (output (jumpn l)) = refl
+rear-kind-sort (rearAnd f r) = refl
+rear-kind-sort (rearOr a b) = refl
+
+-- kind and operand tell an input, and an output
+same-input : (i j : Input) → inputKind i ≡ inputKind j → inputVariable i ≡ inputVariable j → i ≡ j
+unfolding inputKind inputVariable
+same-input (contact v) (contact u) k o = ap contact o
+same-input (contact v) (contactn u) k o = absurd (omega arith)
+same-input (contactn v) (contact u) k o = absurd (omega arith)
+same-input (contactn v) (contactn u) k o = ap contactn o
+
+same-output : (p q : Output) → outputKind p ≡ outputKind q → number (outputNames p) ≡ number (outputNames q) → p ≡ q
+unfolding outputKind outputNames number
+same-output (coil v) (coil u) k o = ap coil o
+same-output (coil v) (coiln u) k o = absurd (omega arith)
+same-output (coil v) (jump u) k o = absurd (omega arith)
+same-output (coil v) (jumpn u) k o = absurd (omega arith)
+same-output (coiln v) (coil u) k o = absurd (omega arith)
+same-output (coiln v) (coiln u) k o = ap coiln o
+same-output (coiln v) (jump u) k o = absurd (omega arith)
+same-output (coiln v) (jumpn u) k o = absurd (omega arith)
+same-output (jump v) (coil u) k o = absurd (omega arith)
+same-output (jump v) (coiln u) k o = absurd (omega arith)
+same-output (jump v) (jump u) k o = ap jump o
+same-output (jump v) (jumpn u) k o = absurd (omega arith)
+same-output (jumpn v) (coil u) k o = absurd (omega arith)
+same-output (jumpn v) (coiln u) k o = absurd (omega arith)
+same-output (jumpn v) (jump u) k o = absurd (omega arith)
+same-output (jumpn v) (jumpn u) k o = ap jumpn o
+
+-- whether a front begins with a word of a sort, and whether a rear does
+abbrev pub startsFront : KindSort → Bool
+startsFront contactSort = true
+startsFront joinedSort = true
+startsFront outputSort = false
+startsFront rearAndSort = false
+startsFront rearOrSort = false
+startsFront noSort = false
+
+abbrev pub startsRear : KindSort → Bool
+startsRear contactSort = false
+startsRear joinedSort = false
+startsRear outputSort = true
+startsRear rearAndSort = true
+startsRear rearOrSort = true
+startsRear noSort = false
 
 -- what a word says of the tree that begins with it
 record Root (w k o : ℕ) : Type 0 where
@@ -75,160 +125,118 @@ record Root (w k o : ℕ) : Type 0 where
   operand : operandOf w ≡ o
 
 module _ (ws : List ℕ) (at w : ℕ) (e : w ≡ getD ws at 0) where
-  root : (k o : ℕ) (xs : List ℕ) → T (ltb o operands) → drop at ws ≡ word k o ∷ xs → Root w k o
+  root : (k o : ℕ) (xs : List ℕ) → T (isOperand o) → drop at ws ≡ word k o ∷ xs → Root w k o
   root k o xs h d =
       let l = ltb→lt o operands h in
       let q = head-is ws xs at (word k o) d in
       record { kind = omega arith; operand = omega arith }
 
-  front-root : (f : Front) → FrontAt ws at f → Root w (frontKind f) (frontOperand f)
+  input-root : (i : Input) → FrontAt ws at (input i) → Root w (inputKind i) (inputVariable i)
   unfolding frontWords inputWord frontAll inputFits
-  front-root (input (contact v)) s = root 1 v _ (s .fits) (s .words)
-  front-root (input (contactn v)) s = root 2 v _ (s .fits) (s .words)
-  front-root (frontAnd f g) s = root 3 0 _ tt (s .words)
-  front-root (frontOr f g) s = root 4 0 _ tt (s .words)
+  input-root i s = root (inputKind i) (inputVariable i) _ (s .fits) (s .words)
 
-  rear-root : (r : Rear) → RearAt ws at r → Root w (rearKind r) (rearOperand r)
+  output-root : (o : Output) → RearAt ws at (output o) → Root w (outputKind o) (number (outputNames o))
   unfolding rearWords outputWord rearAll outputFits
-  rear-root (output (coil v)) s = root 5 v _ (s .fits) (s .words)
-  rear-root (output (coiln v)) s = root 6 v _ (s .fits) (s .words)
-  rear-root (output (jump l)) s = root 7 l _ (s .fits) (s .words)
-  rear-root (output (jumpn l)) s = root 8 l _ (s .fits) (s .words)
-  rear-root (rearAnd f r) s = root 9 0 _ tt (s .words)
-  rear-root (rearOr a b) s = root 10 0 _ tt (s .words)
+  output-root o s = root (outputKind o) (number (outputNames o)) _ (s .fits) (s .words)
+
+  front-root : (f : Front) → FrontAt ws at f → numberOf w ≡ frontKind f
+  unfolding frontWords
+  front-root (input i) s = input-root i s .kind
+  front-root (frontAnd f g) s = root (frontKind (frontAnd f g)) 0 _ tt (s .words) .kind
+  front-root (frontOr f g) s = root (frontKind (frontOr f g)) 0 _ tt (s .words) .kind
+
+  rear-root : (r : Rear) → RearAt ws at r → numberOf w ≡ rearKind r
+  unfolding rearWords
+  rear-root (output o) s = output-root o s .kind
+  rear-root (rearAnd f r) s = root (rearKind (rearAnd f r)) 0 _ tt (s .words) .kind
+  rear-root (rearOr a b) s = root (rearKind (rearOr a b)) 0 _ tt (s .words) .kind
 
   -- ---- what holds of a front, from its word's kind
   module _ (P : Front → Type 0) where
-    pub contact-only : numberOf w ≡ 1 → P (input (contact (operandOf w))) → (f : Front) → FrontAt ws at f → P f
-    contact-only k p (input (contact v)) s = rw (front-root (input (contact v)) s .operand) at p
-    contact-only k p (input (contactn v)) s = let q = front-root (input (contactn v)) s .kind in absurd (omega arith)
-    contact-only k p (frontAnd f g) s = let q = front-root (frontAnd f g) s .kind in absurd (omega arith)
-    contact-only k p (frontOr f g) s = let q = front-root (frontOr f g) s .kind in absurd (omega arith)
+    abbrev Parts : (Front → Front → Front) → Type 0
+    Parts make = (f g : Front) → numberOf w ≡ frontKind (make f g) → FrontAt ws (at + 1) f → FrontAt ws (at + 1 + length (frontWords f)) g → P (make f g)
 
-    pub contactn-only : numberOf w ≡ 2 → P (input (contactn (operandOf w))) → (f : Front) → FrontAt ws at f → P f
-    contactn-only k p (input (contactn v)) s = rw (front-root (input (contactn v)) s .operand) at p
-    contactn-only k p (input (contact v)) s = let q = front-root (input (contact v)) s .kind in absurd (omega arith)
-    contactn-only k p (frontAnd f g) s = let q = front-root (frontAnd f g) s .kind in absurd (omega arith)
-    contactn-only k p (frontOr f g) s = let q = front-root (frontOr f g) s .kind in absurd (omega arith)
-
-    pub and-only : numberOf w ≡ 3 → ((f g : Front) → FrontAt ws (at + 1) f → FrontAt ws (at + 1 + length (frontWords f)) g → P (frontAnd f g))
+    pub front-cases : ((i : Input) → numberOf w ≡ inputKind i → operandOf w ≡ inputVariable i → P (input i)) → Parts frontAnd → Parts frontOr
         → (f : Front) → FrontAt ws at f → P f
     unfolding frontWords frontAll
-    and-only k p (frontAnd f g) s =
+    front-cases inputs ands ors (input i) s = let q = input-root i s in inputs i (q .kind) (q .operand)
+    front-cases inputs ands ors (frontAnd f g) s =
         let b = and-yes (frontAll inputFits f) (frontAll inputFits g) (s .fits) in
-        p f g
+        ands f g (front-root (frontAnd f g) s)
         (record { fits = b .0; rest = _; words = first-part ws (frontWords f) (frontWords g) (s .rest) at _ (s .words) })
         (record { fits = b .1; rest = s .rest; words = second-part ws (frontWords f) (frontWords g) (s .rest) at _ (s .words) })
-    and-only k p (input (contact v)) s = let q = front-root (input (contact v)) s .kind in absurd (omega arith)
-    and-only k p (input (contactn v)) s = let q = front-root (input (contactn v)) s .kind in absurd (omega arith)
-    and-only k p (frontOr f g) s = let q = front-root (frontOr f g) s .kind in absurd (omega arith)
-
-    pub or-only : numberOf w ≡ 4 → ((f g : Front) → FrontAt ws (at + 1) f → FrontAt ws (at + 1 + length (frontWords f)) g → P (frontOr f g))
-        → (f : Front) → FrontAt ws at f → P f
-    unfolding frontWords frontAll
-    or-only k p (frontOr f g) s =
+    front-cases inputs ands ors (frontOr f g) s =
         let b = and-yes (frontAll inputFits f) (frontAll inputFits g) (s .fits) in
-        p f g
+        ors f g (front-root (frontOr f g) s)
         (record { fits = b .0; rest = _; words = first-part ws (frontWords f) (frontWords g) (s .rest) at _ (s .words) })
         (record { fits = b .1; rest = s .rest; words = second-part ws (frontWords f) (frontWords g) (s .rest) at _ (s .words) })
-    or-only k p (input (contact v)) s = let q = front-root (input (contact v)) s .kind in absurd (omega arith)
-    or-only k p (input (contactn v)) s = let q = front-root (input (contactn v)) s .kind in absurd (omega arith)
-    or-only k p (frontAnd f g) s = let q = front-root (frontAnd f g) s .kind in absurd (omega arith)
 
-    pub input-only : numberOf w < 3 → ((i : Input) → P (input i)) → (f : Front) → FrontAt ws at f → P f
-    input-only k p (input i) s = p i
-    input-only k p (frontAnd f g) s = let q = front-root (frontAnd f g) s .kind in absurd (omega arith)
-    input-only k p (frontOr f g) s = let q = front-root (frontOr f g) s .kind in absurd (omega arith)
+    -- a front whose sort the word does not have
+    other-front : (f : Front) → numberOf w ≡ frontKind f → (kindSort (numberOf w) ≡ frontSort f → ⊥) → P f
+    other-front f k n = absurd (n (ap kindSort k ∙ front-kind-sort f))
 
-    pub parts-only : (1 ≤ numberOf w → numberOf w < 3 → ⊥)
-        → ((f g : Front) → FrontAt ws (at + 1) f → FrontAt ws (at + 1 + length (frontWords f)) g → P (frontAnd f g))
-        → ((f g : Front) → FrontAt ws (at + 1) f → FrontAt ws (at + 1 + length (frontWords f)) g → P (frontOr f g))
+    pub input-only : kindSort (numberOf w) ≡ contactSort → ((i : Input) → numberOf w ≡ inputKind i → operandOf w ≡ inputVariable i → P (input i))
         → (f : Front) → FrontAt ws at f → P f
-    parts-only k p r (input (contact v)) s = let q = front-root (input (contact v)) s .kind in absurd (k (omega arith) (omega arith))
-    parts-only k p r (input (contactn v)) s = let q = front-root (input (contactn v)) s .kind in absurd (k (omega arith) (omega arith))
-    parts-only k p r (frontAnd f g) s = and-only (front-root (frontAnd f g) s .kind) p (frontAnd f g) s
-    parts-only k p r (frontOr f g) s = or-only (front-root (frontOr f g) s .kind) r (frontOr f g) s
+    input-only k p = front-cases p
+        (λ f g q sf sg. other-front (frontAnd f g) q (λ z. let n : _≡_ {A = ℕ} 0 1 = cc in omega arith))
+        (λ f g q sf sg. other-front (frontOr f g) q (λ z. let n : _≡_ {A = ℕ} 0 1 = cc in omega arith))
 
-    pub no-front : (1 ≤ numberOf w → numberOf w < 5 → ⊥) → (f : Front) → FrontAt ws at f → P f
-    no-front k (input (contact v)) s = let q = front-root (input (contact v)) s .kind in absurd (k (omega arith) (omega arith))
-    no-front k (input (contactn v)) s = let q = front-root (input (contactn v)) s .kind in absurd (k (omega arith) (omega arith))
-    no-front k (frontAnd f g) s = let q = front-root (frontAnd f g) s .kind in absurd (k (omega arith) (omega arith))
-    no-front k (frontOr f g) s = let q = front-root (frontOr f g) s .kind in absurd (k (omega arith) (omega arith))
+    pub that-input : (i : Input) → numberOf w ≡ inputKind i → operandOf w ≡ inputVariable i → P (input i) → (f : Front) → FrontAt ws at f → P f
+    that-input i k v p =
+        input-only (ap kindSort k ∙ front-kind-sort (input i)) (λ j l u. subst (λ (x : Input). P (input x)) (same-input i j (sym k ∙ l) (sym v ∙ u)) p)
+
+    pub parts-only : (kindSort (numberOf w) ≡ contactSort → ⊥) → Parts frontAnd → Parts frontOr → (f : Front) → FrontAt ws at f → P f
+    parts-only n ands ors = front-cases (λ i q o. other-front (input i) q n) ands ors
+
+    pub no-front : startsFront (kindSort (numberOf w)) ≡ false → (f : Front) → FrontAt ws at f → P f
+    no-front n = front-cases (λ i q o. other-front (input i) q (λ z. true≢false (sym (ap startsFront z) ∙ n)))
+        (λ f g q sf sg. other-front (frontAnd f g) q (λ z. true≢false (sym (ap startsFront z) ∙ n)))
+        (λ f g q sf sg. other-front (frontOr f g) q (λ z. true≢false (sym (ap startsFront z) ∙ n)))
 
   -- ---- and of a rear
   module _ (P : Rear → Type 0) where
-    pub coil-only : numberOf w ≡ 5 → P (output (coil (operandOf w))) → (r : Rear) → RearAt ws at r → P r
-    coil-only k p (output (coil v)) s = rw (rear-root (output (coil v)) s .operand) at p
-    coil-only k p (output (coiln v)) s = let q = rear-root (output (coiln v)) s .kind in absurd (omega arith)
-    coil-only k p (output (jump l)) s = let q = rear-root (output (jump l)) s .kind in absurd (omega arith)
-    coil-only k p (output (jumpn l)) s = let q = rear-root (output (jumpn l)) s .kind in absurd (omega arith)
-    coil-only k p (rearAnd f r) s = let q = rear-root (rearAnd f r) s .kind in absurd (omega arith)
-    coil-only k p (rearOr a b) s = let q = rear-root (rearOr a b) s .kind in absurd (omega arith)
+    abbrev FrontAndRear : Type 0
+    FrontAndRear = (f : Front) (r : Rear) → numberOf w ≡ rearKind (rearAnd f r) → FrontAt ws (at + 1) f → RearAt ws (at + 1 + length (frontWords f)) r → P (rearAnd f r)
 
-    pub coiln-only : numberOf w ≡ 6 → P (output (coiln (operandOf w))) → (r : Rear) → RearAt ws at r → P r
-    coiln-only k p (output (coiln v)) s = rw (rear-root (output (coiln v)) s .operand) at p
-    coiln-only k p (output (coil v)) s = let q = rear-root (output (coil v)) s .kind in absurd (omega arith)
-    coiln-only k p (output (jump l)) s = let q = rear-root (output (jump l)) s .kind in absurd (omega arith)
-    coiln-only k p (output (jumpn l)) s = let q = rear-root (output (jumpn l)) s .kind in absurd (omega arith)
-    coiln-only k p (rearAnd f r) s = let q = rear-root (rearAnd f r) s .kind in absurd (omega arith)
-    coiln-only k p (rearOr a b) s = let q = rear-root (rearOr a b) s .kind in absurd (omega arith)
+    abbrev TwoRears : Type 0
+    TwoRears = (a b : Rear) → numberOf w ≡ rearKind (rearOr a b) → RearAt ws (at + 1) a → RearAt ws (at + 1 + length (rearWords a)) b → P (rearOr a b)
 
-    pub jump-only : numberOf w ≡ 7 → P (output (jump (operandOf w))) → (r : Rear) → RearAt ws at r → P r
-    jump-only k p (output (jump l)) s = rw (rear-root (output (jump l)) s .operand) at p
-    jump-only k p (output (coil v)) s = let q = rear-root (output (coil v)) s .kind in absurd (omega arith)
-    jump-only k p (output (coiln v)) s = let q = rear-root (output (coiln v)) s .kind in absurd (omega arith)
-    jump-only k p (output (jumpn l)) s = let q = rear-root (output (jumpn l)) s .kind in absurd (omega arith)
-    jump-only k p (rearAnd f r) s = let q = rear-root (rearAnd f r) s .kind in absurd (omega arith)
-    jump-only k p (rearOr a b) s = let q = rear-root (rearOr a b) s .kind in absurd (omega arith)
-
-    pub jumpn-only : numberOf w ≡ 8 → P (output (jumpn (operandOf w))) → (r : Rear) → RearAt ws at r → P r
-    jumpn-only k p (output (jumpn l)) s = rw (rear-root (output (jumpn l)) s .operand) at p
-    jumpn-only k p (output (coil v)) s = let q = rear-root (output (coil v)) s .kind in absurd (omega arith)
-    jumpn-only k p (output (coiln v)) s = let q = rear-root (output (coiln v)) s .kind in absurd (omega arith)
-    jumpn-only k p (output (jump l)) s = let q = rear-root (output (jump l)) s .kind in absurd (omega arith)
-    jumpn-only k p (rearAnd f r) s = let q = rear-root (rearAnd f r) s .kind in absurd (omega arith)
-    jumpn-only k p (rearOr a b) s = let q = rear-root (rearOr a b) s .kind in absurd (omega arith)
-
-    pub rear-and-only : numberOf w ≡ 9 → ((f : Front) (r : Rear) → FrontAt ws (at + 1) f → RearAt ws (at + 1 + length (frontWords f)) r → P (rearAnd f r))
+    pub rear-cases : ((o : Output) → numberOf w ≡ outputKind o → operandOf w ≡ number (outputNames o) → P (output o)) → FrontAndRear → TwoRears
         → (r : Rear) → RearAt ws at r → P r
     unfolding rearWords rearAll
-    rear-and-only k p (rearAnd f r) s =
+    rear-cases outputs ands ors (output o) s = let q = output-root o s in outputs o (q .kind) (q .operand)
+    rear-cases outputs ands ors (rearAnd f r) s =
         let h = and-yes (frontAll inputFits f) (rearAll inputFits outputFits r) (s .fits) in
-        p f r
+        ands f r (rear-root (rearAnd f r) s)
         (record { fits = h .0; rest = _; words = first-part ws (frontWords f) (rearWords r) (s .rest) at _ (s .words) })
         (record { fits = h .1; rest = s .rest; words = second-part ws (frontWords f) (rearWords r) (s .rest) at _ (s .words) })
-    rear-and-only k p (output (coil v)) s = let q = rear-root (output (coil v)) s .kind in absurd (omega arith)
-    rear-and-only k p (output (coiln v)) s = let q = rear-root (output (coiln v)) s .kind in absurd (omega arith)
-    rear-and-only k p (output (jump l)) s = let q = rear-root (output (jump l)) s .kind in absurd (omega arith)
-    rear-and-only k p (output (jumpn l)) s = let q = rear-root (output (jumpn l)) s .kind in absurd (omega arith)
-    rear-and-only k p (rearOr a b) s = let q = rear-root (rearOr a b) s .kind in absurd (omega arith)
-
-    pub rear-or-only : numberOf w ≡ 10 → ((a b : Rear) → RearAt ws (at + 1) a → RearAt ws (at + 1 + length (rearWords a)) b → P (rearOr a b))
-        → (r : Rear) → RearAt ws at r → P r
-    unfolding rearWords rearAll
-    rear-or-only k p (rearOr a b) s =
+    rear-cases outputs ands ors (rearOr a b) s =
         let h = and-yes (rearAll inputFits outputFits a) (rearAll inputFits outputFits b) (s .fits) in
-        p a b
+        ors a b (rear-root (rearOr a b) s)
         (record { fits = h .0; rest = _; words = first-part ws (rearWords a) (rearWords b) (s .rest) at _ (s .words) })
         (record { fits = h .1; rest = s .rest; words = second-part ws (rearWords a) (rearWords b) (s .rest) at _ (s .words) })
-    rear-or-only k p (output (coil v)) s = let q = rear-root (output (coil v)) s .kind in absurd (omega arith)
-    rear-or-only k p (output (coiln v)) s = let q = rear-root (output (coiln v)) s .kind in absurd (omega arith)
-    rear-or-only k p (output (jump l)) s = let q = rear-root (output (jump l)) s .kind in absurd (omega arith)
-    rear-or-only k p (output (jumpn l)) s = let q = rear-root (output (jumpn l)) s .kind in absurd (omega arith)
-    rear-or-only k p (rearAnd f r) s = let q = rear-root (rearAnd f r) s .kind in absurd (omega arith)
 
-    pub output-only : numberOf w < 9 → ((o : Output) → P (output o)) → (r : Rear) → RearAt ws at r → P r
-    output-only k p (output o) s = p o
-    output-only k p (rearAnd f r) s = let q = rear-root (rearAnd f r) s .kind in absurd (omega arith)
-    output-only k p (rearOr a b) s = let q = rear-root (rearOr a b) s .kind in absurd (omega arith)
+    other-rear : (r : Rear) → numberOf w ≡ rearKind r → (kindSort (numberOf w) ≡ rearSort r → ⊥) → P r
+    other-rear r k n = absurd (n (ap kindSort k ∙ rear-kind-sort r))
 
-    pub no-rear : (5 ≤ numberOf w → numberOf w < 11 → ⊥) → (r : Rear) → RearAt ws at r → P r
-    no-rear k (output (coil v)) s = let q = rear-root (output (coil v)) s .kind in absurd (k (omega arith) (omega arith))
-    no-rear k (output (coiln v)) s = let q = rear-root (output (coiln v)) s .kind in absurd (k (omega arith) (omega arith))
-    no-rear k (output (jump l)) s = let q = rear-root (output (jump l)) s .kind in absurd (k (omega arith) (omega arith))
-    no-rear k (output (jumpn l)) s = let q = rear-root (output (jumpn l)) s .kind in absurd (k (omega arith) (omega arith))
-    no-rear k (rearAnd f r) s = let q = rear-root (rearAnd f r) s .kind in absurd (k (omega arith) (omega arith))
-    no-rear k (rearOr a b) s = let q = rear-root (rearOr a b) s .kind in absurd (k (omega arith) (omega arith))
+    pub output-only : kindSort (numberOf w) ≡ outputSort → ((o : Output) → numberOf w ≡ outputKind o → operandOf w ≡ number (outputNames o) → P (output o))
+        → (r : Rear) → RearAt ws at r → P r
+    output-only k p = rear-cases p (λ f r q sf sr. other-rear (rearAnd f r) q (λ z. let n : _≡_ {A = ℕ} 0 1 = cc in omega arith)) (λ a b q sa sb. other-rear (rearOr a b) q (λ z. let n : _≡_ {A = ℕ} 0 1 = cc in omega arith))
+
+    pub that-output : (o : Output) → numberOf w ≡ outputKind o → operandOf w ≡ number (outputNames o) → P (output o) → (r : Rear) → RearAt ws at r → P r
+    that-output o k v p =
+        output-only (ap kindSort k ∙ rear-kind-sort (output o)) (λ j l u. subst (λ (x : Output). P (output x)) (same-output o j (sym k ∙ l) (sym v ∙ u)) p)
+
+    pub rear-and-only : kindSort (numberOf w) ≡ rearAndSort → FrontAndRear → (r : Rear) → RearAt ws at r → P r
+    rear-and-only k p = rear-cases (λ o q v. other-rear (output o) q (λ z. let n : _≡_ {A = ℕ} 0 1 = cc in omega arith)) p (λ a b q sa sb. other-rear (rearOr a b) q (λ z. let n : _≡_ {A = ℕ} 0 1 = cc in omega arith))
+
+    pub rear-or-only : kindSort (numberOf w) ≡ rearOrSort → TwoRears → (r : Rear) → RearAt ws at r → P r
+    rear-or-only k p = rear-cases (λ o q v. other-rear (output o) q (λ z. let n : _≡_ {A = ℕ} 0 1 = cc in omega arith)) (λ f r q sf sr. other-rear (rearAnd f r) q (λ z. let n : _≡_ {A = ℕ} 0 1 = cc in omega arith)) p
+
+    pub no-rear : startsRear (kindSort (numberOf w)) ≡ false → (r : Rear) → RearAt ws at r → P r
+    no-rear n = rear-cases (λ o q v. other-rear (output o) q (λ z. true≢false (sym (ap startsRear z) ∙ n)))
+        (λ f r q sf sr. other-rear (rearAnd f r) q (λ z. true≢false (sym (ap startsRear z) ∙ n)))
+        (λ a b q sa sb. other-rear (rearOr a b) q (λ z. true≢false (sym (ap startsRear z) ∙ n)))
 
 -- ---- rungs
 

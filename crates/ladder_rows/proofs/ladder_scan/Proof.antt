@@ -45,11 +45,12 @@ use denote.Triple.Table.{entered, cited}
 use denote.Triple.Walked.{says, Stays, stay-none-slice, stay-none, gave-slice, walkOf, goes-none-slice, goes-none, goes-gave-slice, Walks, ends-at, walked, walk-meets}
 use denote.Exit.{yes}
 use Rattle.rungs.specs.Records.{RungRecord}
-use Rattle.rows.specs.Rows.{recordsOf, gathered}
+use Rattle.rows.specs.Rows.{recordsOf}
+use Rattle.rows.specs.Parts.{gathered}
 use Rattle.rows.specs.declared.Rung.{Rung}
 use Rattle.rows.specs.declared.Rows.{Rows}
 use Rattle.questions.specs.declared.Verdict.{Verdict}
-use Rattle.ladder.specs.LadderScan.{ladderScan, LadderScanDone}
+use Rattle.ladder.specs.LadderScan.{callLadderScan, LadderScanDone}
 use Rattle.ladder.specs.declared.LadderScanned.{LadderScanned}
 use Rattle.rows.proofs.Rung as T
 use Rattle.rows.proofs.Rows as S
@@ -199,7 +200,7 @@ module _ {M : Type 1} (𝓤 : URA M) (H : Heap 𝓤) (A : Atoms 𝓤) (W : Given
   typed-scanned r v is = EL.lawful E.the-type E′.the-laws 𝓤 H A W tt .typed r _ is .0
 
   abbrev Done : LadderScanned → List ℕ → Type 0
-  Done r zs = LadderScanDone (ladderScan vars (record { words = words .now; records = rs }) ts watchdog) r zs
+  Done r zs = LadderScanDone (callLadderScan vars (record { words = words .now; records = rs }) ts watchdog) r zs
 
   exits : (r : LadderScanned) (w : Val) (zs : List ℕ) → Done r zs → length zs ≡ length ts → ent 𝓤 (⋆ 𝓤 H A (tokens ∷ ‵ Own-words ∷ ‵ Own-row ∷ ‵ (finally u8 γ zs) ∷ ‵ (E.the-row .own r (w ∷ [])) ∷ [])) (Post w)
   exits r w zs e l =

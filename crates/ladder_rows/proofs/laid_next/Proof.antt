@@ -1,13 +1,13 @@
 -- `ladder_rows::laid_next` meets its contract. One law for each return; a length is at most what is left of the words, so no sum wraps. Assumes nothing.
 use mathlib.Core.Path.{sym, _∙_}
 use borrow.Author.Tests.{not-true, not-false}
-use Rattle.ladder_rows.proofs.Long.{laid-broken, laid-off, laid-long, laid-wrong, laid-right}
+use Rattle.ladder_rows.proofs.Long.{laid-not-whole, laid-off, laid-long, laid-wrong, laid-right}
 use borrow.Author.Needs.{needs}
 use Rattle.ladder_rows.proofs.laid_next.Statement.{statement}
 use Rattle.ladder_rows.proofs.laid_next.Tie as tie
 
 returns : tie.Need-returns
-returns c = laid-broken _ _ _ (not-true _ (c .if1 .taken))
+returns c = laid-not-whole _ _ _ (not-true _ (c .if1 .taken))
 
 cast-if2 : tie.Need-cast-if2
 cast-if2 c = search needs

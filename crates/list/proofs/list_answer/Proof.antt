@@ -2,7 +2,7 @@
 use mathlib.Core.Path.{sym, _∙_}
 use borrow.Author.Needs.{needs}
 use borrow.Author.Tests.{not-true, not-false}
-use Rattle.list.proofs.Answers.{few-variables, refused-variables, refused-list, accepted-list}
+use Rattle.list.proofs.Answers.{refused-variables, refused-list, accepted-list}
 use Rattle.list.proofs.list_answer.Statement.{statement}
 use Rattle.list.proofs.list_answer.Tie as tie
 
@@ -13,7 +13,7 @@ returns : tie.Need-returns
 returns c = refused-variables _ _ _ (sym (c .before .vars-in-range .ensures) ∙ not-true _ (c .if1 .taken))
 
 list-in-range-requires : tie.Need-list-in-range-requires
-list-in-range-requires c κs = few-variables _ (sym (c .before .vars-in-range .ensures) ∙ not-false _ (c .if1 .left))
+list-in-range-requires c κs = search needs
 
 returns-2 : tie.Need-returns-2
 returns-2 c = refused-list _ _ _ (sym (c .before .before .before .vars-in-range .ensures) ∙ not-false _ (c .before .before .if1 .left)) (sym (c .before .list-in-range .ensures) ∙ not-true _ (c .if2 .taken))

@@ -6,8 +6,8 @@ use borrow.Author.Needs.{needs}
 use Rattle.list.proofs.list_scan.Statement.{statement}
 use Rattle.list.proofs.list_scan.Tie as tie
 
-scan-answer-requires : tie.Need-scan-answer-requires
-scan-answer-requires c κs = search needs
+scan-questions-requires : tie.Need-scan-questions-requires
+scan-questions-requires c κs = search needs
 
 enum-known-refusal : tie.Need-enum-known-refusal
 enum-known-refusal c = search needs
@@ -22,19 +22,19 @@ same-length : tie.Need-same-length
 same-length c = search needs
 
 returns : tie.Need-returns
-returns c = scan-refuses _ _ _ _ _ _ (verdict-refused _ (c .before .before .before .scan-answer .ensures) (c .before .refusal .given .1))
+returns c = scan-refuses _ _ _ _ _ _ (verdict-refused _ (c .before .before .before .scan-questions .ensures) (c .before .refusal .given .1))
 
 same-length-2 : tie.Need-same-length-2
 same-length-2 c = search needs
 
 returns-2 : tie.Need-returns-2
-returns-2 c = scanned-row _ _ _ _ _ _ _ _ _ (verdict-accepted (c .before .before .before .before .before .before .scan-answer .ensures) (c .before .before .before .before .enum-told .given .1)) (c .before .before .run .ensures)
+returns-2 c = scanned-row _ _ _ _ _ _ _ _ _ (verdict-accepted (c .before .before .before .before .before .before .scan-questions .ensures) (c .before .before .before .before .enum-told .given .1)) (c .before .before .run .ensures)
 
 pub list-scan-spec : {M : Type 1} → statement M
 list-scan-spec =
     tie.close
     (tie.spec
-    scan-answer-requires
+    scan-questions-requires
     enum-known-refusal
     enum-told
     run-requires

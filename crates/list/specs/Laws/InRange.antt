@@ -10,38 +10,39 @@ use lib.Dec.{T, leb, ltb, leb→le}
 use lib.ListN.{length, getD}
 use Rattle.questions.specs.Tests.{all}
 use Rattle.questions.specs.Laws.Tests.{all-head, all-tail}
-use Rattle.rungs.specs.Records.{RungRecord, laid}
+use Rattle.table.specs.State.{tableSize}
+use Rattle.rungs.specs.Records.{RungRecord, laid, mostRecords}
 use Rattle.list.specs.Instruction.{Instr, decodeInstr, decodeCode, codeOf}
-use Rattle.list.specs.Questions.{wordInRange, mostInstructions, mostRecords, recordsLaid, listInRange}
+use Rattle.list.specs.Questions.{wordInRange, mostInstructions, recordsLaid, listInRange}
 use Rattle.list.specs.Parts.{instrOf, Decodes}
 
-word-decodes : (vars n w : ℕ) → T (wordInRange vars n w) → Decodes w
+word-decodes : (size n w : ℕ) → T (wordInRange size n w) → Decodes w
 unfolding wordInRange
-word-decodes vars n w h = go (decodeInstr w) refl
+word-decodes size n w h = go (decodeInstr w) refl
   where
     go : (x : Option Instr) → decodeInstr w ≡ x → Decodes w
     go none e = absurd (rw (e, wordInRange) at h)
     go (some i) e = record { instr = i; same = e }
 
-words-decode : (vars n : ℕ) (ws : List ℕ) → T (all (wordInRange vars n) ws) → (i : ℕ) → i < length ws → Decodes (getD ws i 0)
-words-decode vars n [] h i l = absurd (omega arith)
-words-decode vars n (w ∷ ws) h zero l = word-decodes vars n w (all-head (wordInRange vars n) w ws h)
-words-decode vars n (w ∷ ws) h (suc i) l = words-decode vars n ws (all-tail (wordInRange vars n) w ws h) i (omega arith)
+words-decode : (size n : ℕ) (ws : List ℕ) → T (all (wordInRange size n) ws) → (i : ℕ) → i < length ws → Decodes (getD ws i 0)
+words-decode size n [] h i l = absurd (omega arith)
+words-decode size n (w ∷ ws) h zero l = word-decodes size n w (all-head (wordInRange size n) w ws h)
+words-decode size n (w ∷ ws) h (suc i) l = words-decode size n ws (all-tail (wordInRange size n) w ws h) i (omega arith)
 
 pub instr-of : (w : ℕ) (d : Decodes w) → instrOf w ≡ d .instr
 unfolding instrOf
 instr-of w d = rw (d .same, instrOf)
 
-code-decodes : (vars n : ℕ) (ws : List ℕ) → T (all (wordInRange vars n) ws) → decodeCode ws ≡ some (map instrOf ws)
+code-decodes : (size n : ℕ) (ws : List ℕ) → T (all (wordInRange size n) ws) → decodeCode ws ≡ some (map instrOf ws)
 unfolding decodeCode
-code-decodes vars n [] h = refl
-code-decodes vars n (w ∷ ws) h =
-    let d = word-decodes vars n w (all-head (wordInRange vars n) w ws h) in
-    rw (instr-of w d, d .same, decodeCode) (rw (code-decodes vars n ws (all-tail (wordInRange vars n) w ws h)))
+code-decodes size n [] h = refl
+code-decodes size n (w ∷ ws) h =
+    let d = word-decodes size n w (all-head (wordInRange size n) w ws h) in
+    rw (instr-of w d, d .same, decodeCode) (rw (code-decodes size n ws (all-tail (wordInRange size n) w ws h)))
 
-code-of-words : (vars n : ℕ) (ws : List ℕ) → T (all (wordInRange vars n) ws) → codeOf ws ≡ map instrOf ws
+code-of-words : (size n : ℕ) (ws : List ℕ) → T (all (wordInRange size n) ws) → codeOf ws ≡ map instrOf ws
 unfolding codeOf
-code-of-words vars n ws h = rw (code-decodes vars n ws h, codeOf)
+code-of-words size n ws h = rw (code-decodes size n ws h, codeOf)
 
 pub record InRange (vars : ℕ) (ws : List ℕ) (rs : List RungRecord) : Type 0 where
   pub code-most : length ws ≤ mostInstructions
@@ -60,7 +61,7 @@ list-in-range vars ws rs h =
     let code = leb 1 n && leb n mostInstructions in
     let records = leb 1 (length rs) && leb (length rs) mostRecords in
     let some-each = all (λ (r : RungRecord). ltb 0 (r .length)) rs in
-    let words = all (wordInRange vars n) ws in
+    let words = all (wordInRange (tableSize vars) n) ws in
     let x = and-yes code (records && ((laid 0 n rs && some-each) && words)) h in
     let y = and-yes records ((laid 0 n rs && some-each) && words) (x .1) in
     let z = and-yes (laid 0 n rs && some-each) words (y .1) in
@@ -72,7 +73,7 @@ list-in-range vars ws rs h =
       records-most = leb→le (length rs) mostRecords (rows .1);
       lies = laid-all .0;
       some-length = laid-all .1;
-      decodes = words-decode vars n ws (z .1);
-      held = code-decodes vars n ws (z .1) ∙ ap (λ is. some is) (sym (code-of-words vars n ws (z .1)));
-      printed = code-of-words vars n ws (z .1);
+      decodes = words-decode (tableSize vars) n ws (z .1);
+      held = code-decodes (tableSize vars) n ws (z .1) ∙ ap (λ is. some is) (sym (code-of-words (tableSize vars) n ws (z .1)));
+      printed = code-of-words (tableSize vars) n ws (z .1);
     }

@@ -9,8 +9,8 @@ use Rattle.questions.specs.Refusals.{refusalOf}
 use Rattle.questions.specs.declared.Refusal.{Refusal as RefusalCase}
 use Rattle.rungs.specs.Records.{RungRecord}
 use Rattle.list.specs.Questions.{question10, listAnswer}
-use Rattle.list.specs.ListScan.{listOf, scanAnswer}
-use Rattle.list.specs.Listing.{fixedNames, listingText, listing, answerOf, ListingDone}
+use Rattle.list.specs.ListScan.{listOf, scanQuestions}
+use Rattle.list.specs.Listing.{fixedNames, listingText, listing, listedAnswer, ListingDone}
 use Rattle.list.specs.declared.Listed.the-variants.{Refused}
 
 first-refused : (a b : Answer) (later : List Answer) (r : Refusal) → firstNo (a ∷ b ∷ []) ≡ some r → firstNo (a ∷ b ∷ later) ≡ some r
@@ -26,12 +26,12 @@ first-accepted none (some x) later e = cc
 first-accepted (some x) b later e = cc
 
 module _ (vars : ℕ) (ws : List ℕ) (rs : List RungRecord) where
-  pub scan-asked-list : (t : List ℕ) (w : ℕ) (r : Refusal) → listAnswer vars ws rs ≡ some r → scanAnswer vars ws rs t w ≡ some r
-  unfolding listAnswer scanAnswer
+  pub scan-asked-list : (t : List ℕ) (w : ℕ) (r : Refusal) → listAnswer vars ws rs ≡ some r → scanQuestions vars ws rs t w ≡ some r
+  unfolding listAnswer scanQuestions
   scan-asked-list t w r e = first-refused (question1 vars) (question10 vars ws rs) _ r e
 
   pub listing-refused : (out : List ℕ) (refusal : RefusalCase) → listAnswer vars ws rs ≡ some (refusalOf refusal) → ListingDone (listing fixedNames vars ws rs out) (Refused refusal) out
-  unfolding listAnswer listing answerOf
+  unfolding listAnswer listing listedAnswer
   listing-refused out refusal e =
       let room = question13 (record { needed = length (listingText fixedNames vars (listOf ws rs)); lent = length out } ∷ []) in
       let q = first-refused (question1 vars) (question10 vars ws rs) (room ∷ []) (refusalOf refusal) e in

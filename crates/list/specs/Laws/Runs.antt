@@ -10,13 +10,13 @@ use mathlib.Core.List.{List, [], _∷_, map}
 use lib.Dec.{T, eqb, leb, ltb}
 use lib.ListN.{length, getD, getElem?, length-map}
 use borrow.Author.Tests.{ltb-true, leb-true, leb-false, eqb-true, eqb-false}
-use Rattle.questions.specs.Tests.{all}
+use Rattle.questions.specs.Tests.{bit, all}
 use Rattle.questions.specs.Laws.Tests.{all-head, all-tail}
-use Rattle.table.specs.State.{bit}
+use Rattle.table.specs.State.{State, withBytes}
 use Rattle.rungs.specs.Records.{RungRecord, offsets, isStart}
 use Rattle.list.specs.Instruction.{Instr, instrWord, instrFits, decodeInstr, decodeCode}
-use Rattle.list.specs.Machine.{InstructionList, begin, halted, scanMachine, scanList}
-use Rattle.list.specs.ListScan.{countsOf, scanEnds, answerOf}
+use Rattle.list.specs.Machine.{InstructionList, fresh, begin, halted, scanMachine, scanList}
+use Rattle.list.specs.ListScan.{countsIn, scanEnds, listScannedAnswer}
 use Rattle.list.specs.Parts.{machineOf, Stepped, startsHere, ascending, before, Sought, Followed, firstMachine, runsOn, haltedAt, Ran}
 use Rattle.list.specs.Laws.Decoding.{decode-instr, code-decoded}
 use Rattle.list.specs.Laws.Watchdog.{scan-end, scan-stop, scan-step}
@@ -88,8 +88,8 @@ start-here rs os i next e a q = rw (q, ← e) (carried-on 0 rs i (rw e a) .start
 -- ---- the loop's invariant
 
 pub record Running (ws os t : List ℕ) (w : ℕ) (u : List ℕ) (m : MachineStruct) (next : ℕ) : Type 0 where
-  pub same : (l : InstructionList) → decodeCode ws ≡ some (l .code) → offsets (l .records) ≡ os → ascending 0 os → (vars : ℕ)
-      → scanMachine l (w - m .counts .instructions) (machineOf m) (record { vars = vars; bytes = u }) ≡ scanList l w (record { vars = vars; bytes = t })
+  pub same : (l : InstructionList) → decodeCode ws ≡ some (l .code) → offsets (l .records) ≡ os → ascending 0 os → (s : State)
+      → scanMachine l (w - m .counts .instructions) (machineOf m) (withBytes s u) ≡ scanList l w (withBytes s t)
   pub next-is : ascending 0 os → next ≡ before os (m .index)
   pub next-within : next ≤ length os
   pub carried : m .counts .instructions ≤ w
@@ -98,9 +98,9 @@ pub record Running (ws os t : List ℕ) (w : ℕ) (u : List ℕ) (m : MachineStr
 
 pub running-first : (ws os t : List ℕ) (w : ℕ)
     → Running ws os t w t firstMachine 0
-unfolding scanList begin machineOf countsOf firstMachine
+unfolding scanList begin fresh machineOf countsIn firstMachine
 running-first ws os t w = record {
-  same = λ l d o a vars. rw sub-zero refl;
+  same = λ l d o a s. rw sub-zero refl;
   next-is = λ a. sym (before-zero os);
   next-within = omega arith;
   carried = omega arith;
@@ -110,41 +110,41 @@ running-first ws os t w = record {
 
 module _ (ws os t : List ℕ) (w : ℕ) (u : List ℕ) (m : MachineStruct) (next : ℕ) (r : Running ws os t w u m next) where
   pub ran-ended : length ws ≤ m .index → Ran ws os t w (EndedCase (m .counts)) u
-  unfolding halted scanEnds answerOf machineOf
+  unfolding halted scanEnds listScannedAnswer machineOf
   ran-ended h = record {
-    same = λ l d o a vars.
-        let e = sym (scan-end l (w - m .counts .instructions) (machineOf m) (record { vars = vars; bytes = u }) (at-end ws (l .code) d (m .index) h)) ∙ r .same l d o a vars in
+    same = λ l d o a s.
+        let e = sym (scan-end l (w - m .counts .instructions) (machineOf m) (withBytes s u) (at-end ws (l .code) d (m .index) h)) ∙ r .same l d o a s in
         record { answer = ap (λ x. scanEnds x .answer) e; same-table = ap (λ x. scanEnds x .table) e };
   }
 
   pub ran-stopped : m .index < length ws → m .counts .instructions ≡ w → Ran ws os t w (StoppedCase (m .counts)) u
-  unfolding halted scanEnds answerOf machineOf
+  unfolding halted scanEnds listScannedAnswer machineOf
   ran-stopped h z = record {
-    same = λ l d o a vars.
+    same = λ l d o a s.
         let k = word-at ws (l .code) d (m .index) h in
         let n : w - m .counts .instructions ≡ 0 = omega arith in
-        let stop = scan-stop l (machineOf m) (record { vars = vars; bytes = u }) (k .instr) (k .stands) in
-        let e = sym stop ∙ (rw n at (r .same l d o a vars)) in
+        let stop = scan-stop l (machineOf m) (withBytes s u) (k .instr) (k .stands) in
+        let e = sym stop ∙ (rw n at (r .same l d o a s)) in
         record { answer = ap (λ x. scanEnds x .answer) e; same-table = ap (λ x. scanEnds x .table) e };
   }
 
   module _ (h : m .index < length ws) (z : m .counts .instructions ≡ w → ⊥) (m′ : MachineStruct) (u′ : List ℕ) (len : length u′ ≡ length u)
-      (entered : ℕ) (es : entered ≡ startsHere os next (m .index)) (s : Stepped (getD ws (m .index) 0) entered m u m′ u′) where
-    same-after : (l : InstructionList) → decodeCode ws ≡ some (l .code) → offsets (l .records) ≡ os → ascending 0 os → (vars : ℕ)
-        → scanMachine l (w - m′ .counts .instructions) (machineOf m′) (record { vars = vars; bytes = u′ }) ≡ scanList l w (record { vars = vars; bytes = t })
+      (entered : ℕ) (es : entered ≡ startsHere os next (m .index)) (did : Stepped (getD ws (m .index) 0) entered m u m′ u′) where
+    same-after : (l : InstructionList) → decodeCode ws ≡ some (l .code) → offsets (l .records) ≡ os → ascending 0 os → (s : State)
+        → scanMachine l (w - m′ .counts .instructions) (machineOf m′) (withBytes s u′) ≡ scanList l w (withBytes s t)
     unfolding machineOf
-    same-after l d o a vars =
+    same-after l d o a s =
         let k = word-at ws (l .code) d (m .index) h in
-        let c = s .carried in
+        let c = did .carried in
         let q = r .carried in
         let n : w - m .counts .instructions ≡ suc (w - m′ .counts .instructions) = omega arith in
-        let st = s .same (k .instr) (k .decodes) (l .records) (es ∙ start-here (l .records) os (m .index) next o a (r .next-is a)) vars in
-        let go = scan-step l (w - m′ .counts .instructions) (machineOf m) (record { vars = vars; bytes = u }) (k .instr) (k .stands) in
-        sym (rw st at go) ∙ (rw n at (r .same l d o a vars))
+        let st = did .same (k .instr) (k .decodes) (l .records) (es ∙ start-here (l .records) os (m .index) next o a (r .next-is a)) s in
+        let go = scan-step l (w - m′ .counts .instructions) (machineOf m) (withBytes s u) (k .instr) (k .stands) in
+        sym (rw st at go) ∙ (rw n at (r .same l d o a s))
 
     next-after : (next′ : ℕ) → next′ ≤ length os → (ascending 0 os → next′ ≡ before os (m′ .index)) → Running ws os t w u′ m′ next′
     next-after next′ b nx =
-        let c = s .carried in let g = s .rungs in let f = r .few in let q = r .carried in let k = starts-few os next (m .index) in
+        let c = did .carried in let g = did .rungs in let f = r .few in let q = r .carried in let k = starts-few os next (m .index) in
         record {
           same = same-after;
           next-is = nx;

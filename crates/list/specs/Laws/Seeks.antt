@@ -9,8 +9,7 @@ use lib.Dec.{T, eqb, ltb, leb·suc-suc, ltb→lt, eqb→eq}
 use lib.ListN.{length, getD}
 use borrow.Author.Tests.{eq-eqb, ne-eqb, lt-ltb, le-ltb}
 use mir.Facts.{and-yes}
-use Rattle.questions.specs.Tests.{all}
-use Rattle.table.specs.State.{bit}
+use Rattle.questions.specs.Tests.{bit, all}
 use Rattle.rungs.specs.Records.{RungRecord, offsets, laid, isStart}
 use Rattle.list.specs.Parts.{startsHere, ascending, before, Sought}
 

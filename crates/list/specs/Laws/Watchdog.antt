@@ -9,7 +9,7 @@ use lib.ListN.{getElem?}
 use Rattle.table.specs.State.{State}
 use Rattle.table.specs.Halt.{Ended, Stopped}
 use Rattle.list.specs.Instruction.{Instr}
-use Rattle.list.specs.Machine.{InstructionList, Machine, Counts, begin, count, step, ListScan, halted, scanMachine, scanList}
+use Rattle.list.specs.Machine.{InstructionList, Machine, Counts, fresh, begin, count, step, ListResult, halted, scanMachine, scanList}
 use Rattle.list.specs.Standing.{Stands, atFirst, afterStep, StandsAt}
 
 module _ (l : InstructionList) where
@@ -46,7 +46,7 @@ module _ (l : InstructionList) where
 
 -- with n more before the watchdog the scan goes on from where it stands
 goes-on : {l : InstructionList} {s : State} {m : Machine} {t : State} → Stands l s m t → (n : ℕ) → scanList l (m .counts .instructions + n) s ≡ scanMachine l n m t
-unfolding scanList begin step count
+unfolding scanList begin fresh step count
 goes-on atFirst n = rw zero-add refl
 goes-on {l} {s} (afterStep {m} {t} {i} d q) n =
     let e : m .counts .instructions + 1 + n ≡ m .counts .instructions + suc n = omega arith in
@@ -54,7 +54,7 @@ goes-on {l} {s} (afterStep {m} {t} {i} d q) n =
 
 module _ (l : InstructionList) (s : State) where
   -- how the scan halts from where it stands
-  Halts : ℕ → ListScan → Type 0
+  Halts : ℕ → ListResult → Type 0
   Halts most x = ((m : Machine) × (t : State) × Stands l s m t × (getElem? (l .code) (m .index) ≡ none) × (m .counts .instructions ≤ most) × (x ≡ halted Ended m t))
       ⊎ ((m : Machine) × (t : State) × Stands l s m t × ((i : Instr) × (getElem? (l .code) (m .index) ≡ some i)) × (m .counts .instructions ≡ most) × (x ≡ halted Stopped m t))
 
@@ -75,11 +75,11 @@ module _ (l : InstructionList) (s : State) where
       go (some i) q ih = rw (scan-step l n m t i q) (ih i q)
 
   scan-halts : (w : ℕ) → Halts w (scanList l w s)
-  unfolding scanList begin
-  scan-halts w = halts w begin s w (omega arith) atFirst
+  unfolding scanList begin fresh
+  scan-halts w = halts w (begin l) s w (omega arith) atFirst
 
   -- one answer is not both
-  apart : {x : ListScan} {c c′ : Counts} {t t′ : State} → x ≡ record { halt = Ended; counts = c; state = t } → x ≡ record { halt = Stopped; counts = c′; state = t′ } → ⊥
+  apart : {x : ListResult} {c c′ : Counts} {t t′ : State} → x ≡ record { halt = Ended; counts = c; state = t } → x ≡ record { halt = Stopped; counts = c′; state = t′ } → ⊥
   apart p q =
       let z : Ended ≡ Stopped = ap (λ y. y .halt) (sym p ∙ q) in
       let n : _≡_ {A = ℕ} 0 1 = cc in

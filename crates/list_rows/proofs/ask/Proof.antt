@@ -16,29 +16,29 @@ returns c = (asked-long _ _ _ _ _ _ (c .before .if1 .taken) (c .long-refusal .en
 array-share-prefix-labels : tie.Need-array-share-prefix-labels
 array-share-prefix-labels c = within (c .before .before .before .before .before .before .before .args .rows) _ (c .before .before .before .before .before .before .before .good .1 .1 .0) (c .before .before .before .if1 .left) .labels
 
-slice-aggregate-scan-answer : tie.Need-slice-aggregate-scan-answer
-slice-aggregate-scan-answer c = sym (length-take-le _ _ (within (c .before .before .before .before .before .before .before .before .args .rows) _ (c .before .before .before .before .before .before .before .before .good .1 .1 .0) (c .before .before .before .before .if1 .left) .labels))
+slice-aggregate-scan-questions : tie.Need-slice-aggregate-scan-questions
+slice-aggregate-scan-questions c = sym (length-take-le _ _ (within (c .before .before .before .before .before .before .before .before .args .rows) _ (c .before .before .before .before .before .before .before .before .good .1 .1 .0) (c .before .before .before .before .if1 .left) .labels))
 
 array-share-prefix-offsets : tie.Need-array-share-prefix-offsets
 array-share-prefix-offsets c = within (c .before .before .before .before .before .before .before .before .args .rows) _ (c .before .before .before .before .before .before .before .before .good .1 .1 .0) (c .before .before .before .before .if1 .left) .offsets
 
-slice-aggregate-scan-answer-2 : tie.Need-slice-aggregate-scan-answer-2
-slice-aggregate-scan-answer-2 c = sym (length-take-le _ _ (within (c .before .before .before .before .before .before .before .before .before .args .rows) _ (c .before .before .before .before .before .before .before .before .before .good .1 .1 .0) (c .before .before .before .before .before .if1 .left) .offsets))
+slice-aggregate-scan-questions-2 : tie.Need-slice-aggregate-scan-questions-2
+slice-aggregate-scan-questions-2 c = sym (length-take-le _ _ (within (c .before .before .before .before .before .before .before .before .before .args .rows) _ (c .before .before .before .before .before .before .before .before .before .good .1 .1 .0) (c .before .before .before .before .before .if1 .left) .offsets))
 
 array-share-prefix-lengths : tie.Need-array-share-prefix-lengths
 array-share-prefix-lengths c = within (c .before .before .before .before .before .before .before .before .before .args .rows) _ (c .before .before .before .before .before .before .before .before .before .good .1 .1 .0) (c .before .before .before .before .before .if1 .left) .lengths
 
-slice-aggregate-scan-answer-3 : tie.Need-slice-aggregate-scan-answer-3
-slice-aggregate-scan-answer-3 c = sym (length-take-le _ _ (within (c .before .before .before .before .before .before .before .before .before .before .args .rows) _ (c .before .before .before .before .before .before .before .before .before .before .good .1 .1 .0) (c .before .before .before .before .before .before .if1 .left) .lengths))
+slice-aggregate-scan-questions-3 : tie.Need-slice-aggregate-scan-questions-3
+slice-aggregate-scan-questions-3 c = sym (length-take-le _ _ (within (c .before .before .before .before .before .before .before .before .before .before .args .rows) _ (c .before .before .before .before .before .before .before .before .before .before .good .1 .1 .0) (c .before .before .before .before .before .before .if1 .left) .lengths))
 
-scan-answer-requires : tie.Need-scan-answer-requires
-scan-answer-requires c κs = search needs
+scan-questions-requires : tie.Need-scan-questions-requires
+scan-questions-requires c κs = search needs
 
 same-length : tie.Need-same-length
 same-length c = search needs
 
 returns-2 : tie.Need-returns-2
-returns-2 c = (asked-row _ _ _ _ _ _ (c .before .before .before .before .before .before .before .before .if1 .left) (c .scan-answer .ensures), refl)
+returns-2 c = (asked-row _ _ _ _ _ _ (c .before .before .before .before .before .before .before .before .if1 .left) (c .scan-questions .ensures), refl)
 
 pub ask-spec : {M : Type 1} → statement M
 ask-spec =
@@ -47,11 +47,11 @@ ask-spec =
     long-refusal-requires
     returns
     array-share-prefix-labels
-    slice-aggregate-scan-answer
+    slice-aggregate-scan-questions
     array-share-prefix-offsets
-    slice-aggregate-scan-answer-2
+    slice-aggregate-scan-questions-2
     array-share-prefix-lengths
-    slice-aggregate-scan-answer-3
-    scan-answer-requires
+    slice-aggregate-scan-questions-3
+    scan-questions-requires
     same-length
     returns-2)

@@ -39,7 +39,8 @@ use denote.Triple.Table.{entered, cited}
 use denote.Triple.Walked.{says, Stays, stay-none, stay-none-slice, gave-slice, walkOf, goes-none, goes-none-slice, goes-gave-slice, Walks, ends-at, walked, walk-meets}
 use denote.Exit.{yes}
 use Rattle.rungs.specs.Records.{RungRecord}
-use Rattle.rows.specs.Rows.{recordsOf, gathered}
+use Rattle.rows.specs.Rows.{recordsOf}
+use Rattle.rows.specs.Parts.{gathered}
 use Rattle.rows.specs.declared.Rung.{Rung}
 use Rattle.rows.specs.declared.Rows.{Rows}
 use Rattle.questions.specs.declared.Verdict.{Verdict}

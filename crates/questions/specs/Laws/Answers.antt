@@ -3,13 +3,13 @@ use Prim.Native.Nat.{ℕ, _≤_}
 use mathlib.Core.Path.{_≡_, refl, sym, ap, _∙_}
 use mathlib.Core.Bool.{Bool, true, false}
 use mathlib.Core.Option.{none, some, map-eq-none-iff}
-use mathlib.Core.List.{List, _∷_, map}
+use mathlib.Core.List.{List, [], _∷_, _++_, map}
 use native.Mathlib.Omega.{arith}
 use lib.Dec.{T, leb, leb→le, le→leb}
 use mir.Facts.{and-yes}
 use Rattle.questions.specs.Tests.{all, firstFailed}
 use Rattle.questions.specs.Questions.{Answer, ask, askEach, firstNo, varsInRange, question1, mostVariables, question12}
-use Rattle.questions.specs.Refusals.{refusalOf, answerOf}
+use Rattle.questions.specs.Refusals.{refusalOf, verdictAnswer}
 use Rattle.questions.specs.declared.Refusal.{Refusal as RefusalCase}
 use Rattle.questions.specs.declared.Verdict.{Verdict}
 use Rattle.questions.specs.declared.Verdict.the-variants.{Accepted, Refused}
@@ -44,6 +44,13 @@ unfolding firstNo
 later-yes none later e = e
 later-yes (some r) later e = cc
 
+-- questions in order, the first of them put together: one answer stands for them
+pub first-append : (answers later : List Answer) → firstNo (answers ++ later) ≡ firstNo (firstNo answers ∷ later)
+unfolding firstNo
+first-append [] later = refl
+first-append (none ∷ answers) later = first-append answers later
+first-append (some r ∷ answers) later = refl
+
 pub vars-in-range : (vars : ℕ) → question1 vars ≡ none → (1 ≤ vars) × (vars ≤ mostVariables)
 unfolding question1 varsInRange
 vars-in-range vars e =
@@ -59,10 +66,10 @@ unfolding question12
 in-range-watchdog most watchdog h = passed-ask 12 _ (le→leb watchdog most h)
 
 -- a verdict's answer, by its cases
-pub verdict-refused : {v : Verdict} {a : Answer} (refusal : RefusalCase) → answerOf v ≡ a → v ≡ Refused refusal → a ≡ some (refusalOf refusal)
-unfolding answerOf
-verdict-refused refusal e q = sym e ∙ ap answerOf q
+pub verdict-refused : {v : Verdict} {a : Answer} (refusal : RefusalCase) → verdictAnswer v ≡ a → v ≡ Refused refusal → a ≡ some (refusalOf refusal)
+unfolding verdictAnswer
+verdict-refused refusal e q = sym e ∙ ap verdictAnswer q
 
-pub verdict-accepted : {v : Verdict} {a : Answer} → answerOf v ≡ a → v ≡ Accepted → a ≡ none
-unfolding answerOf
-verdict-accepted e q = sym e ∙ ap answerOf q
+pub verdict-accepted : {v : Verdict} {a : Answer} → verdictAnswer v ≡ a → v ≡ Accepted → a ≡ none
+unfolding verdictAnswer
+verdict-accepted e q = sym e ∙ ap verdictAnswer q

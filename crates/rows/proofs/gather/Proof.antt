@@ -47,8 +47,9 @@ use denote.Triple.Statement.{Contract, Triple}
 use denote.Triple.Table.{entered, cited}
 use denote.Triple.Walked.{says, Stays, stay-none-slice, walkOf, goes-none-slice, Walks, ends-at, walked, walk-meets}
 use denote.Exit.{yes}
-use Rattle.rows.specs.Rows.{recordOf, recordsOf, recordAt, mostRungs, gathered}
-use Rattle.rows.specs.Parts.{rowsOf}
+use Rattle.rows.specs.Rows.{recordOf, recordsOf, recordAt}
+use Rattle.rungs.specs.Records.{mostRecords}
+use Rattle.rows.specs.Parts.{gathered, rowsOf}
 use Rattle.rows.specs.Laws.Records.{rungAt, records-at, same-rung}
 use Rattle.rows.specs.declared.Rung.{Rung}
 use Rattle.rows.specs.declared.Rows.{Rows}
@@ -132,7 +133,7 @@ more = mapBody spelt more-named
 -- a place in the loop: how many records are gathered, and that the arrays with their fields have machine values
 record Here (ys : List Rung) : Type 0 where
   at : ℕ
-  within : at ≤ min mostRungs (length ys)
+  within : at ≤ min mostRecords (length ys)
   labels : Held w16 (fieldsTo labelOf at ys)
   offsets : Held w32 (fieldsTo offsetOf at ys)
   lengths : Held w32 (fieldsTo lengthOf at ys)
@@ -151,8 +152,8 @@ module _ {M : Type 1} (𝓤 : URA M) (H : Heap 𝓤) (A : Atoms 𝓤) (at-mem : 
   abbrev RowsOf : Contract 𝓤
   RowsOf = tripleOf 𝓤 H A rows-of.signature (rows-of.spec 𝓤 H A at-mem run)
 
-  said-room : (n r : ℕ) → ent 𝓤 (ensured 𝓤 H A rooms.ended (rooms.clauses 𝓤 H A at-mem run) tt (n, tt) tt r) (fact 𝓤 (r ≡ min mostRungs n))
-  said-room n r = exE 𝓤 _ (λ zs. snd∗ 𝓤 (sem 𝓤 H A (lasts rooms.ended tt (n, tt) zs)) (fact 𝓤 (r ≡ min mostRungs n)))
+  said-room : (n r : ℕ) → ent 𝓤 (ensured 𝓤 H A rooms.ended (rooms.clauses 𝓤 H A at-mem run) tt (n, tt) tt r) (fact 𝓤 (r ≡ min mostRecords n))
+  said-room n r = exE 𝓤 _ (λ zs. snd∗ 𝓤 (sem 𝓤 H A (lasts rooms.ended tt (n, tt) zs)) (fact 𝓤 (r ≡ min mostRecords n)))
 
   said-at : (κ : Lft) (x : RefT (List Rung)) (i : ℕ) (r : Rung) → ent 𝓤 (ensured 𝓤 H A rung-at.ended (rung-at.clauses 𝓤 H A at-mem run) (κ, tt) (x, (i, tt)) tt r) (fact 𝓤 (recordOf r ≡ recordAt (recordsOf (x .now)) i))
   said-at κ x i r = exE 𝓤 _ (λ ws. snd∗ 𝓤 (sem 𝓤 H A (lasts rung-at.ended (κ, tt) (x, (i, tt)) ws)) (fact 𝓤 (recordOf r ≡ recordAt (recordsOf (x .now)) i)))
@@ -172,10 +173,10 @@ module _ {M : Type 1} (𝓤 : URA M) (H : Heap 𝓤) (A : Atoms 𝓤) (W : Given
 
   -- how many records are gathered
   abbrev most : ℕ
-  most = min mostRungs n
+  most = min mostRecords n
 
   most-fits : most < 2 ^ 64
-  most-fits = omega (arith, min-le-left mostRungs n)
+  most-fits = omega (arith, min-le-left mostRecords n)
 
   abbrev Upto : Type 0
   Upto = Here ys
@@ -262,10 +263,10 @@ module _ {M : Type 1} (𝓤 : URA M) (H : Heap 𝓤) (A : Atoms 𝓤) (W : Given
   -- what a passed test says
   module _ (i : Upto) (less : Holds (ltb (i .at) most)) where
     before-end : i .at < n
-    before-end = lt-of-lt-of-le (ltb→lt (i .at) most less) (min-le-right mostRungs n)
+    before-end = lt-of-lt-of-le (ltb→lt (i .at) most less) (min-le-right mostRecords n)
 
     small : i .at < 256
-    small = lt-of-lt-of-le (ltb→lt (i .at) most less) (min-le-left mostRungs n)
+    small = lt-of-lt-of-le (ltb→lt (i .at) most less) (min-le-left mostRecords n)
 
     next-fits : i .at + 1 < 2 ^ 64
     next-fits = omega (arith, small)

@@ -49,8 +49,8 @@ use denote.Triple.Statement.{Contract, Triple}
 use denote.Triple.Table.{entered, cited}
 use denote.Triple.Walked.{says, needs, Stays, stay-slice, stay-none, walkOf, goes-slice, goes-none, Walks, ends-at, walked, walk-meets}
 use denote.Exit.{yes}
-use Rattle.rows.specs.Rows.{recordsOf, scattered}
-use Rattle.rows.specs.Parts.{rungIn}
+use Rattle.rows.specs.Rows.{recordsOf}
+use Rattle.rows.specs.Parts.{scattered, rungIn}
 use Rattle.rows.specs.Laws.Records.{noRung}
 use Rattle.rows.specs.declared.Rung.{Rung}
 use Rattle.rows.specs.declared.Rows.{Rows}

@@ -13,19 +13,19 @@ use Rattle.questions.specs.Laws.Maps.{drop-map}
 use Rattle.questions.specs.Tests.{all}
 use Rattle.questions.specs.Questions.{Answer, firstNo, longEnough, question13}
 use Rattle.questions.specs.Laws.Answers.{first-yes, later-yes}
-use Rattle.rungs.specs.Records.{RungRecord, labels, offsets, rowOf}
+use Rattle.rungs.specs.Records.{RungRecord, labels, offsets, rowOf, mostRecords}
 use Rattle.rungs.specs.Buffers.{Buffers, asBuffers, buffers, needs, written, writtenOver}
 use Rattle.rungs.specs.Laws.Rows.{Even, row-back, row-take}
 use Rattle.rungs.specs.Laws.Filling.{labels-count, roomy}
 use Rattle.rows.specs.declared.Rows.{Rows}
-use Rattle.rows.specs.Rows.{mostRungs, scattered}
+use Rattle.rows.specs.Parts.{scattered}
 
 abbrev lengths : List RungRecord → List ℕ
 lengths rs = map (λ r. r .length) rs
 
 -- ---- question 13
 
-same-room : (m n l : ℕ) → m ≤ mostRungs → l ≡ min mostRungs n → leb m l ≡ leb m n
+same-room : (m n l : ℕ) → m ≤ mostRecords → l ≡ min mostRecords n → leb m l ≡ leb m n
 same-room m n l h e = go (decLe m n)
   where
     go : Dec (m ≤ n) → leb m l ≡ leb m n
@@ -33,8 +33,8 @@ same-room m n l h e = go (decLe m n)
     go (no p) = rw (lt-leb m n (omega arith)) (lt-leb m l (omega (arith, e)))
 
 -- a copy with room for as many records as the row, or 256, has room where the row has
-pub needs-same : (nw : List ℕ) (ks : List RungRecord) (ws : List ℕ) (rs : List RungRecord) (ls os ns : List ℕ) → length ks ≤ mostRungs
-    → length ls ≡ min mostRungs (length rs) → length os ≡ min mostRungs (length rs) → length ns ≡ min mostRungs (length rs)
+pub needs-same : (nw : List ℕ) (ks : List RungRecord) (ws : List ℕ) (rs : List RungRecord) (ls os ns : List ℕ) → length ks ≤ mostRecords
+    → length ls ≡ min mostRecords (length rs) → length os ≡ min mostRecords (length rs) → length ns ≡ min mostRecords (length rs)
     → question13 (needs (asBuffers nw ks) (buffers ws ls os ns)) ≡ question13 (needs (asBuffers nw ks) (asBuffers ws rs))
 unfolding question13 all longEnough needs asBuffers
 needs-same nw ks ws rs ls os ns h a b c = rw (
@@ -50,8 +50,8 @@ needs-same nw ks ws rs ls os ns h a b c = rw (
 ) refl
 
 -- and so the first "no" is the same, where the questions before it let only 256 records pass
-pub asked-same : (before : Answer) (nw : List ℕ) (ks : List RungRecord) (ws : List ℕ) (rs : List RungRecord) (ls os ns : List ℕ) → (before ≡ none → length ks ≤ mostRungs)
-    → length ls ≡ min mostRungs (length rs) → length os ≡ min mostRungs (length rs) → length ns ≡ min mostRungs (length rs)
+pub asked-same : (before : Answer) (nw : List ℕ) (ks : List RungRecord) (ws : List ℕ) (rs : List RungRecord) (ls os ns : List ℕ) → (before ≡ none → length ks ≤ mostRecords)
+    → length ls ≡ min mostRecords (length rs) → length os ≡ min mostRecords (length rs) → length ns ≡ min mostRecords (length rs)
     → firstNo (before ∷ question13 (needs (asBuffers nw ks) (buffers ws ls os ns)) ∷ []) ≡ firstNo (before ∷ question13 (needs (asBuffers nw ks) (asBuffers ws rs)) ∷ [])
 unfolding firstNo
 asked-same (some x) nw ks ws rs ls os ns h a b c = refl
@@ -92,13 +92,13 @@ written-row nw ws ks rs i = record {
 }
 
 -- a copy of the fields has room for no more than are copied
-pub room-few : (room lent : ℕ) → room ≡ min mostRungs lent → room ≤ mostRungs
+pub room-few : (room lent : ℕ) → room ≡ min mostRecords lent → room ≤ mostRecords
 room-few room lent e = omega (arith, e)
 
 -- ---- a call whose last question is 13, and which writes words and records, done on a copy of the fields of a row of `lent` records
 
-module _ (before : Answer) (nw : List ℕ) (ks : List RungRecord) (few : before ≡ none → length ks ≤ mostRungs) (words : List ℕ) (lent : ℕ) (zl zo zn : List ℕ)
-    (el : length zl ≡ min mostRungs lent) (eo : length zo ≡ min mostRungs lent) (en : length zn ≡ min mostRungs lent) where
+module _ (before : Answer) (nw : List ℕ) (ks : List RungRecord) (few : before ≡ none → length ks ≤ mostRecords) (words : List ℕ) (lent : ℕ) (zl zo zn : List ℕ)
+    (el : length zl ≡ min mostRecords lent) (eo : length zo ≡ min mostRecords lent) (en : length zn ≡ min mostRecords lent) where
   abbrev pub copy : Buffers
   copy = buffers words zl zo zn
 
@@ -108,7 +108,7 @@ module _ (before : Answer) (nw : List ℕ) (ks : List RungRecord) (few : before 
   pub same-asked : (rs : List RungRecord) → length rs ≡ lent → asked copy ≡ asked (asBuffers words rs)
   same-asked rs e = asked-same before nw ks words rs zl zo zn few (rw e el) (rw e eo) (rw e en)
 
-  pub few-written : asked copy ≡ none → length ks ≤ mostRungs
+  pub few-written : asked copy ≡ none → length ks ≤ mostRecords
   few-written e = few (first-yes before _ e)
 
   pub within-written : asked copy ≡ none → length ks ≤ lent

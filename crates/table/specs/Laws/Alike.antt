@@ -10,15 +10,15 @@ use lib.Dec.{eqb, eqb→eq}
 use lib.ListN.{length, getD, set, take, length-set, length-take}
 use lib.Seq.{getD-set-same, getD-set-other, ext-getD, getD-take, set-out, drop-set-lt}
 use mir.Facts.{and-yes}
-use Rattle.questions.specs.Tests.{all}
+use Rattle.questions.specs.Tests.{all, bit}
 use Rattle.questions.specs.Laws.Answers.{ask-passed}
-use Rattle.table.specs.State.{State, scratchBytes, variables, scratch, truth, bit, valueAt, value, writtenAt, write}
-use Rattle.table.specs.Questions.{tableInRange, question11, isBit}
+use Rattle.table.specs.State.{State, scratchBytes, tableSize, variables, beyondVariables, truth, valueAt, value, writtenAt, write, SameButScratch}
+use Rattle.table.specs.Questions.{tableInRange, question11, isBit, Legal}
 
 -- a table that question 11 takes has V + 32 bytes
-pub table-room : (s : State) → question11 s ≡ none → length (s .bytes) ≡ s .vars + scratchBytes
+pub table-room : (s : State) → question11 s ≡ none → length (s .bytes) ≡ tableSize (s .vars)
 unfolding question11 tableInRange
-table-room s e = eqb→eq _ _ (and-yes (eqb (length (s .bytes)) (s .vars + scratchBytes)) (all isBit (s .bytes)) (ask-passed 11 _ e) .0)
+table-room s e = eqb→eq _ _ (and-yes (eqb (length (s .bytes)) (tableSize (s .vars))) (all isBit (s .bytes)) (ask-passed 11 _ e) .0)
 
 -- The states s and t have V variables, and these are equal; their scratch may differ.
 pub record Alike (vars : ℕ) (s t : State) : Type 0 where
@@ -26,7 +26,7 @@ pub record Alike (vars : ℕ) (s t : State) : Type 0 where
   pub vars-right : t .vars ≡ vars
   pub same : (i : ℕ) → i < vars → getD (s .bytes) i 0 ≡ getD (t .bytes) i 0
   pub same-room : length (s .bytes) ≡ length (t .bytes)
-  pub room : length (t .bytes) ≡ vars + scratchBytes
+  pub room : length (t .bytes) ≡ tableSize vars
 
 -- t′ has t's scratch below td
 pub record Keeps (vars d : ℕ) (t t′ : State) : Type 0 where
@@ -75,26 +75,32 @@ module _ {vars : ℕ} {s t : State} (p : Alike vars s t) where
   unfolding value valueAt write writtenAt
   value-written d b h = let ht = p .room in rw (getD-set-same (t .bytes) (vars + d) (bit b) 0 (omega arith)) (truth-bit b)
 
-  pub variables-alike : variables s ≡ variables t
+  variables-alike : variables s ≡ variables t
   unfolding variables
   variables-alike =
       let ls = length-take vars (s .bytes) in let lt = length-take vars (t .bytes) in let hs = p .same-room in let ht = p .room in
       rw (p .vars-left, p .vars-right) (ext-getD 0 (take vars (s .bytes)) (take vars (t .bytes)) (omega arith)
       (λ i h. let k : i < vars = omega arith in getD-take vars (s .bytes) i 0 k ∙ p .same i k ∙ sym (getD-take vars (t .bytes) i 0 k)))
 
--- tables with equal variables that question 11 takes
-pub alike-tables : (s t : State) → question11 s ≡ none → question11 t ≡ none → s .vars ≡ t .vars → variables s ≡ variables t → Alike (t .vars) s t
+  pub alike-same : SameButScratch s t
+  alike-same = record { same-vars = p .vars-left ∙ sym (p .vars-right); same-variables = variables-alike }
+
+pub same-both : {s t u : State} → SameButScratch s t → SameButScratch t u → SameButScratch s u
+same-both h k = record { same-vars = h .same-vars ∙ k .same-vars; same-variables = h .same-variables ∙ k .same-variables }
+
+-- legal states that differ in scratch at most
+pub alike-legal : (s t : State) → Legal s → Legal t → SameButScratch s t → Alike (t .vars) s t
 unfolding variables
-alike-tables s t hs ht e v = let rs = table-room s hs in let rt = table-room t ht in record {
-  vars-left = e;
+alike-legal s t hs ht e = let rs = table-room s (hs .table) in let rt = table-room t (ht .table) in let ev = e .same-vars in record {
+  vars-left = e .same-vars;
   vars-right = refl;
-  same = λ i k. sym (getD-take (t .vars) (s .bytes) i 0 k) ∙ ap (λ l. getD l i 0) (rw e at v) ∙ getD-take (t .vars) (t .bytes) i 0 k;
+  same = λ i k. sym (getD-take (t .vars) (s .bytes) i 0 k) ∙ ap (λ l. getD l i 0) (rw (e .same-vars) at (e .same-variables)) ∙ getD-take (t .vars) (t .bytes) i 0 k;
   same-room = omega arith;
   room = rt;
 }
 
-pub alike-self : (s : State) → question11 s ≡ none → Alike (s .vars) s s
-alike-self s h = alike-tables s s h h refl refl
+pub alike-self : (s : State) → Legal s → Alike (s .vars) s s
+alike-self s h = alike-legal s s h h (record { same-vars = refl; same-variables = refl })
 
 module _ (vars : ℕ) where
   pub keeps-all : (d : ℕ) (t : State) → Keeps vars d t t
@@ -118,18 +124,18 @@ module _ (vars : ℕ) where
   pub keeps-both : (d : ℕ) (t t′ t″ : State) → Keeps vars d t t′ → Keeps vars d t′ t″ → Keeps vars d t t″
   keeps-both d t t′ t″ k k′ = record { kept = λ i lo hi. k′ .kept i lo hi ∙ k .kept i lo hi }
 
--- The state s′ has the V and the scratch of s.
+-- The state s′ has the V of s, and all its bytes from V on.
 pub record ScratchStays (s s′ : State) : Type 0 where
   pub same-vars : s′ .vars ≡ s .vars
-  pub same-scratch : scratch s′ ≡ scratch s
+  pub same-beyond : beyondVariables s′ ≡ beyondVariables s
 
 pub scratch-self : (s : State) → ScratchStays s s
-scratch-self s = record { same-vars = refl; same-scratch = refl }
+scratch-self s = record { same-vars = refl; same-beyond = refl }
 
 pub scratch-both : {s s′ s″ : State} → ScratchStays s s′ → ScratchStays s′ s″ → ScratchStays s s″
-scratch-both h k = record { same-vars = k .same-vars ∙ h .same-vars; same-scratch = k .same-scratch ∙ h .same-scratch }
+scratch-both h k = record { same-vars = k .same-vars ∙ h .same-vars; same-beyond = k .same-beyond ∙ h .same-beyond }
 
 -- writing a variable leaves scratch
 pub scratch-written : (s : State) (v : ℕ) (b : Bool) → v < s .vars → ScratchStays s (write s v b)
-unfolding write writtenAt scratch
-scratch-written s v b h = record { same-vars = refl; same-scratch = drop-set-lt (s .vars) (s .bytes) v (bit b) h }
+unfolding write writtenAt beyondVariables
+scratch-written s v b h = record { same-vars = refl; same-beyond = drop-set-lt (s .vars) (s .bytes) v (bit b) h }

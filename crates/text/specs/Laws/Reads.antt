@@ -18,7 +18,7 @@ use Rattle.drawing.specs.Laws.Accepting.{ladder-is, accepting}
 use Rattle.grammar.specs.Grammar.{IsText}
 use Rattle.grammar.specs.Questions.{question3}
 use Rattle.grammar.specs.Theorems.{read-exactly, yes-exactly, scratch-always, some-rung, decoded-always}
-use Rattle.text.specs.Read.{ladderOf, keptBuffers, kept, refused, ReadCall, readText, writtenKept}
+use Rattle.text.specs.Read.{textLadder, keptBuffers, kept, refused, ReadCall, readText, writtenKept}
 
 -- ---- what was written, taken out again
 
@@ -67,26 +67,26 @@ first-join none none none none none none (some x) h = refl
 first-join none none none none none none none h = refl
 
 -- question 3 got a "yes": the text has its ladder
-ladder-of : (text : List ℕ) (gs : Ladder) → IsText text gs → ladderOf text ≡ gs
-unfolding ladderOf
-ladder-of text gs x = rw (read-exactly text gs .1 x, ladderOf)
+ladder-of : (text : List ℕ) (gs : Ladder) → IsText text gs → textLadder text ≡ gs
+unfolding textLadder
+ladder-of text gs x = rw (read-exactly text gs .1 x, textLadder)
 
-yes-ladder : (text : List ℕ) → question3 text ≡ none → IsText text (ladderOf text)
+yes-ladder : (text : List ℕ) → question3 text ≡ none → IsText text (textLadder text)
 yes-ladder text e = let h = yes-exactly text .0 e in subst (λ gs. IsText text gs) (sym (ladder-of text (h .0) (h .1))) (h .1)
 
 -- the questions before 13
 abbrev pub before : ℕ → List ℕ → Answer
 before vars text =
-    let gs = ladderOf text in
+    let gs = textLadder text in
     firstNo (question1 vars ∷ question2 (length text) ∷ question3 text ∷ question5 gs ∷ question6 vars gs ∷ question7 gs ∷ question8 gs ∷ [])
 
 module _ (vars : ℕ) (text : List ℕ) (lent : Buffers) where
   abbrev pub asked : Answer
-  asked = firstNo (before vars text ∷ question13 (needs (keptBuffers (ladderOf text)) lent) ∷ [])
+  asked = firstNo (before vars text ∷ question13 (needs (keptBuffers (textLadder text)) lent) ∷ [])
 
-  joined : firstNo (question1 vars ∷ question2 (length text) ∷ question3 text ∷ question5 (ladderOf text) ∷ question6 vars (ladderOf text) ∷ question7 (ladderOf text) ∷ question8 (ladderOf text)
-      ∷ question13 (needs (keptBuffers (ladderOf text)) lent) ∷ []) ≡ asked
-  joined = first-join (question1 vars) (question2 (length text)) (question3 text) (question5 (ladderOf text)) (question6 vars (ladderOf text)) (question7 (ladderOf text)) (question8 (ladderOf text)) _
+  joined : firstNo (question1 vars ∷ question2 (length text) ∷ question3 text ∷ question5 (textLadder text) ∷ question6 vars (textLadder text) ∷ question7 (textLadder text) ∷ question8 (textLadder text)
+      ∷ question13 (needs (keptBuffers (textLadder text)) lent) ∷ []) ≡ asked
+  joined = first-join (question1 vars) (question2 (length text)) (question3 text) (question5 (textLadder text)) (question6 vars (textLadder text)) (question7 (textLadder text)) (question8 (textLadder text)) _
 
   pub call-refused : (r : Refusal) → asked ≡ some r → readText vars text lent ≡ record { answer = refused r; buffers = lent }
   unfolding readText
@@ -95,7 +95,7 @@ module _ (vars : ℕ) (text : List ℕ) (lent : Buffers) where
   abbrev callKept : Ladder → ReadCall
   callKept gs = record { answer = kept (length (keptBuffers gs .words)) (length gs); buffers = writtenOver (keptBuffers gs) lent }
 
-  pub call-kept : asked ≡ none → readText vars text lent ≡ callKept (ladderOf text)
+  pub call-kept : asked ≡ none → readText vars text lent ≡ callKept (textLadder text)
   unfolding readText
   call-kept e = rw (joined, e, readText)
 
@@ -117,32 +117,32 @@ module _ (vars : ℕ) (text : List ℕ) (lent : Buffers) where
     yes-before : before vars text ≡ none
     yes-before = first-yes (before vars text) _ all-yes
 
-    same-counts : kept words rungs ≡ kept (length (keptBuffers (ladderOf text) .words)) (length (ladderOf text))
+    same-counts : kept words rungs ≡ kept (length (keptBuffers (textLadder text) .words)) (length (textLadder text))
     same-counts = sym a ∙ ap (λ c. c .answer) (call-kept all-yes)
 
-    words-count : words ≡ length (keptBuffers (ladderOf text) .words)
+    words-count : words ≡ length (keptBuffers (textLadder text) .words)
     words-count = let e = same-counts in cc
 
-    pub rungs-count : rungs ≡ length (ladderOf text)
+    pub rungs-count : rungs ≡ length (textLadder text)
     rungs-count = let e = same-counts in cc
 
     -- what was written has room
     pub written-room : (words ≤ length (lent .words)) × (rungs ≤ length (lent .labels))
     written-room =
-        let gs = ladderOf text in
+        let gs = textLadder text in
         let r = roomy (keptBuffers gs) lent (first-yes _ _ (later-yes (before vars text) _ all-yes)) in
         (omega (arith, r .words, words-count), omega (arith, r .labels, rungs-count, labels-count (encode gs .words) (encode gs .records), rungs-laid gs lent))
 
-    pub first-encoded : writtenKept (readText vars text lent .buffers) words rungs ≡ encode (ladderOf text)
-    first-encoded = rw (call-kept all-yes, words-count, rungs-count) (first-written (ladderOf text) lent)
+    pub first-encoded : writtenKept (readText vars text lent .buffers) words rungs ≡ encode (textLadder text)
+    first-encoded = rw (call-kept all-yes, words-count, rungs-count) (first-written (textLadder text) lent)
 
-    pub in-grammar : IsText text (ladderOf text)
+    pub in-grammar : IsText text (textLadder text)
     in-grammar = yes-ladder text (first-yes (question3 text) _ (later-yes (question2 (length text)) _ (later-yes (question1 vars) _ yes-before)))
 
     -- the questions that got a "yes", one by one, and what holds of every text
-    accepted : Accepted vars (ladderOf text)
+    accepted : Accepted vars (textLadder text)
     accepted =
-        let gs = ladderOf text in
+        let gs = textLadder text in
         let e2 = later-yes (question1 vars) _ yes-before in
         let e3 = later-yes (question2 (length text)) _ e2 in
         let e5 = later-yes (question3 text) _ e3 in
@@ -159,5 +159,5 @@ module _ (vars : ℕ) (text : List ℕ) (lent : Buffers) where
           scratch = scratch-always in-grammar;
         }
 
-    pub encoded-accepted : ladderAnswer vars (encode (ladderOf text)) ≡ none
-    encoded-accepted = accepting vars (encode (ladderOf text)) (rw (ladder-is (encode (ladderOf text)) (ladderOf text) (decoded-always in-grammar)) accepted)
+    pub encoded-accepted : ladderAnswer vars (encode (textLadder text)) ≡ none
+    encoded-accepted = accepting vars (encode (textLadder text)) (rw (ladder-is (encode (textLadder text)) (textLadder text) (decoded-always in-grammar)) accepted)

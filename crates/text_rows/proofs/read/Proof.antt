@@ -41,7 +41,8 @@ use denote.Triple.Walked.{says, Stays, stay-none, stay-none-slice, gave-slice, w
 use denote.Exit.{yes}
 use Rattle.rungs.specs.Records.{RungRecord}
 use Rattle.rungs.specs.Buffers.{asBuffers}
-use Rattle.rows.specs.Rows.{recordsOf, scattered}
+use Rattle.rows.specs.Rows.{recordsOf}
+use Rattle.rows.specs.Parts.{scattered}
 use Rattle.rows.specs.Laws.Records.{records-length}
 use Rattle.rows.specs.declared.Rung.{Rung}
 use Rattle.rows.specs.declared.Rows.{Rows}

@@ -11,6 +11,7 @@ use Rattle.rungs.specs.Buffers.{Buffers, asBuffers, needs, writtenOver}
 use Rattle.rungs.specs.Laws.Filling.{labels-count, offsets-count, lengths-count, roomy}
 use Rattle.drawing.specs.Kept.{Kept}
 use Rattle.drawing.specs.Questions.{ladderOf, ladderAnswer}
+use Rattle.drawing.specs.Laws.Accepting.{ladder-first}
 use Rattle.list.specs.Instruction.{instrWord}
 use Rattle.list.specs.Machine.{InstructionList}
 use Rattle.translation.specs.Translate.{translate}
@@ -29,13 +30,16 @@ module _ (vars : ℕ) (k : Kept) (lent : Buffers) where
   abbrev pub asked : Answer
   asked = firstNo (ladderAnswer vars k ∷ question13 (needs (listBuffers list) lent) ∷ [])
 
+  abbrev room : Answer
+  room = question13 (needs (listBuffers list) lent)
+
   pub call-refused : (r : Refusal) → asked ≡ some r → translateKept vars k lent ≡ record { answer = refused r; buffers = lent }
   unfolding translateKept
-  call-refused r e = rw (e, translateKept)
+  call-refused r e = rw (ladder-first vars k (room ∷ []) ∙ e, translateKept)
 
   pub call-written : asked ≡ none → translateKept vars k lent ≡ record { answer = translated (countsOf list); buffers = writtenOver (listBuffers list) lent }
   unfolding translateKept
-  call-written e = rw (e, translateKept)
+  call-written e = rw (ladder-first vars k (room ∷ []) ∙ e, translateKept)
 
   pub refused-same : (r : Refusal) → translateKept vars k lent .answer ≡ refused r → translateKept vars k lent .buffers ≡ lent
   refused-same r e = go asked refl

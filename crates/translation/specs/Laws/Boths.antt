@@ -7,11 +7,10 @@ use lib.ListN.{length, drop-of-length-le}
 use lib.Seq.{take-all}
 use Rattle.rungs.specs.Buffers.{writtenWords, writtenRecords}
 use Rattle.drawing.specs.Kept.{Kept}
-use Rattle.ladder.specs.LadderScan.{ladderScan}
-use Rattle.list.specs.ListScan.{listScan}
-use Rattle.list.specs.ListScan.{ScanCall as ListScanCall}
+use Rattle.ladder.specs.LadderScan.{callLadderScan}
+use Rattle.list.specs.ListScan.{ListScanCall, callListScan}
 use Rattle.translation.specs.TranslateKept.{translateKept}
-use Rattle.translation.specs.Calls.{CallsAgree}
+use Rattle.translation.specs.Calls.{CallsAlike, CallsAgree}
 use Rattle.translation.specs.BothScans.{copied, Lent, BothCall, both, scanBoth, bothScans}
 use Rattle.translation.specs.BothAgree.{BothGiven, BothAgree}
 use Rattle.translation.specs.Laws.Calls.{calls-alike}
@@ -22,49 +21,41 @@ unfolding copied
 copied-whole table lent e =
     rw (take-all (length lent) table (omega arith), drop-of-length-le lent {i = length table} (omega arith)) (append-nil table)
 
-module _ (vars : ℕ) (k : Kept) (table : List ℕ) (lent : Lent) (n : ℕ) (given : BothGiven vars k table lent n) (w : ℕ) where
-  agree : CallsAgree vars k (lent .buffers) table n
-  agree = calls-alike vars k (lent .buffers) table n (given .given)
+module _ (vars : ℕ) (kept : Kept) (table : List ℕ) (lent : Lent) (n : ℕ) (given : BothGiven vars kept table lent n) (w : ℕ) where
+  agree : CallsAgree vars kept (lent .buffers) table n
+  agree = calls-alike vars kept (lent .buffers) table n (given .given)
 
   abbrev words : List ℕ
-  words = writtenWords (translateKept vars k (lent .buffers) .buffers) (agree .counts .instructions)
+  words = writtenWords (translateKept vars kept (lent .buffers) .buffers) (agree .counts .instructions)
 
   abbrev call : BothCall
   call =
-      let ladder = ladderScan vars k table n in
-      let list = listScan vars words (writtenRecords (translateKept vars k (lent .buffers) .buffers) (agree .counts .rungs)) table w in
+      let ladder = callLadderScan vars kept table n in
+      let list = callListScan vars words (writtenRecords (translateKept vars kept (lent .buffers) .buffers) (agree .counts .rungs)) table w in
       record {
         answer = both (ladder .answer) (list .answer);
-        lent = record { ladderTable = ladder .table; listTable = list .table; buffers = translateKept vars k (lent .buffers) .buffers };
+        lent = record { ladderTable = ladder .table; listTable = list .table; buffers = translateKept vars kept (lent .buffers) .buffers };
       }
 
-  both-is : bothScans vars k table lent n w ≡ call
+  both-is : bothScans vars kept table lent n w ≡ call
   unfolding bothScans scanBoth
   both-is =
       rw (agree .translated, bothScans, copied-whole table (lent .ladderTable) (given .ladder-copy), copied-whole table (lent .listTable) (given .list-copy)) refl
 
   abbrev listCall : ListScanCall
-  listCall = listScan vars words (writtenRecords (translateKept vars k (lent .buffers) .buffers) (agree .counts .rungs)) table w
+  listCall = callListScan vars words (writtenRecords (translateKept vars kept (lent .buffers) .buffers) (agree .counts .rungs)) table w
 
-  pub both-alike : BothAgree vars k table lent n w
+  pub both-alike : BothAgree vars kept table lent n w
+  unfolding CallsAlike
   both-alike =
       let s = agree .scans in
       record {
         counts = agree .counts;
         translated = agree .translated;
         halt = s .halt;
-        rungs = s .rungs;
+        ladder = s .counts;
         list = listCall .answer;
         answered = ap (λ c. c .answer) both-is ∙ ap (λ a. both a (listCall .answer)) (s .scanned);
-        ended = λ e legal enough.
-            let x = s .ended e w legal enough in
-            record {
-              instructions = x .instructions;
-              ended = x .ended;
-              same-variables = rw both-is (x .same-variables);
-              at-least = x .at-least;
-              at-most = x .at-most;
-            };
         stopped-at = s .stopped-at;
-        stopped = λ e few. s .stopped e w few;
+        alike = rw (both-is, ← (s .scanned)) (s .alike w);
       }

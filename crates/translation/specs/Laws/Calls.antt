@@ -1,14 +1,14 @@
 -- Demand 3 over the calls, from demand 3 over trees: what the calls do once every question got a "yes". Assumes nothing.
 use Prim.Native.Nat.{ℕ, zero, suc, _*_, _≤_}
 use native.Mathlib.Omega.{arith}
-use mathlib.Core.Path.{_≡_, refl, ap, _∙_}
+use mathlib.Core.Path.{_≡_, refl, sym, ap, _∙_}
 use mathlib.Core.Bool.{Bool}
 use mathlib.Core.Option.{Option, none, some}
 use mathlib.Core.List.{List, [], _∷_, map}
 use lib.ListN.{length, take, getElem?, length-map}
 use Rattle.questions.specs.Questions.{firstNo, question1, question12, question13, mostRungWatchdog, mostInstructionWatchdog}
 use Rattle.questions.specs.Laws.Answers.{watchdog-in-range, in-range-watchdog}
-use Rattle.table.specs.State.{State, variables, write}
+use Rattle.table.specs.State.{State, stateOf, write}
 use Rattle.table.specs.Halt.{Halt, Ended, Stopped}
 use Rattle.table.specs.Questions.{question11}
 use Rattle.table.specs.Laws.Alike.{alike-self}
@@ -16,32 +16,30 @@ use Rattle.rungs.specs.Records.{longest}
 use Rattle.rungs.specs.Buffers.{Buffers, asBuffers, needs, written, writtenOver, writtenWords, writtenRecords}
 use Rattle.rungs.specs.Laws.Filling.{written-first, row-of-buffers, labels-count, offsets-count, lengths-count}
 use Rattle.drawing.specs.Tree.{Ladder}
-use Rattle.drawing.specs.Meaning.{LadderScan, scanLadder}
+use Rattle.drawing.specs.Meaning.{LadderResult, scanLadder}
 use Rattle.drawing.specs.Kept.{Kept}
 use Rattle.drawing.specs.Questions.{ladderOf, ladderAnswer, Accepted}
-use Rattle.ladder.specs.LadderScan.{ladderScan}
-use Rattle.ladder.specs.LadderScan.{scanEnds as ladderEnds, scanAnswer as ladderScanAnswer}
-use Rattle.drawing.specs.Laws.Accepting.{accepted}
+use Rattle.ladder.specs.LadderScan.{LadderCounts, callLadderScan, scanned as ladderScanned, scanEnds as ladderEnds, scanQuestions as ladderScanQuestions}
+use Rattle.drawing.specs.Laws.Accepting.{accepted, ladder-first}
 use Rattle.drawing.specs.Laws.Scratch.{scan-stays}
 use Rattle.drawing.specs.Laws.Watchdog.{stopped-stands, ended-stands}
 use Rattle.list.specs.Instruction.{Instr, LD, LDN, ST, STN, AND, ANDN, OR, ORN, XOR, XORN, NOT, JMP, JMPC, JMPCN, instrWord, codeOf}
-use Rattle.list.specs.Machine.{InstructionList, Machine, does, step, halted, ListScan, scanMachine, scanList}
+use Rattle.list.specs.Machine.{InstructionList, Machine, does, step, halted, scanMachine, scanList}
 use Rattle.list.specs.Questions.{question10, listAnswer}
-use Rattle.list.specs.ListScan.{listOf, listScan}
-use Rattle.list.specs.ListScan.{scanned as listScanned, scanEnds as listEnds, scanAnswer as listScanAnswer}
+use Rattle.list.specs.ListScan.{listOf, callListScan, scanEnds as listEnds, scanQuestions}
 use Rattle.list.specs.Laws.Watchdog.{scan-end, scan-stop, scan-step}
 use Rattle.translation.specs.Translate.{translate}
 use Rattle.translation.specs.TranslateKept.{countsOf, listBuffers, translated, translateKept}
-use Rattle.translation.specs.Agreement.{EndedAlike}
-use Rattle.translation.specs.Calls.{Given, EndedCalls, ScansAgree, CallsAgree}
+use Rattle.translation.specs.Demand3.{EndedAlike, StoppedAlike}
+use Rattle.translation.specs.Agreement.{Agreement}
+use Rattle.translation.specs.Calls.{Given, CallsAlike, ScansAgree, CallsAgree}
 use Rattle.translation.specs.Laws.Answers.{call-written}
 use Rattle.translation.specs.Laws.Lists.{below-all, translated-agrees}
-use Rattle.translation.specs.Laws.Legal.{list-in-range, list-decodes}
-use Rattle.translation.specs.Laws.Legal.{watchdog-in-range as most-in-range}
+use Rattle.translation.specs.Laws.Legal.{list-in-range, list-decodes, watchdog-in-range as most-in-range}
 
 -- ---- a list scan leaves V
 
-does-vars : (i : Instr) (v : Bool) (e : State) (pc : ℕ) → does i v e pc .1 .vars ≡ e .vars
+does-vars : (i : Instr) (v : Bool) (e : State) (pc : ℕ) → does i v e pc .state .vars ≡ e .vars
 unfolding does write
 does-vars (LD x) v e pc = refl
 does-vars (LDN x) v e pc = refl
@@ -74,14 +72,14 @@ module _ (l : InstructionList) where
       go none e ih = ap (λ x. x .state .vars) (scan-end l (suc n) m t e)
       go (some i) e ih = ap (λ x. x .state .vars) (scan-step l n m t i e) ∙ ih i ∙ does-vars i (m .accumulator) t (m .index)
 
-  list-vars : (w : ℕ) (s : State) → scanList l w s .state .vars ≡ s .vars
+  pub list-vars : (w : ℕ) (s : State) → scanList l w s .state .vars ≡ s .vars
   unfolding scanList
   list-vars w s = machine-vars w _ s
 
 -- ---- the rungs entered are at most the watchdog, and equal it where the scan is Stopped
 
 module _ (gs : Ladder) (n : ℕ) (s : State) where
-  abbrev x : LadderScan
+  abbrev x : LadderResult
   x = scanLadder gs n s
 
   stopped-rungs : x .halt ≡ Stopped → x .rungs ≡ n
@@ -96,25 +94,13 @@ module _ (gs : Ladder) (n : ℕ) (s : State) where
 
 -- ---- both scans, where the list is the ladder's
 
--- two scans that end alike, as calls
-ended-calls : (vars most : ℕ) (x : LadderScan) (y : ListScan) → x .state .vars ≡ vars → y .state .vars ≡ vars → EndedAlike 2 most x y
-    → EndedCalls vars (x .rungs) most (ladderEnds x) (listEnds y)
-unfolding ladderEnds listEnds variables
-ended-calls vars most x y p q e = record {
-  instructions = y .counts .instructions;
-  ended = λ i. listScanned (e .ended i) (record { instructions = y .counts .instructions; rungs = e .rungs i });
-  same-variables = rw (p, q) at (e .same-variables);
-  at-least = e .at-least;
-  at-most = e .at-most;
-}
-
-module _ (vars : ℕ) (k : Kept) (table : List ℕ) (n : ℕ)
-    (ok : ladderAnswer vars k ≡ none) (legal : question11 (record { vars = vars; bytes = table }) ≡ none) (watchdog : question12 mostRungWatchdog n ≡ none) where
+module _ (vars : ℕ) (kept : Kept) (table : List ℕ) (n : ℕ)
+    (ok : ladderAnswer vars kept ≡ none) (legal : question11 (stateOf vars table) ≡ none) (watchdog : question12 mostRungWatchdog n ≡ none) where
   abbrev gs : Ladder
-  gs = ladderOf k
+  gs = ladderOf kept
 
   abbrev s : State
-  s = record { vars = vars; bytes = table }
+  s = stateOf vars table
 
   abbrev list : InstructionList
   list = translate vars gs
@@ -122,14 +108,20 @@ module _ (vars : ℕ) (k : Kept) (table : List ℕ) (n : ℕ)
   abbrev words : List ℕ
   words = map instrWord (list .code)
 
-  taken : Accepted vars gs
-  taken = accepted vars k ok .1
+  abbrev most : ℕ
+  most = longest (list .records)
 
-  ladder-call : ladderScan vars k table n ≡ ladderEnds (scanLadder gs n s)
-  unfolding ladderScan ladderScanAnswer firstNo
+  taken : Accepted vars gs
+  taken = accepted vars kept ok .1
+
+  agrees : Agreement 2 gs list s n
+  agrees = translated-agrees vars gs s n taken (alike-self s (record { table = legal }))
+
+  ladder-call : callLadderScan vars kept table n ≡ ladderEnds (scanLadder gs n s)
+  unfolding callLadderScan ladderScanQuestions firstNo
   ladder-call =
-      let q : ladderScanAnswer vars k table n ≡ none = rw (ok, legal, watchdog) in
-      rw (q, ladderScan)
+      let later : firstNo (ladderAnswer vars kept ∷ question11 s ∷ question12 mostRungWatchdog n ∷ []) ≡ none = rw (ok, legal, watchdog) in
+      rw (ladder-first vars kept (question11 s ∷ question12 mostRungWatchdog n ∷ []) ∙ later, callLadderScan)
 
   list-held : listOf words (list .records) ≡ list
   unfolding listOf codeOf
@@ -137,33 +129,58 @@ module _ (vars : ℕ) (k : Kept) (table : List ℕ) (n : ℕ)
       let e : codeOf words ≡ list .code = rw (list-decodes vars gs taken, codeOf) in
       λ i. record { code = e i; records = list .records }
 
-  list-call : (w : ℕ) → question12 mostInstructionWatchdog w ≡ none → listScan vars words (list .records) table w ≡ listEnds (scanList list w s)
-  unfolding listScan listScanAnswer firstNo
+  list-call : (w : ℕ) → question12 mostInstructionWatchdog w ≡ none → callListScan vars words (list .records) table w ≡ listEnds (scanList list w s)
+  unfolding callListScan scanQuestions firstNo
   list-call w h =
       let q : firstNo (question1 vars ∷ question10 vars words (list .records) ∷ question11 s ∷ question12 mostInstructionWatchdog w ∷ []) ≡ none
       = rw (taken .range, list-in-range vars gs taken, legal, h) in
-      rw (q, listScan) (ap (λ l. listEnds (scanList l w s)) list-held)
+      rw (q, callListScan) (ap (λ l. listEnds (scanList l w s)) list-held)
 
-  pub scans-alike : ScansAgree vars k words (list .records) (longest (list .records)) table n
-  unfolding listAnswer firstNo ladderEnds listEnds
+  -- the state that a scan left, from its table
+  ladder-state : stateOf vars (ladderEnds (scanLadder gs n s) .table) ≡ scanLadder gs n s .state
+  unfolding ladderEnds
+  ladder-state = λ i. stateOf (sym (scan-stays gs n s (below-all vars gs taken) .same-vars) i) (scanLadder gs n s .state .bytes)
+
+  list-state : (w : ℕ) → stateOf vars (listEnds (scanList list w s) .table) ≡ scanList list w s .state
+  unfolding listEnds
+  list-state w = λ i. stateOf (sym (list-vars list w s) i) (scanList list w s .state .bytes)
+
+  -- what the ladder scan's answer tells
+  answered : (h : Halt) (c : LadderCounts) → callLadderScan vars kept table n .answer ≡ ladderScanned h c → (scanLadder gs n s .halt ≡ h) × (scanLadder gs n s .rungs ≡ c .rungs)
+  unfolding ladderEnds
+  answered h c e =
+      let z : ladderScanned (scanLadder gs n s .halt) (record { rungs = scanLadder gs n s .rungs }) ≡ ladderScanned h c = sym (ap (λ c. c .answer) ladder-call) ∙ e in
+      let halt : scanLadder gs n s .halt ≡ h = cc in
+      let counts : record { rungs = scanLadder gs n s .rungs } ≡ c = cc in
+      (halt, ap (λ (d : LadderCounts). d .rungs) counts)
+
+  ended-calls : (w : ℕ) (c : LadderCounts) → callLadderScan vars kept table n .answer ≡ ladderScanned Ended c → question12 mostInstructionWatchdog w ≡ none → c .rungs * most ≤ w
+      → EndedAlike 2 most (c .rungs) (stateOf vars (callLadderScan vars kept table n .table)) (callListScan vars words (list .records) table w .answer)
+      (stateOf vars (callListScan vars words (list .records) table w .table))
+  ended-calls w c e h room =
+      let a = answered Ended c e in
+      rw (ladder-call, list-call w h, ladder-state, list-state w, ← (a .1)) (agrees .ended w (a .0) (rw (a .1) room))
+
+  stopped-calls : (w : ℕ) (c : LadderCounts) → callLadderScan vars kept table n .answer ≡ ladderScanned Stopped c → w ≤ 2 * n
+      → StoppedAlike (callListScan vars words (list .records) table w .answer)
+  stopped-calls w c e few =
+      let most = watchdog-in-range mostRungWatchdog n watchdog in
+      rw (list-call w (in-range-watchdog mostInstructionWatchdog w (omega arith))) (agrees .stopped w (answered Stopped c e .0) few)
+
+  pub scans-alike : ScansAgree vars kept words (list .records) most table n
+  unfolding listAnswer firstNo ladderEnds CallsAlike
   scans-alike =
-      let agrees = translated-agrees vars gs s n taken (alike-self s legal) in
       let few = few-rungs gs n s in
       let most = watchdog-in-range mostRungWatchdog n watchdog in
       record {
         list-accepted = rw (taken .range, list-in-range vars gs taken);
         halt = scanLadder gs n s .halt;
-        rungs = scanLadder gs n s .rungs;
+        counts = record { rungs = scanLadder gs n s .rungs };
         scanned = ap (λ c. c .answer) ladder-call;
         ended-watchdog = most-in-range vars gs taken (scanLadder gs n s .rungs) (omega arith);
         stopped-watchdog = in-range-watchdog mostInstructionWatchdog (2 * n) (omega arith);
-        ended = λ e w h room. rw (ladder-call, list-call w h) (ended-calls vars _ (scanLadder gs n s) (scanList list w s)
-            (scan-stays gs n s (below-all vars gs taken) .same-vars) (list-vars list w s) (agrees .ended w e room));
         stopped-at = stopped-rungs gs n s;
-        stopped = λ e w room.
-            let h = in-range-watchdog mostInstructionWatchdog w (omega arith) in
-            let halt = agrees .stopped w e room in
-            (scanList list w s .counts, ap (λ c. c .answer) (list-call w h) ∙ ap (λ a. listScanned a (scanList list w s .counts)) halt);
+        alike = λ w. record { ended = λ c. ended-calls w c; stopped = λ c. stopped-calls w c };
       }
 
 -- ---- what Translate wrote, taken out again

@@ -8,11 +8,12 @@ use native.Mathlib.Nat.{zero-add, add-assoc}
 use native.Mathlib.Numerals.{add-one, one-add}
 use native.Mathlib.Omega.{arith}
 use lib.ListN.{drop, getElem?}
-use Rattle.table.specs.State.{State, bit}
+use Rattle.questions.specs.Tests.{bit}
+use Rattle.table.specs.State.{State}
 use Rattle.rungs.specs.Records.{isStart}
 use Rattle.drawing.specs.Meaning.{Run, onward, jumped, left}
 use Rattle.list.specs.Instruction.{Instr, LD, LDN, ST, STN, AND, ANDN, OR, ORN, XOR, XORN, NOT, JMP, JMPC, JMPCN}
-use Rattle.list.specs.Machine.{InstructionList, Counts, Machine, ListScan, does, count, step, scanMachine}
+use Rattle.list.specs.Machine.{InstructionList, Counts, Machine, ListResult, does, count, step, scanMachine}
 use Rattle.list.specs.Laws.Watchdog.{scan-step}
 
 -- how many instructions were carried out, the accumulator, and whether the stretch was left by a jump, and to which index
@@ -48,16 +49,16 @@ leaves (JMPCN j) v = cond v none (some j)
 unfoldable pub exec : List Instr → Bool → State → Out
 exec [] v t = record { count = 0; accumulator = v; run = onward t }
 exec (i ∷ is) v t = elim (leaves i v) [
-  | none ↦ more 1 (exec is (does i v t 0 .0) (does i v t 0 .1))
-  | some j ↦ record { count = 1; accumulator = does i v t 0 .0; run = jumped j (does i v t 0 .1) }
+  | none ↦ more 1 (exec is (does i v t 0 .accumulator) (does i v t 0 .state))
+  | some j ↦ record { count = 1; accumulator = does i v t 0 .accumulator; run = jumped j (does i v t 0 .state) }
 ]
 
-pub exec-on : (i : Instr) (is : List Instr) (v : Bool) (t : State) → leaves i v ≡ none → exec (i ∷ is) v t ≡ more 1 (exec is (does i v t 0 .0) (does i v t 0 .1))
+pub exec-on : (i : Instr) (is : List Instr) (v : Bool) (t : State) → leaves i v ≡ none → exec (i ∷ is) v t ≡ more 1 (exec is (does i v t 0 .accumulator) (does i v t 0 .state))
 unfolding exec
 exec-on i is v t q = rw (q, exec)
 
 pub exec-off : (i : Instr) (is : List Instr) (v : Bool) (t : State) (j : ℕ) → leaves i v ≡ some j
-    → exec (i ∷ is) v t ≡ record { count = 1; accumulator = does i v t 0 .0; run = jumped j (does i v t 0 .1) }
+    → exec (i ∷ is) v t ≡ record { count = 1; accumulator = does i v t 0 .accumulator; run = jumped j (does i v t 0 .state) }
 unfolding exec
 exec-off i is v t j q = rw (q, exec)
 
@@ -66,7 +67,7 @@ goes none pc = pc + 1
 goes (some j) pc = j
 
 -- the same instruction at another index
-does-at : (i : Instr) (v : Bool) (t : State) (pc : ℕ) → does i v t pc ≡ (does i v t 0 .0, does i v t 0 .1, goes (leaves i v) pc)
+does-at : (i : Instr) (v : Bool) (t : State) (pc : ℕ) → does i v t pc ≡ record { accumulator = does i v t 0 .accumulator; state = does i v t 0 .state; index = goes (leaves i v) pc }
 unfolding does goes leaves
 does-at (LD x) v t pc = refl
 does-at (LDN x) v t pc = refl
@@ -119,7 +120,7 @@ module _ (l : InstructionList) where
 
   one-step : (pc : ℕ) (i : Instr) (rest : List Instr) → drop pc (l .code) ≡ i ∷ rest → (n : ℕ) (v : Bool) (t : State) (c : Counts)
       → scanMachine l (suc n) (machine v pc c) t
-      ≡ scanMachine l n (machine (does i v t 0 .0) (goes (leaves i v) pc) (count (l .records) pc c)) (does i v t 0 .1)
+      ≡ scanMachine l n (machine (does i v t 0 .accumulator) (goes (leaves i v) pc) (count (l .records) pc c)) (does i v t 0 .state)
   unfolding step
   one-step pc i rest e n v t c = scan-step l n (machine v pc c) t i (drop-head (l .code) pc e) ∙ rw (does-at i v t pc)
 
@@ -143,7 +144,7 @@ module _ (l : InstructionList) where
   counted-rungs pc zero c = omega arith
   counted-rungs pc (suc n) c = counted-rungs (suc pc) n (count (l .records) pc c) ∙ omega arith
 
-  unfoldable pub resumes : ℕ → ℕ → Counts → Out → ListScan
+  unfoldable pub resumes : ℕ → ℕ → Counts → Out → ListResult
   resumes k pc c o = scanMachine l k (machine (o .accumulator) (landing pc (o .run) (o .count)) (counted pc (o .count) c)) (left (o .run))
 
   resumes-more : (k pc : ℕ) (c : Counts) (o : Out) → resumes k (suc pc) (count (l .records) pc c) o ≡ resumes k pc c (more 1 o)
@@ -159,13 +160,13 @@ module _ (l : InstructionList) where
   unfolding exec resumes landing left counted more goes
   exec-run [] post pc e k v t c = rw zero-add (same-machine k v t (omega arith) refl)
   exec-run (i ∷ is) post pc e k v t c =
-      go (leaves i v) refl (exec-run is post (suc pc) (drop-tail (l .code) pc e) k (does i v t 0 .0) (does i v t 0 .1) (count (l .records) pc c))
+      go (leaves i v) refl (exec-run is post (suc pc) (drop-tail (l .code) pc e) k (does i v t 0 .accumulator) (does i v t 0 .state) (count (l .records) pc c))
     where
       w : Bool
-      w = does i v t 0 .0
+      w = does i v t 0 .accumulator
 
       u : State
-      u = does i v t 0 .1
+      u = does i v t 0 .state
 
       c′ : Counts
       c′ = count (l .records) pc c

@@ -10,7 +10,7 @@ use Rattle.questions.specs.Tests.{all}
 use Rattle.questions.specs.Laws.Tests.{all-at}
 use Rattle.questions.specs.Laws.Answers.{ask-passed, each-passed}
 use Rattle.table.specs.State.{State, scratchBytes}
-use Rattle.table.specs.Laws.Alike.{Alike}
+use Rattle.table.specs.Laws.Alike.{Alike, alike-same}
 use Rattle.rungs.specs.Records.{lay, present, startOf}
 use Rattle.rungs.specs.Laws.Rows.{present-below}
 use Rattle.rungs.specs.Laws.Layout.{sizes, start-at, start-most, lay-same, pieces-length}
@@ -65,10 +65,10 @@ module _ (vars : ℕ) (gs : Ladder) where
       omega arith
 
   pub translated-agrees : (s : State) (n : ℕ) → Accepted vars gs → Alike vars s s → Agreement 2 gs (translate vars gs) s n
-  translated-agrees s n a alike = rw translate-is (agrees vars 2 code gs (omega arith) did s n alike)
+  translated-agrees s n a alike = rw translate-is (agrees (Alike vars) (λ a b p. alike-same p) 2 code gs (omega arith) did s n alike)
     where
       did : (pre : Ladder) (g : Rung) (post : Ladder) → gs ≡ pre ++ g ∷ post → (s t : State) (v : Bool) → Alike vars s t
-          → RungDid vars 2 code gs (sizes (sizeBy code) pre) (code g) v t (runRung g s)
+          → RungDid (Alike vars) 2 code gs (sizes (sizeBy code) pre) (code g) v t (runRung g s)
       did pre g post e s t v p = rung-did vars code gs (labels gs) start leads (sizes (sizeBy code) pre) g s t v
           (all-at (rungBelow vars) pre g post (rw e at (below-all vars gs a)))
           (all-at (rungLeads (labels gs)) pre g post (ap-all e (leads-all vars gs a)))

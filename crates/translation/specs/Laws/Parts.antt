@@ -12,9 +12,9 @@ use mir.Facts.{and-yes}
 use Rattle.table.specs.State.{State, scratchBytes, value, write}
 use Rattle.table.specs.Laws.Alike.{Alike, Keeps, value-alike, write-both, write-scratch, value-written, keeps-all, keeps-variable, keeps-scratch, value-kept, keeps-less, keeps-both}
 use Rattle.rungs.specs.Records.{present}
-use Rattle.drawing.specs.Tree.{contact, contactn, Front, input, frontAnd, frontOr, Output, coil, coiln, jump, jumpn, Rear, output, rearAnd, rearOr, Rung, Ladder, frontAll, rearAll, rungAll}
+use Rattle.drawing.specs.Tree.{contact, contactn, Front, input, frontAnd, frontOr, Output, coil, coiln, jump, jumpn, Rear, output, rearAnd, rearOr, Rung, Ladder, frontAll, rearAll, rungAll, inputVariable, outputNames}
 use Rattle.drawing.specs.Meaning.{workInput, workFront, Run, onward, jumped, left, jumpIf, unlessJumped, runOutput, runRear, runRung}
-use Rattle.drawing.specs.Questions.{inputBelow, outputBelow, rungBelow, outputLeads, rungLeads, joinScratch, frontScratch, rearScratch, rungScratch}
+use Rattle.drawing.specs.Questions.{inputBelow, namedBelow, outputBelow, rungBelow, namedLeads, outputLeads, rungLeads, joinScratch, frontScratch, rearScratch, rungScratch}
 use Rattle.list.specs.Instruction.{Instr, LD, ST, AND, ANDN, OR, ORN}
 use Rattle.list.specs.Machine.{does}
 use Rattle.translation.specs.Translate.{F, R, join, outputCode, rungCode}
@@ -54,7 +54,7 @@ data Ran (vars : ℕ) (ls : List ℕ) (start : ℕ → ℕ) (d : ℕ) (code : Li
   went : {l : ℕ} {s : State} → T (present l ls) → Left vars code v t (start l) s → Ran vars ls start d code v t (jumped l s)
 
 module _ {vars d : ℕ} where
-  single : {i : Instr} {v : Bool} {t : State} {p : Bool} {s u : State} → leaves i v ≡ none → does i v t 0 .0 ≡ p → does i v t 0 .1 ≡ u
+  single : {i : Instr} {v : Bool} {t : State} {p : Bool} {s u : State} → leaves i v ≡ none → does i v t 0 .accumulator ≡ p → does i v t 0 .state ≡ u
       → Alike vars s u → Keeps vars d t u → Straight vars d (i ∷ []) v t p s
   single {i} {v} {t} {u = u} q a b al k = record { state = u; alike = al; keeps = k; runs = λ rest. rw (exec-on i rest v t q, a, b) refl }
 
@@ -96,8 +96,8 @@ before {a = a} b y = let high = y .high in record {
 
 -- a pair of instructions that join the operand, or its opposite, to the accumulator
 record Joins (op opn : ℕ → Instr) (by : Bool → Bool → Bool) : Type 0 where
-  plain : (x : ℕ) (v : Bool) (t : State) → (leaves (op x) v ≡ none) × (does (op x) v t 0 .0 ≡ by v (value t x)) × (does (op x) v t 0 .1 ≡ t)
-  negated : (x : ℕ) (v : Bool) (t : State) → (leaves (opn x) v ≡ none) × (does (opn x) v t 0 .0 ≡ by v (not (value t x))) × (does (opn x) v t 0 .1 ≡ t)
+  plain : (x : ℕ) (v : Bool) (t : State) → (leaves (op x) v ≡ none) × (does (op x) v t 0 .accumulator ≡ by v (value t x)) × (does (op x) v t 0 .state ≡ t)
+  negated : (x : ℕ) (v : Bool) (t : State) → (leaves (opn x) v ≡ none) × (does (opn x) v t 0 .accumulator ≡ by v (not (value t x))) × (does (opn x) v t 0 .state ≡ t)
   swap : (a b : Bool) → by a b ≡ by b a
 
 joins-and : Joins AND ANDN _&&_
@@ -133,7 +133,7 @@ module _ (vars : ℕ) where
     join-runs : (d : ℕ) (s t : State) (v : Bool) (g : Front) (code : List Instr) → T (frontBelow vars g) → d + joinScratch g (frontScratch g) ≤ scratchBytes → Alike vars s t
         → (d + 1 + frontScratch g ≤ scratchBytes → (u : State) → Alike vars s u → Straight vars (d + 1) code v u (workFront g s .power) (workFront g s .state))
         → Straight vars d (join op opn g code (vars + d)) v t (by v (workFront g s .power)) (workFront g s .state)
-    unfolding join joinScratch workFront workInput frontAll inputBelow
+    unfolding join joinScratch workFront workInput frontAll inputBelow inputVariable
     join-runs d s t v (input (contact x)) code b h p own =
         let o = j .plain x v t in
         single (o .0) (o .1 ∙ ap (by v) (value-alike p x (ltb→lt x vars b))) (o .2) p (keeps-all vars d t)
@@ -145,7 +145,7 @@ module _ (vars : ℕ) where
 
   F-runs : (f : Front) (d : ℕ) (s t : State) (v : Bool) → T (frontBelow vars f) → d + frontScratch f ≤ scratchBytes → Alike vars s t
       → Straight vars d (F vars f d) v t (workFront f s .power) (workFront f s .state)
-  unfolding F workFront workInput frontAll inputBelow frontScratch leaves does
+  unfolding F workFront workInput frontAll inputBelow inputVariable frontScratch leaves does
   F-runs (input (contact x)) d s t v b h p = single refl (value-alike p x (ltb→lt x vars b)) refl p (keeps-all vars d t)
   F-runs (input (contactn x)) d s t v b h p = single refl (ap not (value-alike p x (ltb→lt x vars b))) refl p (keeps-all vars d t)
   F-runs (frontAnd f g) d s t v b h p =
@@ -170,7 +170,7 @@ module _ (vars : ℕ) where
     or-ran {b = b} next (went h y) k = went h (before b y)
 
     -- a taken jump
-    takes : (d : ℕ) (s t : State) (v : Bool) (i : Instr) (l : ℕ) → T (present l ls) → leaves i v ≡ some (start l) → does i v t 0 .0 ≡ v → does i v t 0 .1 ≡ t → Alike vars s t
+    takes : (d : ℕ) (s t : State) (v : Bool) (i : Instr) (l : ℕ) → T (present l ls) → leaves i v ≡ some (start l) → does i v t 0 .accumulator ≡ v → does i v t 0 .state ≡ t → Alike vars s t
         → Ran vars ls start d (i ∷ []) v t (jumped l s)
     takes d s t v i l h q a b p = went {l = l} h (record {
       count = 1;
@@ -183,7 +183,7 @@ module _ (vars : ℕ) where
     })
 
     output-runs : (o : Output) (d : ℕ) (s t : State) (v : Bool) → T (outputBelow vars o) → T (outputLeads ls o) → Alike vars s t → Ran vars ls start d (outputCode start o ∷ []) v t (runOutput o v s)
-    unfolding outputCode runOutput outputBelow outputLeads jumpIf leaves does
+    unfolding outputCode runOutput outputBelow outputLeads namedBelow namedLeads outputNames jumpIf leaves does
     output-runs (coil x) d s t v b h p = let k = ltb→lt x vars b in fell (single refl refl refl (write-both p x v k) (keeps-variable vars d x t v k))
     output-runs (coiln x) d s t v b h p = let k = ltb→lt x vars b in fell (single refl refl refl (write-both p x (not v) k) (keeps-variable vars d x t (not v) k))
     output-runs (jump l) d s t true b h p = takes d s t true _ l h refl refl refl p
@@ -239,7 +239,7 @@ module _ (vars : ℕ) where
 
   module _ (code : Rung → List Instr) (gs : Ladder) (ls : List ℕ) (start : ℕ → ℕ) (leads : (l : ℕ) → T (present l ls) → start l ≡ first code gs l) where
     whole : {a b : List Instr} {v p : Bool} {t s : State} {r : Run} (pc : ℕ) → 1 ≤ length a → 1 ≤ length b → (x : Straight vars 0 a v t p s) → Ran vars ls start 0 b p (x .state) r
-        → RungDid vars 2 code gs pc (a ++ b) v t r
+        → RungDid (Alike vars) 2 code gs pc (a ++ b) v t r
     unfolding exec more seq behind landing followIndex left
     whole {a} {b} pc la lb x (fell {p = q} y) =
         let z = seq x y in
@@ -264,7 +264,7 @@ module _ (vars : ℕ) where
         }
 
     pub rung-did : (pc : ℕ) (g : Rung) (s t : State) (v : Bool) → T (rungBelow vars g) → T (rungLeads ls g) → rungScratch g ≤ scratchBytes → Alike vars s t
-        → RungDid vars 2 code gs pc (rungCode vars start g) v t (runRung g s)
+        → RungDid (Alike vars) 2 code gs pc (rungCode vars start g) v t (runRung g s)
     unfolding rungCode runRung rungAll rungScratch
     rung-did pc g s t v b j h p =
         let bb = and-yes (frontBelow vars (g .front)) (rearBelow vars (g .rear)) b in

@@ -1,4 +1,5 @@
--- A list in which the code of every rung does what the rung does scans as the ladder. Assumes nothing.
+-- A list in which the code of every rung does what the rung does scans as the ladder; `Alike` is any relation of the ladder's state to the list's that makes the
+-- variables equal. Assumes nothing.
 use mathlib.Core.Path.{_≡_, refl, sym, ap, _∙_}
 use mathlib.Core.Bool.{Bool, false}
 use mathlib.Core.Option.{Option, none, some}
@@ -7,25 +8,26 @@ use Prim.Native.Nat.{ℕ, zero, suc, _+_, _-_, _*_, _≤_}
 use native.Mathlib.Nat.{zero-add, add-assoc}
 use native.Mathlib.Omega.{arith}
 use lib.ListN.{length, getElem?, length-append}
-use Rattle.table.specs.State.{State, variables}
+use Rattle.table.specs.State.{State, SameButScratch}
 use Rattle.table.specs.Halt.{Halt, Ended, Stopped}
-use Rattle.table.specs.Laws.Alike.{Alike, variables-alike}
 use Rattle.rungs.specs.Records.{longest}
 use Rattle.rungs.specs.Laws.Layout.{sizes, drop-pieces, longest-at}
 use Rattle.drawing.specs.Tree.{Rung, Ladder}
-use Rattle.drawing.specs.Meaning.{Run, left, runRung, follow, LadderScan, scanFrom, scanLadder}
+use Rattle.drawing.specs.Meaning.{Run, left, runRung, follow, LadderResult, scanFrom, scanLadder}
 use Rattle.list.specs.Instruction.{Instr}
-use Rattle.list.specs.Machine.{InstructionList, Counts, Machine, begin, halted, scanMachine, scanList}
+use Rattle.list.specs.Machine.{InstructionList, Counts, Machine, fresh, begin, halted, scanMachine, scanList}
 use Rattle.list.specs.Laws.Watchdog.{scan-end, scan-stop, stops-sooner}
-use Rattle.translation.specs.Agreement.{EndedAlike, Agreement}
+use Rattle.list.specs.ListScan.{scanEnds, scanned as listScanned}
+use Rattle.translation.specs.Demand3.{EndedAlike, StoppedAlike}
+use Rattle.translation.specs.Agreement.{Agreement}
 use Rattle.translation.specs.Laws.Exec.{Out, exec, machine, drop-head, drop-none, same-machine, counted, counted-instructions, counted-rungs, landing, resumes, exec-run}
 use Rattle.translation.specs.Laws.Places.{labelOf, sizeBy, listOf, followIndex, following, entered-once}
 
 -- From accumulator v and state t the code, which stands at index pc, does what the run x of its rung says, in `least` instructions or more.
-pub record RungDid (vars least : ℕ) (codeOf : Rung → List Instr) (gs : Ladder) (pc : ℕ) (code : List Instr) (v : Bool) (t : State) (x : Run) : Type 0 where
+pub record RungDid (Alike : State → State → Type 0) (least : ℕ) (codeOf : Rung → List Instr) (gs : Ladder) (pc : ℕ) (code : List Instr) (v : Bool) (t : State) (x : Run) : Type 0 where
   pub out : Out
   pub runs : exec code v t ≡ out
-  pub alike : Alike vars (left x) (left (out .run))
+  pub alike : Alike (left x) (left (out .run))
   pub low : least ≤ out .count
   pub high : out .count ≤ length code
   pub lands : landing pc (out .run) (out .count) ≡ followIndex codeOf gs (pc + length code) x
@@ -36,14 +38,14 @@ Standing Ended o = o ≡ none
 Standing Stopped o = (i : Instr) × (o ≡ some i)
 
 -- From accumulator v, index pc, counts c and state t, the scan of l comes to where the ladder scan x, counted from k, halts.
-record Reached (vars least : ℕ) (l : InstructionList) (k : ℕ) (c : Counts) (pc : ℕ) (v : Bool) (t : State) (x : LadderScan) : Type 0 where
+record Reached (Alike : State → State → Type 0) (least : ℕ) (l : InstructionList) (k : ℕ) (c : Counts) (pc : ℕ) (v : Bool) (t : State) (x : LadderResult) : Type 0 where
   instructions : ℕ
   entries : ℕ
   accumulator : Bool
   index : ℕ
   counts : Counts
   state : State
-  alike : Alike vars (x .state) state
+  alike : Alike (x .state) state
   rungs : x .rungs ≡ k + entries
   counts-instructions : counts .instructions ≡ c .instructions + instructions
   counts-rungs : counts .rungs ≡ c .rungs + entries
@@ -64,15 +66,15 @@ stopped-count all zero k (g ∷ gs) s e = omega arith
 stopped-count all (suc n) k [] s e = cc
 stopped-count all (suc n) k (g ∷ gs) s e = stopped-count all n (k + 1) (follow all gs (runRung g s)) (left (runRung g s)) e ∙ omega arith
 
-module _ (vars least : ℕ) (code : Rung → List Instr) (gs : Ladder) (positive : 1 ≤ least)
-    (did : (pre : Ladder) (g : Rung) (post : Ladder) → gs ≡ pre ++ g ∷ post → (s t : State) (v : Bool) → Alike vars s t
-    → RungDid vars least code gs (sizes (sizeBy code) pre) (code g) v t (runRung g s)) where
+module _ (Alike : State → State → Type 0) (equal : (s t : State) → Alike s t → SameButScratch s t) (least : ℕ) (code : Rung → List Instr) (gs : Ladder) (positive : 1 ≤ least)
+    (did : (pre : Ladder) (g : Rung) (post : Ladder) → gs ≡ pre ++ g ∷ post → (s t : State) (v : Bool) → Alike s t
+    → RungDid Alike least code gs (sizes (sizeBy code) pre) (code g) v t (runRung g s)) where
   abbrev place : Ladder → ℕ
   place = sizes (sizeBy code)
 
   -- a scan that halts here
-  here : (k : ℕ) (c : Counts) (v : Bool) (pc : ℕ) (s t : State) (h : Halt) → Alike vars s t → Standing h (getElem? (flatMap code gs) pc)
-      → Reached vars least (listOf code gs) k c pc v t (record { halt = h; rungs = k; state = s })
+  here : (k : ℕ) (c : Counts) (v : Bool) (pc : ℕ) (s t : State) (h : Halt) → Alike s t → Standing h (getElem? (flatMap code gs) pc)
+      → Reached Alike least (listOf code gs) k c pc v t (record { halt = h; rungs = k; state = s })
   unfolding listOf
   here k c v pc s t h p st = record {
     instructions = 0;
@@ -100,8 +102,8 @@ module _ (vars least : ℕ) (code : Rung → List Instr) (gs : Ladder) (positive
       rw x at (exec-run (listOf code gs) (code g) (flatMap code post) (place pre) (drop-pieces code gs pre (g ∷ post) e) j v t c)
 
   -- the scan from the rungs `rest` on
-  reached : (n k : ℕ) (c : Counts) (v : Bool) (pre rest : Ladder) (s t : State) → gs ≡ pre ++ rest → Alike vars s t
-      → Reached vars least (listOf code gs) k c (place pre) v t (scanFrom gs n k rest s)
+  reached : (n k : ℕ) (c : Counts) (v : Bool) (pre rest : Ladder) (s t : State) → gs ≡ pre ++ rest → Alike s t
+      → Reached Alike least (listOf code gs) k c (place pre) v t (scanFrom gs n k rest s)
   unfolding scanFrom flatMap Standing listOf
   reached zero k c v pre [] s t e p = here k c v (place pre) s t Ended p (drop-none (flatMap code gs) (place pre) (drop-pieces code gs pre [] e))
   reached zero k c v pre (g ∷ rest) s t e p =
@@ -144,17 +146,18 @@ module _ (vars least : ℕ) (code : Rung → List Instr) (gs : Ladder) (positive
         stands = y .stands;
       }
 
-  module _ (s : State) (n : ℕ) (alike : Alike vars s s) where
-    both : Reached vars least (listOf code gs) 0 (begin .counts) 0 false s (scanLadder gs n s)
+  module _ (s : State) (n : ℕ) (alike : Alike s s) where
+    both : Reached Alike least (listOf code gs) 0 (begin (listOf code gs) .counts) 0 false s (scanLadder gs n s)
     unfolding scanLadder sizes
-    both = reached n 0 (begin .counts) false [] gs s s refl alike
+    both = reached n 0 (begin (listOf code gs) .counts) false [] gs s s refl alike
 
     abbrev last : Machine
     last = machine (both .accumulator) (both .index) (both .counts)
 
     ended-alike : (w : ℕ) → scanLadder gs n s .halt ≡ Ended → scanLadder gs n s .rungs * longest (listOf code gs .records) ≤ w
-        → EndedAlike least (longest (listOf code gs .records)) (scanLadder gs n s) (scanList (listOf code gs) w s)
-    unfolding scanList Standing halted begin
+        → EndedAlike least (longest (listOf code gs .records)) (scanLadder gs n s .rungs) (scanLadder gs n s .state)
+        (scanEnds (scanList (listOf code gs) w s) .answer) (scanList (listOf code gs) w s .state)
+    unfolding scanList scanEnds Standing halted begin fresh listOf
     ended-alike w e h =
         let N = both .instructions in
         let rungs = both .rungs in
@@ -165,18 +168,19 @@ module _ (vars least : ℕ) (code : Rung → List Instr) (gs : Ladder) (positive
         let h′ = rw rungs at h in
         let ends = scan-end (listOf code gs) (w - N) last (both .state) (rw e at (both .stands)) in
         let fuel : w ≡ N + (w - N) = omega arith in
-        let q : scanMachine (listOf code gs) w begin s ≡ halted Ended last (both .state) =
-        ap (λ i. scanMachine (listOf code gs) i begin s) fuel ∙ both .runs (w - N) ∙ ends in
+        let q : scanMachine (listOf code gs) w (begin (listOf code gs)) s ≡ halted Ended last (both .state) =
+        ap (λ i. scanMachine (listOf code gs) i (begin (listOf code gs)) s) fuel ∙ both .runs (w - N) ∙ ends in
         record {
-          ended = ap (λ x. x .halt) q;
-          same-variables = ap (λ x. variables (x .state)) q ∙ sym (variables-alike (both .alike));
-          rungs = ap (λ x. x .counts .rungs) q ∙ omega arith;
-          at-least = rw (q, rungs) (omega arith);
-          at-most = rw (q, rungs) (omega arith);
+          counts = both .counts;
+          ended = ap (λ x. scanEnds x .answer) q;
+          same = rw q (equal _ _ (both .alike));
+          rungs = omega arith;
+          at-least = rw rungs (omega arith);
+          at-most = rw rungs (omega arith);
         }
 
-    stopped-alike : (w : ℕ) → scanLadder gs n s .halt ≡ Stopped → w ≤ least * n → scanList (listOf code gs) w s .halt ≡ Stopped
-    unfolding scanList scanLadder Standing halted begin
+    stopped-alike : (w : ℕ) → scanLadder gs n s .halt ≡ Stopped → w ≤ least * n → StoppedAlike (scanEnds (scanList (listOf code gs) w s) .answer)
+    unfolding scanList scanLadder scanEnds Standing halted begin fresh listOf
     stopped-alike w e h =
         let N = both .instructions in
         let rungs = both .rungs in
@@ -187,8 +191,9 @@ module _ (vars least : ℕ) (code : Rung → List Instr) (gs : Ladder) (positive
         let low′ = rw entries at low in
         let stops = scan-stop (listOf code gs) last (both .state) (st .0) (st .1) in
         let fuel : w + (N - w) ≡ N + 0 = omega arith in
-        let q = ap (λ i. scanMachine (listOf code gs) i begin s) fuel ∙ both .runs 0 ∙ stops in
-        stops-sooner (listOf code gs) w (N - w) begin s (ap (λ x. x .halt) q)
+        let q = ap (λ i. scanMachine (listOf code gs) i (begin (listOf code gs)) s) fuel ∙ both .runs 0 ∙ stops in
+        let halt = stops-sooner (listOf code gs) w (N - w) (begin (listOf code gs)) s (ap (λ x. x .halt) q) in
+        record { counts = scanList (listOf code gs) w s .counts; stopped = ap (λ h. listScanned h (scanList (listOf code gs) w s .counts)) halt }
 
     pub agrees : Agreement least gs (listOf code gs) s n
     agrees = record { ended = ended-alike; stopped = stopped-alike }

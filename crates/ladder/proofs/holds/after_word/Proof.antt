@@ -1,6 +1,6 @@
--- `ladder::holds::after_word` meets its contract: what is owed first tells which words may follow. Assumes nothing.
+-- `ladder::holds::after_word` meets its contract: what is pending first tells which words may follow. Assumes nothing.
 use borrow.Author.Needs.{needs}
-use Rattle.ladder.proofs.Holding.{no-front-owed, nothing-owed}
+use Rattle.ladder.proofs.Holding.{no-front-pending, nothing-pending}
 use Rattle.ladder.proofs.holds.after_word.Statement.{statement}
 use Rattle.ladder.proofs.holds.after_word.Tie as tie
 
@@ -14,10 +14,10 @@ rear-word-requires : tie.Need-rear-word-requires
 rear-word-requires c κs = search needs
 
 returns-2 : tie.Need-returns-2
-returns-2 c = no-front-owed _ _ _ _ _ (c .before .before .before .if1 .left) (c .rear-word .ensures)
+returns-2 c = no-front-pending _ _ _ _ _ (c .before .before .before .if1 .left) (c .rear-word .ensures)
 
 returns-3 : tie.Need-returns-3
-returns-3 c = nothing-owed _ _ _ _ (c .before .before .if1 .left) (c .if2 .left)
+returns-3 c = nothing-pending _ _ _ _ (c .before .before .if1 .left) (c .if2 .left)
 
 pub after-word-spec : {M : Type 1} → statement M
 after-word-spec =

@@ -1,17 +1,17 @@
--- `ladder::holds::holds_rung` meets its contract. The loop's invariant: the words from `i` on are what is owed just when the rung's words are a front and a rear.
+-- `ladder::holds::holds_rung` meets its contract. The loop's invariant: the words from `i` on are what is pending just when the rung's words are a front and a rear.
 -- The measure is what is left of the rung. Assumes nothing.
 use Prim.Native.Nat.{_-_}
 use native.Mathlib.Omega.{arith}
 use mathlib.Core.Path.{refl}
-use Rattle.ladder.proofs.Holding.{Counting, word-broken, word-counted, fronts-left, rears-tell}
+use Rattle.ladder.proofs.Holding.{Counting, word-misplaced, word-counted, fronts-left, rears-tell}
 use Rattle.ladder.proofs.holds.holds_rung.Statement.{statement}
 use Rattle.ladder.proofs.holds.holds_rung.Tie as tie
 
 abbrev Inv-loop : tie.InvT-loop
-Inv-loop words from to owed₀ i₀ owed i = Counting words from to (owed .fronts) (owed .rears) i
+Inv-loop words from to pending₀ i₀ pending i = Counting words from to (pending .fronts) (pending .rears) i
 
 abbrev μ-loop : tie.MeasureT-loop
-μ-loop words from to owed₀ i₀ owed i = to - i
+μ-loop words from to pending₀ i₀ pending i = to - i
 
 loop-holds : tie.Need-loop-holds Inv-loop μ-loop
 loop-holds c = record { same = refl; within = c .before .pre .0; fronts = omega arith; rears = omega arith }
@@ -26,7 +26,7 @@ after-word-requires : tie.Need-after-word-requires Inv-loop μ-loop
 after-word-requires c κs = (omega arith, omega arith)
 
 returns : tie.Need-returns Inv-loop μ-loop
-returns c = word-broken _ _ _ _ _ _ (c .before .before .before .before .loop .inv) (c .before .before .before .loop-test .taken) (c .before .before .before .before .before .before .pre .1) _ (c .before .after-word .ensures) (c .if1 .taken)
+returns c = word-misplaced _ _ _ _ _ _ (c .before .before .before .before .loop .inv) (c .before .before .before .loop-test .taken) (c .before .before .before .before .before .before .pre .1) _ (c .before .after-word .ensures) (c .if1 .taken)
 
 add-i : tie.Need-add-i Inv-loop μ-loop
 add-i c = omega arith

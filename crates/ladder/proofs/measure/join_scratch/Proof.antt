@@ -1,6 +1,7 @@
--- `ladder::measure::join_scratch` meets its contract: the word's kind tells a contact from a front of two parts. Assumes nothing.
-use native.Mathlib.Omega.{arith}
+-- `ladder::measure::join_scratch` meets its contract: the sort of the word's kind tells a contact from a front of two parts. Assumes nothing.
 use borrow.Author.Needs.{needs}
+use Rattle.kinds.specs.Kinds.{sortIn}
+use Rattle.ladder.proofs.Sorts.{told, not-contact}
 use Rattle.ladder.proofs.Measures.{joined-short, joined-through}
 use Rattle.ladder.proofs.measure.join_scratch.Statement.{statement}
 use Rattle.ladder.proofs.measure.join_scratch.Tie as tie
@@ -8,14 +9,19 @@ use Rattle.ladder.proofs.measure.join_scratch.Tie as tie
 word-at-requires : tie.Need-word-at-requires
 word-at-requires c κs = search needs
 
+sort-of-requires : tie.Need-sort-of-requires
+sort-of-requires c κs = search needs
+
+enum-told : tie.Need-enum-told
+enum-told c = search needs
+
 returns : tie.Need-returns
-returns c = joined-short _ _ _ (c .before .before .word-at .ensures) _ (c .if2 .taken)
+unfolding sortIn
+returns c = joined-short _ _ _ (c .before .before .before .word-at .ensures) _ (told _ _ (c .before .before .sort-of .ensures) _ (c .enum-told .given .1))
 
 returns-2 : tie.Need-returns-2
-returns-2 c = joined-through _ _ _ (c .before .word-at .ensures) _ (λ l h. omega arith)
-
-returns-3 : tie.Need-returns-3
-returns-3 c = joined-through _ _ _ (c .before .before .word-at .ensures) _ (λ l h. omega arith)
+returns-2 c = joined-through _ _ _ (c .before .before .word-at .ensures) _ (not-contact _ _ (c .before .sort-of .ensures) (c .match .keys2))
 
 pub join-scratch-spec : {M : Type 1} → statement M
-join-scratch-spec = tie.close (tie.spec word-at-requires returns returns-2 returns-3)
+join-scratch-spec =
+    tie.close (tie.spec word-at-requires sort-of-requires enum-told returns returns-2)

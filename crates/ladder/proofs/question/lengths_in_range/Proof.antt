@@ -6,6 +6,7 @@ use borrow.Author.Tests.{le-leb, lt-leb}
 use lib.ListN.{length, drop}
 use Rattle.questions.specs.Tests.{all}
 use Rattle.questions.specs.Laws.Tests.{all-more, all-fails, all-ends}
+use Rattle.drawing.specs.Questions.{mostRungWords}
 use Rattle.ladder.specs.Asking.{lengthInRange}
 use Rattle.ladder.proofs.question.lengths_in_range.Statement.{statement}
 use Rattle.ladder.proofs.question.lengths_in_range.Tie as tie
@@ -19,6 +20,9 @@ abbrev μ-loop : tie.MeasureT-loop
 loop-holds : tie.Need-loop-holds Inv-loop μ-loop
 loop-holds c = (omega arith, refl)
 
+cast-if1 : tie.Need-cast-if1 Inv-loop μ-loop
+cast-if1 c = omega arith
+
 mul-if1 : tie.Need-mul-if1 Inv-loop μ-loop
 mul-if1 c = omega arith
 
@@ -26,7 +30,7 @@ shared-slice-read-if1 : tie.Need-shared-slice-read-if1 Inv-loop μ-loop
 shared-slice-read-if1 c = omega arith
 
 returns : tie.Need-returns Inv-loop μ-loop
-returns c = sym (sym (c .before .before .before .loop .inv .1) ∙ all-fails lengthInRange _ _ 0 (c .before .before .loop-test .taken) (lt-leb _ 128 (c .if1 .taken)))
+returns c = sym (sym (c .before .before .before .loop .inv .1) ∙ all-fails lengthInRange _ _ 0 (c .before .before .loop-test .taken) (lt-leb _ mostRungWords (c .if1 .taken)))
 
 add-i : tie.Need-add-i Inv-loop μ-loop
 add-i c = omega arith
@@ -35,7 +39,7 @@ loop-less : tie.Need-loop-less Inv-loop μ-loop
 loop-less c = omega arith
 
 loop-again : tie.Need-loop-again Inv-loop μ-loop
-loop-again c = (omega arith, all-more lengthInRange _ _ 0 (c .before .before .loop-test .taken) (le-leb _ 128 (c .if1 .left)) ∙ c .before .before .before .loop .inv .1)
+loop-again c = (omega arith, all-more lengthInRange _ _ 0 (c .before .before .loop-test .taken) (le-leb _ mostRungWords (c .if1 .left)) ∙ c .before .before .before .loop .inv .1)
 
 returns-2 : tie.Need-returns-2 Inv-loop μ-loop
 returns-2 c = sym (sym (c .before .loop .inv .1) ∙ all-ends _ _ _ (c .loop-test .left))
@@ -47,6 +51,7 @@ lengths-in-range-spec =
     Inv-loop
     μ-loop
     loop-holds
+    cast-if1
     mul-if1
     shared-slice-read-if1
     returns

@@ -42,7 +42,7 @@ front-at-uses t = (
 )
 
 abbrev front-at-Inv-loop : front-at-lts.InvT-loop
-front-at-Inv-loop words from table at₀ first₀ at first = Climbing words from table at first
+front-at-Inv-loop words from table at₀ first₀ at first = Climbing words from table at first table
 
 abbrev front-at-μ-loop : front-at-lts.MeasureT-loop
 front-at-μ-loop words from table at₀ first₀ at first = at
@@ -80,7 +80,7 @@ front-at-loop-less t c = omega arith
 front-at-loop-again : (t : ℕ) → front-at-lts.Need-loop-again (front-at-uses t) (front-at-at t) front-at.Post front-at-Inv-loop front-at-μ-loop
 front-at-loop-again t c =
     let u = c .before .before .before .before in
-    climbing-more (u .before .before .before .loop .inv) (u .before .before .loop-test .taken) _ (u .before .word-at .ensures) _
+    climbing-more (u .before .before .before .loop .inv) (u .before .before .loop-test .taken) _ (u .before .word-at .ensures) _ _
     (elim (c .before .if1 .came) [ inl w ↦ rw (w .1) (u .contact-at2 .ensures .worked (w .0 .taken)) | inr w ↦ rw (w .2) (w .1 .ensures) ]) _ (c .joined .ensures)
 
 front-at-returns : (t : ℕ) → front-at-lts.Need-returns (front-at-uses t) (front-at-at t) front-at.Post front-at-Inv-loop front-at-μ-loop

@@ -1,5 +1,6 @@
 -- `ladder::walk::contact_at` meets its contract: where the position went on, the word is a contact. Assumes nothing.
 use native.Mathlib.Omega.{arith}
+use Rattle.drawing.specs.Kept.{inputKind}
 use Rattle.ladder.specs.Laws.Trees.{inside}
 use Rattle.ladder.proofs.Walks.{worked-contact, worked-contactn, no-contact}
 use borrow.Author.Needs.{needs}
@@ -16,23 +17,26 @@ value-requires : tie.Need-value-requires
 value-requires c κs = search needs
 
 add-t10 : tie.Need-add-t10
-add-t10 c = let l = inside (c .before .before .before .before .before .args .words .now) (c .before .before .before .before .before .args .at) _ (c .before .before .word-at .ensures) (omega (arith, c .match .keys1)) in omega arith
+add-t10 c = let l = inside (c .before .before .before .before .before .args .words .now) (c .before .before .before .before .before .args .at) _ (c .before .before .word-at .ensures) (λ z. omega (arith, c .match .keys1)) in omega arith
 
 add-t12 : tie.Need-add-t12
-add-t12 c = let l = inside (c .before .before .before .before .before .args .words .now) (c .before .before .before .before .before .args .at) _ (c .before .before .word-at .ensures) (omega (arith, c .match .keys2)) in omega arith
+add-t12 c = let l = inside (c .before .before .before .before .before .args .words .now) (c .before .before .before .before .before .args .at) _ (c .before .before .word-at .ensures) (λ z. omega (arith, c .match .keys2)) in omega arith
 
 returns : tie.Need-returns
+unfolding inputKind
 returns c =
     let w = worked-contact _ _ _ _ (c .before .before .word-at .ensures) (c .match .keys1) _ (c .before .value .ensures) in
     record { worked = λ h. w; leaf = λ n. w }
 
 returns-2 : tie.Need-returns-2
+unfolding inputKind
 returns-2 c =
     let w = worked-contactn _ _ _ _ (c .before .before .word-at .ensures) (c .match .keys2) _ (c .before .value .ensures) in
     record { worked = λ h. w; leaf = λ n. w }
 
 returns-3 : tie.Need-returns-3
-returns-3 c = record { worked = λ h. absurd (omega arith); leaf = λ n. no-contact _ _ _ _ (c .before .before .word-at .ensures) n (λ l h. omega arith) }
+unfolding inputKind
+returns-3 c = record { worked = λ h. absurd (omega arith); leaf = λ n. no-contact _ _ _ _ (c .before .before .word-at .ensures) n (λ v q. omega arith) (λ v q. omega arith) }
 
 pub contact-at-spec : {M : Type 1} → statement M
 contact-at-spec =

@@ -3,7 +3,9 @@ use Prim.Native.Nat.{_-_}
 use native.Mathlib.Omega.{arith}
 use lib.ListN.{length}
 use borrow.Author.Needs.{needs}
-use Rattle.ladder.proofs.Roots.{no-root, some-root, Passing, passing-first, passing-more, passed-leaf, passed-end}
+use Rattle.kinds.specs.Kinds.{sortIn}
+use Rattle.ladder.proofs.Sorts.{told, not-joined}
+use Rattle.ladder.proofs.Roots.{Passing, passing-first, passing-more, passed-leaf, passed-end}
 use Rattle.ladder.proofs.walk.first_contact.Statement.{statement}
 use Rattle.ladder.proofs.walk.first_contact.Tie as tie
 
@@ -16,14 +18,17 @@ abbrev μ-loop : tie.MeasureT-loop
 loop-holds : tie.Need-loop-holds Inv-loop μ-loop
 loop-holds c = passing-first _ _
 
-mul-kind : tie.Need-mul-kind Inv-loop μ-loop
-mul-kind c = search needs
+mul-sort-of : tie.Need-mul-sort-of Inv-loop μ-loop
+mul-sort-of c = search needs
 
-shared-slice-read-kind : tie.Need-shared-slice-read-kind Inv-loop μ-loop
-shared-slice-read-kind c = search needs
+shared-slice-read-sort-of : tie.Need-shared-slice-read-sort-of Inv-loop μ-loop
+shared-slice-read-sort-of c = search needs
 
-returns : tie.Need-returns Inv-loop μ-loop
-returns c = passed-leaf (c .before .before .before .loop .inv) (no-root _ (c .if1 .taken))
+sort-of-requires : tie.Need-sort-of-requires Inv-loop μ-loop
+sort-of-requires c κs = tt
+
+enum-told : tie.Need-enum-told Inv-loop μ-loop
+enum-told c = search needs
 
 add-at : tie.Need-add-at Inv-loop μ-loop
 add-at c = omega arith
@@ -32,7 +37,11 @@ loop-less : tie.Need-loop-less Inv-loop μ-loop
 loop-less c = omega arith
 
 loop-again : tie.Need-loop-again Inv-loop μ-loop
-loop-again c = passing-more (c .before .before .before .loop .inv) (some-root _ (c .if1 .left))
+unfolding sortIn
+loop-again c = passing-more (c .before .before .before .before .before .loop .inv) (told _ _ (c .before .before .sort-of .ensures) _ (c .enum-told .given .1))
+
+returns : tie.Need-returns Inv-loop μ-loop
+returns c = passed-leaf (c .before .before .before .before .loop .inv) (not-joined _ _ (c .before .sort-of .ensures) (c .match .keys2))
 
 returns-2 : tie.Need-returns-2 Inv-loop μ-loop
 returns-2 c = passed-end (c .before .loop .inv) (c .loop-test .left)
@@ -44,10 +53,12 @@ first-contact-spec =
     Inv-loop
     μ-loop
     loop-holds
-    mul-kind
-    shared-slice-read-kind
-    returns
+    mul-sort-of
+    shared-slice-read-sort-of
+    sort-of-requires
+    enum-told
     add-at
     loop-less
     loop-again
+    returns
     returns-2)

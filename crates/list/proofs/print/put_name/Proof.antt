@@ -17,9 +17,11 @@ sub-name : tie.Need-sub-name Inv-loop μ-loop
 sub-name c = omega arith
 
 mul-name : tie.Need-mul-name Inv-loop μ-loop
+unfolding fixedNames bytes
 mul-name c = omega arith
 
 array-copy-out-name : tie.Need-array-copy-out-name Inv-loop μ-loop
+unfolding fixedNames bytes
 array-copy-out-name c = omega arith
 
 loop-holds : tie.Need-loop-holds Inv-loop μ-loop

@@ -1,78 +1,86 @@
--- `list::print::put_operand` meets its contract: the space, the letter and the number are written one after the other. Assumes nothing.
-use Prim.Native.Nat.{_<_}
-use native.Mathlib.Omega.{arith}
-use Rattle.printing.specs.Laws.Puts.{put-none, put-then, put-as}
-use Rattle.list.proofs.Printed.{operand-none, operand-index, operand-variable, operand-scratch}
+-- `list::print::put_operand` meets its contract: the sort of the op says what is written. Assumes nothing.
+use Rattle.printing.specs.Laws.Puts.{put-none, put-as}
+use Rattle.list.specs.Parts.{sortIn}
+use Rattle.list.specs.Laws.Sorts.{sort-told}
+use Rattle.list.proofs.Printed.{operand-none, operand-absent, operand-index, operand-variable, operand-scratch}
 use borrow.Author.Needs.{needs}
 use Rattle.list.proofs.print.put_operand.Statement.{statement}
 use Rattle.list.proofs.print.put_operand.Tie as tie
 
-returns : tie.Need-returns
-returns c = put-as (operand-none _ _ _ (c .if1 .taken)) (put-none _ _)
+operand-sort-requires : tie.Need-operand-sort-requires
+operand-sort-requires c κs = search needs
 
-put-byte-requires : tie.Need-put-byte-requires
-put-byte-requires c κs = search needs
+enum-told : tie.Need-enum-told
+enum-told c = search needs
 
-put-byte-requires-2 : tie.Need-put-byte-requires-2
-put-byte-requires-2 c κs = search needs
-
-put-number-requires : tie.Need-put-number-requires
-put-number-requires c κs = search needs
+put-index-requires : tie.Need-put-index-requires
+put-index-requires c κs = search needs
 
 same-length : tie.Need-same-length
 same-length c = search needs
 
-returns-2 : tie.Need-returns-2
-returns-2 c =
-    put-as (operand-index _ _ _ (c .before .before .before .before .before .before .before .before .if2 .taken)) (put-then (put-then (c .before .before .before .before .before .before .before .before .before .before .before .put-byte .ensures) (c .before .before .before .before .before .before .put-byte2 .ensures)) (c .before .before .put-number .ensures))
+returns : tie.Need-returns
+unfolding sortIn
+returns c = put-as (operand-variable _ _ _ (sort-told (c .before .before .before .before .before .before .before .operand-sort .ensures) (c .before .before .before .before .before .enum-told .given .1)) (c .before .before .before .before .if1 .taken)) (c .before .before .put-index .ensures)
 
-put-byte-requires-3 : tie.Need-put-byte-requires-3
-put-byte-requires-3 c κs = search needs
+cast-put-index : tie.Need-cast-put-index
+cast-put-index c = search needs
 
-put-number-requires-2 : tie.Need-put-number-requires-2
-put-number-requires-2 c κs = search needs
+put-index-requires-2 : tie.Need-put-index-requires-2
+put-index-requires-2 c κs = search needs
+
+enum-told-2 : tie.Need-enum-told-2
+enum-told-2 c = search needs
+
+enum-told-3 : tie.Need-enum-told-3
+enum-told-3 c = search needs
+
+put-index-requires-3 : tie.Need-put-index-requires-3
+put-index-requires-3 c κs = search needs
+
+enum-told-4 : tie.Need-enum-told-4
+enum-told-4 c = search needs
 
 same-length-2 : tie.Need-same-length-2
 same-length-2 c = search needs
 
+returns-2 : tie.Need-returns-2
+unfolding sortIn
+returns-2 c = put-as (operand-scratch _ _ _ (sort-told (c .before .before .before .before .before .before .before .operand-sort .ensures) (c .before .before .before .before .before .enum-told .given .1)) (c .before .before .before .before .if1 .left)) (c .before .before .put-index2 .ensures)
+
 returns-3 : tie.Need-returns-3
-returns-3 c =
-    let h : c .before .before .before .before .before .before .before .before .before .before .before .before .before .before .before .before .args .op < 11 = omega arith in
-    put-as (operand-variable _ _ _ h (c .before .before .before .before .before .before .before .before .if3 .taken)) (put-then (put-then (c .before .before .before .before .before .before .before .before .before .before .before .before .put-byte .ensures) (c .before .before .before .before .before .before .put-byte3 .ensures)) (c .before .before .put-number2 .ensures))
-
-put-byte-requires-4 : tie.Need-put-byte-requires-4
-put-byte-requires-4 c κs = search needs
-
-cast-put-number : tie.Need-cast-put-number
-cast-put-number c = search needs
-
-put-number-requires-3 : tie.Need-put-number-requires-3
-put-number-requires-3 c κs = search needs
+unfolding sortIn
+returns-3 c = put-as (operand-none _ _ _ (sort-told (c .before .before .operand-sort .ensures) (c .enum-told2 .given .1))) (put-none _ _)
 
 same-length-3 : tie.Need-same-length-3
 same-length-3 c = search needs
 
 returns-4 : tie.Need-returns-4
-returns-4 c =
-    let h : c .before .before .before .before .before .before .before .before .before .before .before .before .before .before .before .before .args .op < 11 = omega arith in
-    put-as (operand-scratch _ _ _ h (c .before .before .before .before .before .before .before .before .if3 .left)) (put-then (put-then (c .before .before .before .before .before .before .before .before .before .before .before .before .put-byte .ensures) (c .before .before .before .before .before .before .put-byte4 .ensures)) (c .before .before .put-number3 .ensures))
+unfolding sortIn
+returns-4 c = put-as (operand-index _ _ _ (sort-told (c .before .before .before .before .before .before .operand-sort .ensures) (c .before .before .before .before .enum-told3 .given .1))) (c .before .before .put-index3 .ensures)
+
+returns-5 : tie.Need-returns-5
+unfolding sortIn
+returns-5 c = put-as (operand-absent _ _ _ (sort-told (c .before .before .operand-sort .ensures) (c .enum-told4 .given .1))) (put-none _ _)
 
 pub put-operand-spec : {M : Type 1} → statement M
 put-operand-spec =
     tie.close
     (tie.spec
-    returns
-    put-byte-requires
-    put-byte-requires-2
-    put-number-requires
+    operand-sort-requires
+    enum-told
+    put-index-requires
     same-length
-    returns-2
-    put-byte-requires-3
-    put-number-requires-2
+    returns
+    cast-put-index
+    put-index-requires-2
+    enum-told-2
+    enum-told-3
+    put-index-requires-3
+    enum-told-4
     same-length-2
+    returns-2
     returns-3
-    put-byte-requires-4
-    cast-put-number
-    put-number-requires-3
     same-length-3
-    returns-4)
+    returns-4
+    returns-5)

@@ -23,7 +23,7 @@ shared-slice-read-put-instruction c = omega arith
 
 put-instruction-requires : tie.Need-put-instruction-requires Inv-loop μ-loop
 put-instruction-requires c κs =
-    (omega arith, c .before .before .before .before .before .before .pre .few, c .before .before .before .before .before .before .pre .decodes (c .before .before .before .loop .i) (omega arith))
+    (omega arith, c .before .before .before .before .before .before .pre .decodes (c .before .before .before .loop .i) (omega arith))
 
 add-i : tie.Need-add-i Inv-loop μ-loop
 add-i c = omega arith

@@ -12,10 +12,10 @@ use Rattle.list.proofs.question.code_in_range.Statement.{statement}
 use Rattle.list.proofs.question.code_in_range.Tie as tie
 
 abbrev Inv-loop : tie.InvT-loop
-Inv-loop vars code i₀ i = (i ≤ length code) × (all (wordInRange vars (length code)) (drop i code) ≡ all (wordInRange vars (length code)) code)
+Inv-loop size code i₀ i = (i ≤ length code) × (all (wordInRange size (length code)) (drop i code) ≡ all (wordInRange size (length code)) code)
 
 abbrev μ-loop : tie.MeasureT-loop
-μ-loop vars code i₀ i = length code - i
+μ-loop size code i₀ i = length code - i
 
 loop-holds : tie.Need-loop-holds Inv-loop μ-loop
 loop-holds c = (omega arith, refl)

@@ -30,6 +30,9 @@ records-laid-requires c κs = search needs
 returns-7 : tie.Need-returns-7
 returns-7 c = not-laid _ _ _ _ _ (c .before .before .before .before .before .if3 .left) (c .before .before .before .before .if4 .left) (sym (c .before .records-laid .ensures) ∙ not-true _ (c .if7 .taken))
 
+add-code-in-range : tie.Need-add-code-in-range
+add-code-in-range c = search needs
+
 code-in-range-requires : tie.Need-code-in-range-requires
 code-in-range-requires c κs = search needs
 
@@ -50,5 +53,6 @@ list-in-range-spec =
     returns-6
     records-laid-requires
     returns-7
+    add-code-in-range
     code-in-range-requires
     returns-8)

@@ -1,31 +1,55 @@
--- `list::question::word_in_range` meets its contract: one law for each sort of op. Assumes nothing.
-use native.Mathlib.Omega.{arith}
+-- `list::question::word_in_range` meets its contract: the sort of the op says what its operand is asked. Assumes nothing.
+use Rattle.list.specs.Parts.{sortIn}
+use Rattle.list.specs.Laws.Sorts.{sortInRange, word-told}
 use borrow.Author.Needs.{needs}
-use Rattle.list.proofs.Ranges.{no-op, table-op, not-op, jump-op, past-op}
 use Rattle.list.proofs.question.word_in_range.Statement.{statement}
 use Rattle.list.proofs.question.word_in_range.Tie as tie
 
-returns : tie.Need-returns
-returns c = no-op _ _ _ (c .if1 .taken)
+cast-operand : tie.Need-cast-operand
+cast-operand c = search needs
 
-add-result : tie.Need-add-result
-add-result c = search needs
+operand-sort-requires : tie.Need-operand-sort-requires
+operand-sort-requires c κs = search needs
+
+enum-told : tie.Need-enum-told
+enum-told c = search needs
+
+enum-told-2 : tie.Need-enum-told-2
+enum-told-2 c = search needs
+
+enum-told-3 : tie.Need-enum-told-3
+enum-told-3 c = search needs
+
+enum-told-4 : tie.Need-enum-told-4
+enum-told-4 c = search needs
+
+returns : tie.Need-returns
+unfolding sortIn sortInRange
+returns c = word-told (c .before .before .before .args .size) (c .before .before .before .args .n) (c .before .before .before .args .word) (c .before .before .operand-sort .ensures) (c .enum-told .given .1)
 
 returns-2 : tie.Need-returns-2
-returns-2 c = table-op _ _ _ (c .before .if1 .left) (c .if2 .taken)
+unfolding sortIn sortInRange
+returns-2 c = word-told (c .before .before .before .args .size) (c .before .before .before .args .n) (c .before .before .before .args .word) (c .before .before .operand-sort .ensures) (c .enum-told2 .given .1)
 
 returns-3 : tie.Need-returns-3
-returns-3 c = not-op _ _ _ (c .if3 .taken)
-
-cast-result : tie.Need-cast-result
-cast-result c = search needs
+unfolding sortIn sortInRange
+returns-3 c = word-told (c .before .before .before .args .size) (c .before .before .before .args .n) (c .before .before .before .args .word) (c .before .before .operand-sort .ensures) (c .enum-told3 .given .1)
 
 returns-4 : tie.Need-returns-4
-returns-4 c = jump-op _ _ _ (omega arith) (c .if4 .taken)
-
-returns-5 : tie.Need-returns-5
-returns-5 c = past-op _ _ _ (c .if4 .left)
+unfolding sortIn sortInRange
+returns-4 c = word-told (c .before .before .before .args .size) (c .before .before .before .args .n) (c .before .before .before .args .word) (c .before .before .operand-sort .ensures) (c .enum-told4 .given .1)
 
 pub word-in-range-spec : {M : Type 1} → statement M
 word-in-range-spec =
-    tie.close (tie.spec returns add-result returns-2 returns-3 cast-result returns-4 returns-5)
+    tie.close
+    (tie.spec
+    cast-operand
+    operand-sort-requires
+    enum-told
+    enum-told-2
+    enum-told-3
+    enum-told-4
+    returns
+    returns-2
+    returns-3
+    returns-4)

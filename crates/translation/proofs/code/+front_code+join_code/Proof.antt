@@ -55,53 +55,53 @@ front-code-put-one-requires : (t : ℕ) → front-code-lts.Need-put-one-requires
 front-code-put-one-requires t c κs =
     let l =
     inside (c .before .before .before .before .before .args .words .now)
-    (c .before .before .before .before .before .args .at) _ (c .before .before .word-at .ensures) (omega arith) in
+    (c .before .before .before .before .before .args .at) _ (c .before .before .word-at .ensures) (λ z. omega arith) in
     (omega arith, omega arith, omega arith, omega arith)
 
 front-code-put-one-requires-2 : (t : ℕ) → front-code-lts.Need-put-one-requires-2 (front-code-uses t) (front-code-at t) front-code.Post
 front-code-put-one-requires-2 t c κs =
     let l =
     inside (c .before .before .before .before .before .args .words .now)
-    (c .before .before .before .before .before .args .at) _ (c .before .before .word-at .ensures) (omega arith) in
+    (c .before .before .before .before .before .args .at) _ (c .before .before .word-at .ensures) (λ z. omega arith) in
     (omega arith, omega arith, omega arith, omega arith)
 
 front-code-add-front-code : (t : ℕ) → front-code-lts.Need-add-front-code (front-code-uses t) (front-code-at t) front-code.Post
 front-code-add-front-code t c =
-    let l = inside (c .before .before .before .before .args .words .now) (c .before .before .before .before .args .at) _ (c .before .word-at .ensures) (omega arith) in
+    let l = inside (c .before .before .before .before .args .words .now) (c .before .before .before .before .args .at) _ (c .before .word-at .ensures) (λ z. omega arith) in
     omega arith
 
 front-code-front-code-requires : (t : ℕ) → front-code-lts.Need-front-code-requires (front-code-uses t) (front-code-at t) front-code.Post
 front-code-front-code-requires t c κs =
     let l =
     inside (c .before .before .before .before .before .args .words .now)
-    (c .before .before .before .before .before .args .at) _ (c .before .before .word-at .ensures) (omega arith) in
+    (c .before .before .before .before .before .args .at) _ (c .before .before .word-at .ensures) (λ z. omega arith) in
     (omega arith, (omega arith, omega arith, omega arith, omega arith))
 
 front-code-join-code-requires : (t : ℕ) → front-code-lts.Need-join-code-requires (front-code-uses t) (front-code-at t) front-code.Post
 front-code-join-code-requires t c κs =
     let l =
     inside (c .before .before .before .before .before .before .before .before .before .args .words .now)
-    (c .before .before .before .before .before .before .before .before .before .args .at) _ (c .before .before .before .before .before .before .word-at .ensures) (omega arith) in
+    (c .before .before .before .before .before .before .before .before .before .args .at) _ (c .before .before .before .before .before .before .word-at .ensures) (λ z. omega arith) in
     let h = c .before .before .before .front-code .ensures .within in
     (omega (arith, h .onward), (omega arith, omega arith, omega (arith, h .onward), omega arith, omega (arith, h .onward, h .inside, h .few)))
 
 front-code-add-front-code-2 : (t : ℕ) → front-code-lts.Need-add-front-code-2 (front-code-uses t) (front-code-at t) front-code.Post
 front-code-add-front-code-2 t c =
-    let l = inside (c .before .before .before .before .args .words .now) (c .before .before .before .before .args .at) _ (c .before .word-at .ensures) (omega arith) in
+    let l = inside (c .before .before .before .before .args .words .now) (c .before .before .before .before .args .at) _ (c .before .word-at .ensures) (λ z. omega arith) in
     omega arith
 
 front-code-front-code-requires-2 : (t : ℕ) → front-code-lts.Need-front-code-requires-2 (front-code-uses t) (front-code-at t) front-code.Post
 front-code-front-code-requires-2 t c κs =
     let l =
     inside (c .before .before .before .before .before .args .words .now)
-    (c .before .before .before .before .before .args .at) _ (c .before .before .word-at .ensures) (omega arith) in
+    (c .before .before .before .before .before .args .at) _ (c .before .before .word-at .ensures) (λ z. omega arith) in
     (omega arith, (omega arith, omega arith, omega arith, omega arith))
 
 front-code-join-code-requires-2 : (t : ℕ) → front-code-lts.Need-join-code-requires-2 (front-code-uses t) (front-code-at t) front-code.Post
 front-code-join-code-requires-2 t c κs =
     let l =
     inside (c .before .before .before .before .before .before .before .before .before .args .words .now)
-    (c .before .before .before .before .before .before .before .before .before .args .at) _ (c .before .before .before .before .before .before .word-at .ensures) (omega arith) in
+    (c .before .before .before .before .before .before .before .before .before .args .at) _ (c .before .before .before .before .before .before .word-at .ensures) (λ z. omega arith) in
     let h = c .before .before .before .front-code2 .ensures .within in
     (omega (arith, h .onward), (omega arith, omega arith, omega (arith, h .onward), omega arith, omega (arith, h .onward, h .inside, h .few)))
 
@@ -149,7 +149,7 @@ join-code-put-one-requires : (t : ℕ) → join-code-lts.Need-put-one-requires (
 join-code-put-one-requires t c κs =
     let l =
     inside (c .before .before .before .before .before .args .words .now)
-    (c .before .before .before .before .before .args .at) _ (c .before .before .word-at .ensures) (omega arith) in
+    (c .before .before .before .before .before .args .at) _ (c .before .before .word-at .ensures) (λ z. omega arith) in
     (omega arith, omega arith, omega arith, omega arith)
 
 join-code-add-put-one : (t : ℕ) → join-code-lts.Need-add-put-one (join-code-uses t) (join-code-at t) join-code.Post
@@ -159,7 +159,7 @@ join-code-put-one-requires-2 : (t : ℕ) → join-code-lts.Need-put-one-requires
 join-code-put-one-requires-2 t c κs =
     let l =
     inside (c .before .before .before .before .before .args .words .now)
-    (c .before .before .before .before .before .args .at) _ (c .before .before .word-at .ensures) (omega arith) in
+    (c .before .before .before .before .before .args .at) _ (c .before .before .word-at .ensures) (λ z. omega arith) in
     (omega arith, omega arith, omega arith, omega arith)
 
 join-code-add-put-instruction : (t : ℕ) → join-code-lts.Need-add-put-instruction (join-code-uses t) (join-code-at t) join-code.Post

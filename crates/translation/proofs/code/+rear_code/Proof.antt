@@ -51,13 +51,13 @@ rear-code-word-at-requires t c κs = tt
 rear-code-put-one-requires : (t : ℕ) → rear-code-lts.Need-put-one-requires (rear-code-uses t) (rear-code-at t) rear-code.Post
 rear-code-put-one-requires t c κs =
     let s = c .before .before .before .before .before .before .before in
-    let l = inside (s .args .words .now) (s .args .at) _ (c .before .before .word-at .ensures) (omega arith) in
+    let l = inside (s .args .words .now) (s .args .at) _ (c .before .before .word-at .ensures) (λ z. omega arith) in
     (omega arith, omega arith, omega arith, omega arith)
 
 rear-code-put-one-requires-2 : (t : ℕ) → rear-code-lts.Need-put-one-requires-2 (rear-code-uses t) (rear-code-at t) rear-code.Post
 rear-code-put-one-requires-2 t c κs =
     let s = c .before .before .before .before .before .before .before in
-    let l = inside (s .args .words .now) (s .args .at) _ (c .before .before .word-at .ensures) (omega arith) in
+    let l = inside (s .args .words .now) (s .args .at) _ (c .before .before .word-at .ensures) (λ z. omega arith) in
     (omega arith, omega arith, omega arith, omega arith)
 
 rear-code-start-of-requires : (t : ℕ) → rear-code-lts.Need-start-of-requires (rear-code-uses t) (rear-code-at t) rear-code.Post
@@ -66,7 +66,7 @@ rear-code-start-of-requires t c κs = tt
 rear-code-put-one-requires-3 : (t : ℕ) → rear-code-lts.Need-put-one-requires-3 (rear-code-uses t) (rear-code-at t) rear-code.Post
 rear-code-put-one-requires-3 t c κs =
     let s = c .before .before .before .before .before .before .before .before in
-    let l = inside (s .args .words .now) (s .args .at) _ (c .before .before .before .word-at .ensures) (omega arith) in
+    let l = inside (s .args .words .now) (s .args .at) _ (c .before .before .before .word-at .ensures) (λ z. omega arith) in
     (omega arith, c .start-of .ensures .1, omega arith, omega arith)
 
 rear-code-start-of-requires-2 : (t : ℕ) → rear-code-lts.Need-start-of-requires-2 (rear-code-uses t) (rear-code-at t) rear-code.Post
@@ -75,19 +75,19 @@ rear-code-start-of-requires-2 t c κs = tt
 rear-code-put-one-requires-4 : (t : ℕ) → rear-code-lts.Need-put-one-requires-4 (rear-code-uses t) (rear-code-at t) rear-code.Post
 rear-code-put-one-requires-4 t c κs =
     let s = c .before .before .before .before .before .before .before .before in
-    let l = inside (s .args .words .now) (s .args .at) _ (c .before .before .before .word-at .ensures) (omega arith) in
+    let l = inside (s .args .words .now) (s .args .at) _ (c .before .before .before .word-at .ensures) (λ z. omega arith) in
     (omega arith, c .start-of2 .ensures .1, omega arith, omega arith)
 
 rear-code-add-join-code : (t : ℕ) → rear-code-lts.Need-add-join-code (rear-code-uses t) (rear-code-at t) rear-code.Post
 rear-code-add-join-code t c =
     let s = c .before .before .before .before .before .before in
-    let l = inside (s .args .words .now) (s .args .at) _ (c .before .word-at .ensures) (omega arith) in
+    let l = inside (s .args .words .now) (s .args .at) _ (c .before .word-at .ensures) (λ z. omega arith) in
     omega arith
 
 rear-code-join-code-requires : (t : ℕ) → rear-code-lts.Need-join-code-requires (rear-code-uses t) (rear-code-at t) rear-code.Post
 rear-code-join-code-requires t c κs =
     let s = c .before .before .before .before .before .before .before in
-    let l = inside (s .args .words .now) (s .args .at) _ (c .before .before .word-at .ensures) (omega arith) in
+    let l = inside (s .args .words .now) (s .args .at) _ (c .before .before .word-at .ensures) (λ z. omega arith) in
     (omega arith, omega arith, omega arith, omega arith, omega arith)
 
 rear-code-rear-code-requires : (t : ℕ) → rear-code-lts.Need-rear-code-requires (rear-code-uses t) (rear-code-at t) rear-code.Post
@@ -105,7 +105,7 @@ rear-code-put-instruction-requires t c κs = (omega arith, omega arith)
 rear-code-add-rear-code : (t : ℕ) → rear-code-lts.Need-add-rear-code (rear-code-uses t) (rear-code-at t) rear-code.Post
 rear-code-add-rear-code t c =
     let s = c .before .before .before .before .before .before .before .before .before .before in
-    let l = inside (s .args .words .now) (s .args .at) _ (c .before .before .before .before .before .word-at .ensures) (omega arith) in
+    let l = inside (s .args .words .now) (s .args .at) _ (c .before .before .before .before .before .word-at .ensures) (λ z. omega arith) in
     omega arith
 
 rear-code-add-rear-code-2 : (t : ℕ) → rear-code-lts.Need-add-rear-code-2 (rear-code-uses t) (rear-code-at t) rear-code.Post
@@ -117,7 +117,7 @@ rear-code-add-rear-code-3 t c = omega arith
 rear-code-rear-code-requires-2 : (t : ℕ) → rear-code-lts.Need-rear-code-requires-2 (rear-code-uses t) (rear-code-at t) rear-code.Post
 rear-code-rear-code-requires-2 t c κs =
     let s = c .before .before .before .before .before .before .before .before .before .before .before in
-    let l = inside (s .args .words .now) (s .args .at) _ (c .before .before .before .before .before .before .word-at .ensures) (omega arith) in
+    let l = inside (s .args .words .now) (s .args .at) _ (c .before .before .before .before .before .before .word-at .ensures) (λ z. omega arith) in
     (omega arith, (omega arith, omega arith, omega arith, omega arith))
 
 rear-code-add-put-instruction-2 : (t : ℕ) → rear-code-lts.Need-add-put-instruction-2 (rear-code-uses t) (rear-code-at t) rear-code.Post

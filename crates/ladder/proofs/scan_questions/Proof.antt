@@ -1,11 +1,11 @@
--- `ladder::scan_answer` meets its contract: questions 1, 4 to 9, 11 and 12 in order. Assumes nothing.
+-- `ladder::scan_questions` meets its contract: questions 1, 4 to 9, 11 and 12 in order. Assumes nothing.
 use mathlib.Core.Path.{sym, _∙_}
 use borrow.Author.Tests.{not-true, not-false}
 use Rattle.questions.specs.Laws.Answers.{verdict-refused, verdict-accepted}
 use Rattle.ladder.proofs.Answers.{scan-refused, scan-refused-table, scan-refused-watchdog, scan-accepted}
 use borrow.Author.Needs.{needs}
-use Rattle.ladder.proofs.scan_answer.Statement.{statement}
-use Rattle.ladder.proofs.scan_answer.Tie as tie
+use Rattle.ladder.proofs.scan_questions.Statement.{statement}
+use Rattle.ladder.proofs.scan_questions.Tie as tie
 
 ladder-answer-requires : tie.Need-ladder-answer-requires
 ladder-answer-requires c κs = search needs
@@ -34,8 +34,8 @@ returns-3 c = scan-refused-watchdog _ _ _ _ (verdict-accepted (c .before .before
 returns-4 : tie.Need-returns-4
 returns-4 c = scan-accepted _ _ _ _ (verdict-accepted (c .before .before .before .before .before .before .ladder-answer .ensures) (c .before .before .before .before .enum-told .given .1)) (sym (c .before .before .before .table-in-range .ensures) ∙ not-false _ (c .before .before .if1 .left)) (sym (c .before .watchdog-in-range .ensures) ∙ not-false _ (c .if2 .left))
 
-pub scan-answer-spec : {M : Type 1} → statement M
-scan-answer-spec =
+pub scan-questions-spec : {M : Type 1} → statement M
+scan-questions-spec =
     tie.close
     (tie.spec
     ladder-answer-requires

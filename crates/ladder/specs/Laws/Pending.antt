@@ -1,4 +1,4 @@
--- Laws of question 4: counting what is owed tells just when words decode, and so do the tests of one record after the other. Assumes nothing.
+-- Laws of question 4: counting the pending fronts and rears tells just when words decode, and so do the tests of one record after the other. Assumes nothing.
 use Prim.Native.Nat.{ℕ, zero, suc, _+_, _-_, _≤_}
 use native.Mathlib.Omega.{arith}
 use native.Mathlib.Decide.{ℕ-discrete}
@@ -13,9 +13,9 @@ use borrow.Author.Tests.{eq-eqb, ne-eqb, le-leb}
 use Rattle.rungs.specs.Words.{numberOf, operandOf}
 use Rattle.rungs.specs.Records.{RungRecord}
 use Rattle.drawing.specs.Tree.{Input, Front, Output, Rung, Ladder}
-use Rattle.drawing.specs.Kept.{Trees, trees, putInput, putFront, putOutput, putRearAnd, putRearOr, noKind, kinds, decodeWords, oneRung, decodeRung, decodeFrom, decode}
+use Rattle.drawing.specs.Kept.{Trees, trees, putInput, putFront, putOutput, putRearAnd, putRearOr, noKind, kinds, kindSorts, kindSort, decodeWords, oneRung, decodeRung, decodeFrom, decode}
 use Rattle.drawing.specs.Questions.{ladderOf, holdsLadder}
-use Rattle.ladder.specs.Owing.{Debt, broken, owing, takeFront, splitFront, takeRear, frontRear, splitRear, turns, turn, owes, holdsFrom}
+use Rattle.ladder.specs.Pending.{Pending, misplaced, pending, takeFront, splitFront, takeRear, frontRear, splitRear, pendingAfter, completes, holdsFrom}
 
 -- ---- words and trees
 
@@ -27,12 +27,12 @@ decodedAs : ℕ → ℕ → Option Trees → Bool
 decodedAs f r none = false
 decodedAs f r (some ts) = shaped f r ts
 
--- whether trees are what is owed
-met : Debt → Trees → Bool
-met broken ts = false
-met (owing f r) ts = shaped f r ts
+-- whether trees are the pending ones
+met : Pending → Trees → Bool
+met misplaced ts = false
+met (pending f r) ts = shaped f r ts
 
-input-met : (make : ℕ → Input) (o f r : ℕ) (ts : Trees) → met (takeFront o f r) ts ≡ decodedAs f r (putInput make o ts)
+input-met : (make : ℕ → Input) (o f r : ℕ) (ts : Trees) → met (takeFront f r) ts ≡ decodedAs f r (putInput make o ts)
 unfolding takeFront putInput met decodedAs shaped
 input-met make o zero r (trees fs rs) = rw (eqb·zero-suc (length fs))
 input-met make o (suc f) r (trees fs rs) = rw (eqb·suc-suc f (length fs))
@@ -47,7 +47,7 @@ front-met make zero (suc f) r (trees (a ∷ []) rs) = rw (eqb·suc-suc (suc f) 0
 front-met make zero (suc f) r (trees [] rs) = rw (eqb·suc-zero (suc f))
 front-met make (suc o) f r ts = refl
 
-output-met : (make : ℕ → Output) (o f r : ℕ) (ts : Trees) → met (takeRear o f r) ts ≡ decodedAs f r (putOutput make o ts)
+output-met : (make : ℕ → Output) (o f r : ℕ) (ts : Trees) → met (takeRear f r) ts ≡ decodedAs f r (putOutput make o ts)
 unfolding takeRear putOutput met decodedAs shaped
 output-met make o zero zero (trees [] rs) = rw (eqb·zero-suc (length rs))
 output-met make o zero zero (trees (a ∷ fs) rs) = refl
@@ -88,37 +88,37 @@ rear-or-met zero zero (suc r) (trees (a ∷ fs) rs) = rw (eqb·zero-suc (length 
 rear-or-met zero (suc f) r (trees (a ∷ fs) rs) = refl
 rear-or-met (suc o) f r ts = refl
 
--- a word is put before the trees that are owed after it, and before no others
-turn-met : (k o f r : ℕ) (ts : Trees) → met (turn k o f r) ts ≡ decodedAs f r (getD kinds k noKind o ts)
-unfolding turns kinds met decodedAs
-turn-met zero o f r ts = refl
-turn-met (suc zero) o f r ts = input-met _ o f r ts
-turn-met (suc (suc zero)) o f r ts = input-met _ o f r ts
-turn-met (suc (suc (suc zero))) o f r ts = front-met _ o f r ts
-turn-met (suc (suc (suc (suc zero)))) o f r ts = front-met _ o f r ts
-turn-met (suc (suc (suc (suc (suc zero))))) o f r ts = output-met _ o f r ts
-turn-met (suc (suc (suc (suc (suc (suc zero)))))) o f r ts = output-met _ o f r ts
-turn-met (suc (suc (suc (suc (suc (suc (suc zero))))))) o f r ts = output-met _ o f r ts
-turn-met (suc (suc (suc (suc (suc (suc (suc (suc zero)))))))) o f r ts = output-met _ o f r ts
-turn-met (suc (suc (suc (suc (suc (suc (suc (suc (suc zero))))))))) o f r ts = rear-and-met o f r ts
-turn-met (suc (suc (suc (suc (suc (suc (suc (suc (suc (suc zero)))))))))) o f r ts = rear-or-met o f r ts
-turn-met (suc (suc (suc (suc (suc (suc (suc (suc (suc (suc (suc k))))))))))) o f r ts = refl
+-- a word is put before the trees that are pending after it, and before no others
+word-met : (k o f r : ℕ) (ts : Trees) → met (pendingAfter (kindSort k) o f r) ts ≡ decodedAs f r (getD kinds k noKind o ts)
+unfolding pendingAfter kindSort kindSorts kinds met decodedAs
+word-met zero o f r ts = refl
+word-met (suc zero) o f r ts = input-met _ o f r ts
+word-met (suc (suc zero)) o f r ts = input-met _ o f r ts
+word-met (suc (suc (suc zero))) o f r ts = front-met _ o f r ts
+word-met (suc (suc (suc (suc zero)))) o f r ts = front-met _ o f r ts
+word-met (suc (suc (suc (suc (suc zero))))) o f r ts = output-met _ o f r ts
+word-met (suc (suc (suc (suc (suc (suc zero)))))) o f r ts = output-met _ o f r ts
+word-met (suc (suc (suc (suc (suc (suc (suc zero))))))) o f r ts = output-met _ o f r ts
+word-met (suc (suc (suc (suc (suc (suc (suc (suc zero)))))))) o f r ts = output-met _ o f r ts
+word-met (suc (suc (suc (suc (suc (suc (suc (suc (suc zero))))))))) o f r ts = rear-and-met o f r ts
+word-met (suc (suc (suc (suc (suc (suc (suc (suc (suc (suc zero)))))))))) o f r ts = rear-or-met o f r ts
+word-met (suc (suc (suc (suc (suc (suc (suc (suc (suc (suc (suc k))))))))))) o f r ts = refl
 
-owes-decoded : (f r : ℕ) (ws : List ℕ) → owes f r ws ≡ decodedAs f r (decodeWords ws)
-unfolding owes decodeWords decodedAs shaped met
-owes-decoded f r [] = refl
-owes-decoded f r (w ∷ ws) = go (decodeWords ws) refl (turn (numberOf w) (operandOf w) f r) refl (λ g s. owes-decoded g s ws)
+completes-decoded : (f r : ℕ) (ws : List ℕ) → completes f r ws ≡ decodedAs f r (decodeWords ws)
+unfolding completes decodeWords decodedAs shaped met
+completes-decoded f r [] = refl
+completes-decoded f r (w ∷ ws) = go (decodeWords ws) refl (pendingAfter (kindSort (numberOf w)) (operandOf w) f r) refl (λ g s. completes-decoded g s ws)
   where
-    go : (x : Option Trees) → decodeWords ws ≡ x → (d : Debt) → turn (numberOf w) (operandOf w) f r ≡ d → ((g s : ℕ) → owes g s ws ≡ decodedAs g s (decodeWords ws))
-        → owes f r (w ∷ ws) ≡ decodedAs f r (decodeWords (w ∷ ws))
-    go none q broken e ih = rw (e, owes, q, decodeWords)
-    go none q (owing g s) e ih = rw (e, owes, q, decodeWords) (ih g s ∙ rw q)
-    go (some ts) q broken e ih =
-        let m = turn-met (numberOf w) (operandOf w) f r ts in
-        rw (e, owes, q, decodeWords) (rw e at m)
-    go (some ts) q (owing g s) e ih =
-        let m = turn-met (numberOf w) (operandOf w) f r ts in
-        rw (e, owes, q, decodeWords) (ih g s ∙ rw q (rw e at m))
+    go : (x : Option Trees) → decodeWords ws ≡ x → (d : Pending) → pendingAfter (kindSort (numberOf w)) (operandOf w) f r ≡ d → ((g s : ℕ) → completes g s ws ≡ decodedAs g s (decodeWords ws))
+        → completes f r (w ∷ ws) ≡ decodedAs f r (decodeWords (w ∷ ws))
+    go none q misplaced e ih = rw (e, completes, q, decodeWords)
+    go none q (pending g s) e ih = rw (e, completes, q, decodeWords) (ih g s ∙ rw q)
+    go (some ts) q misplaced e ih =
+        let m = word-met (numberOf w) (operandOf w) f r ts in
+        rw (e, completes, q, decodeWords) (rw e at m)
+    go (some ts) q (pending g s) e ih =
+        let m = word-met (numberOf w) (operandOf w) f r ts in
+        rw (e, completes, q, decodeWords) (ih g s ∙ rw q (rw e at m))
 
 found : {A : Type 0} → Option A → Bool
 found none = false
@@ -132,10 +132,10 @@ one-rung l (trees (f ∷ []) (r ∷ q ∷ rs)) = rw (eqb·suc-suc 0 (suc (length
 one-rung l (trees (f ∷ g ∷ fs) rs) = rw (eqb·suc-suc 0 (suc (length fs)), eqb·zero-suc (length fs))
 one-rung l (trees [] rs) = refl
 
--- words hold a rung just when they are the front and the rear that it owes
-rung-found : (l : ℕ) (ws : List ℕ) → owes 1 1 ws ≡ found (decodeRung l ws)
+-- words hold a rung just when they are a front and a rear
+rung-found : (l : ℕ) (ws : List ℕ) → completes 1 1 ws ≡ found (decodeRung l ws)
 unfolding decodeRung found decodedAs
-rung-found l ws = owes-decoded 1 1 ws ∙ go (decodeWords ws) refl
+rung-found l ws = completes-decoded 1 1 ws ∙ go (decodeWords ws) refl
   where
     go : (x : Option Trees) → decodeWords ws ≡ x → decodedAs 1 1 (decodeWords ws) ≡ found (decodeRung l ws)
     go none q = rw (q, decodeRung)
@@ -161,7 +161,7 @@ rungs-counted start (r ∷ rs) ws =
     (decodeFrom (start + r .length) rs (drop (r .length) ws)) refl (holdsFrom (start + r .length) rs (drop (r .length) ws)) refl (rungs-counted (start + r .length) rs (drop (r .length) ws))
   where
     go : (b : Bool) → (eqb (r .offset) start && leb (r .length) (length ws)) ≡ b
-        → (x : Option Rung) → decodeRung (r .label) (take (r .length) ws) ≡ x → owes 1 1 (take (r .length) ws) ≡ found (decodeRung (r .label) (take (r .length) ws))
+        → (x : Option Rung) → decodeRung (r .label) (take (r .length) ws) ≡ x → completes 1 1 (take (r .length) ws) ≡ found (decodeRung (r .label) (take (r .length) ws))
         → (y : Option Ladder) → decodeFrom (start + r .length) rs (drop (r .length) ws) ≡ y
         → (t : Bool) → holdsFrom (start + r .length) rs (drop (r .length) ws) ≡ t
         → counted (decodeFrom (start + r .length) rs (drop (r .length) ws)) ≡ onlyIf (holdsFrom (start + r .length) rs (drop (r .length) ws)) (length rs)
@@ -201,7 +201,7 @@ module _ (ws : List ℕ) (rs : List RungRecord) (start i : ℕ) (within : start 
   pub holds-next : (r : RungRecord) → drop i rs ≡ r ∷ drop (suc i) rs
       → holdsFrom start (drop i rs) (drop start ws)
       ≡ ((eqb (r .offset) start && leb (r .length) (length ws - start))
-      && (owes 1 1 (slice start (start + r .length) ws) && holdsFrom (start + r .length) (drop (suc i) rs) (drop (start + r .length) ws)))
+      && (completes 1 1 (slice start (start + r .length) ws) && holdsFrom (start + r .length) (drop (suc i) rs) (drop (start + r .length) ws)))
   unfolding holdsFrom
   holds-next r here = rw here (rw (length-drop start ws, take-slice ws start (r .length) within, drop-drop (r .length) start ws))
 

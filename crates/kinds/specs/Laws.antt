@@ -1,0 +1,2 @@
+-- Laws of sorts. No contract cites these modules.
+pub mod Sorts
