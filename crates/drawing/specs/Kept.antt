@@ -8,7 +8,7 @@ use lib.Dec.{eqb, leb}
 use lib.ListN.{length, take, drop, getD}
 use Rattle.rungs.specs.Words.{word, numberOf, operandOf, isOperand}
 use Rattle.rungs.specs.Records.{RungRecord, lay}
-use Rattle.drawing.specs.Tree.{Input, contact, contactn, Front, input, frontAnd, frontOr, Output, coil, coiln, jump, jumpn, Rear, output, rearAnd, rearOr, Rung, Ladder, inputVariable, outputNames, number}
+use Rattle.drawing.specs.Tree.{Input, contact, contactn, Front, input, frontAnd, frontOr, Output, coil, coiln, jump, jumpn, Rear, output, rearAnd, rearOr, Rung, Ladder, Named, aVariable, aLabel, inputVariable, outputNames, number}
 
 pub record Kept : Type 0 where
   pub words : List ℕ
@@ -53,6 +53,11 @@ nameSorts = noName ∷ variableName ∷ variableName ∷ noName ∷ noName ∷ v
 
 unfoldable pub nameSort : ℕ → NameSort
 nameSort kind = getD nameSorts kind noName
+
+-- what is named, by its sort
+unfoldable pub namedSort : Named → NameSort
+namedSort (aVariable v) = variableName
+namedSort (aLabel l) = labelName
 
 -- "A tree is its root word, then its first part, then its second."
 unfoldable pub frontWords : Front → List ℕ

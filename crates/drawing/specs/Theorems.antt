@@ -12,10 +12,10 @@ use Rattle.table.specs.State.{State, beyondVariables, SameButScratch}
 use Rattle.table.specs.Halt.{Ended, Stopped}
 use Rattle.table.specs.Questions.{Legal}
 use Rattle.table.specs.Laws.Alike.{alike-legal, alike-same}
-use Rattle.drawing.specs.Tree.{Rung, Ladder, rungAll}
+use Rattle.drawing.specs.Tree.{Input, contact, contactn, Output, coil, coiln, jump, jumpn, Rung, Ladder, rungAll, outputNames}
 use Rattle.drawing.specs.Meaning.{LadderResult, scanLadder}
 use Rattle.drawing.specs.Standing.{Stands}
-use Rattle.drawing.specs.Kept.{Kept, encode, decode, inputFits, outputFits}
+use Rattle.drawing.specs.Kept.{Kept, encode, decode, inputFits, outputFits, inputKind, outputKind, contactSort, outputSort, kindSorts, kindSort, variableName, nameSorts, nameSort, namedSort}
 use Rattle.drawing.specs.Questions.{question6, rungBelow, ladderOf, ladderAnswer, Accepted}
 use Rattle.drawing.specs.Laws.Watchdog.{stopped-stands, stands-stopped, ended-stands, stands-ended}
 use Rattle.drawing.specs.Laws.Scratch.{scan-alike, scan-stays}
@@ -36,6 +36,19 @@ decoded-exactly k gs = (
 -- They are those of one ladder at most.
 pub one-ladder : (k : Kept) (gs hs : Ladder) → IsKept k gs → IsKept k hs → gs ≡ hs
 one-ladder k gs hs g h = let p = decoded-exactly k gs .1 g in let q = decoded-exactly k hs .1 h in cc
+
+-- A kind's sort, and what its operand names, are those of the inputs and outputs of that kind.
+pub input-sorted : (i : Input) → (kindSort (inputKind i) ≡ contactSort) × (nameSort (inputKind i) ≡ variableName)
+unfolding inputKind kindSort kindSorts nameSort nameSorts
+input-sorted (contact v) = (refl, refl)
+input-sorted (contactn v) = (refl, refl)
+
+pub output-sorted : (o : Output) → (kindSort (outputKind o) ≡ outputSort) × (nameSort (outputKind o) ≡ namedSort (outputNames o))
+unfolding outputKind outputNames kindSort kindSorts nameSort nameSorts namedSort
+output-sorted (coil v) = (refl, refl)
+output-sorted (coiln v) = (refl, refl)
+output-sorted (jump l) = (refl, refl)
+output-sorted (jumpn l) = (refl, refl)
 
 -- Question 1 and questions 4 to 9 all get a "yes" exactly when the words and records are those of an accepted ladder.
 pub accepted-exactly : (vars : ℕ) (k : Kept) → (ladderAnswer vars k ≡ yes) ↔ ((gs : Ladder) × IsKept k gs × Accepted vars gs)

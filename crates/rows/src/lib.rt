@@ -134,7 +134,7 @@ fn rung_in(
 
 // The first `n` records of the arrays, from the start of the row; the rest stays.
 pub fn scatter(row: &mut [Rung], rows: Rows, n: usize)
-    requires { ⌜ (n ≤ 256) × (n ≤ length (now row)) ⌝ }
+    requires { ⌜ (n ≤ mostRecords) × (n ≤ length (now row)) ⌝ }
     ensures { λ _. ⌜ recordsOf (now (row .exit)) ≡ scattered n rows (recordsOf (now (row .entry))) ⌝ }
 {
     let labels = rows.labels;

@@ -8,20 +8,20 @@ use Rattle.list.proofs.ops.operand_sort.Statement.{statement}
 use Rattle.list.proofs.ops.operand_sort.Tie as tie
 
 returns : tie.Need-returns
-unfolding sortIn operandSort ops onlyNot operand sortOf
-returns c = rw (c .match .keys1) refl
+unfolding sortIn
+returns c = no-sort _ (λ l h. omega arith)
 
 returns-2 : tie.Need-returns-2
 unfolding sortIn
 returns-2 c = table-sort _ (omega arith) (omega arith)
 
 returns-3 : tie.Need-returns-3
-unfolding sortIn
-returns-3 c = instruction-sort _ (omega arith) (omega arith)
+unfolding sortIn operandSort ops onlyNot operand sortOf
+returns-3 c = rw (c .if3 .taken) refl
 
 returns-4 : tie.Need-returns-4
 unfolding sortIn
-returns-4 c = no-sort _ (λ l h. omega arith)
+returns-4 c = instruction-sort _ (omega arith) (omega arith)
 
 returns-5 : tie.Need-returns-5
 unfolding sortIn
