@@ -1,6 +1,6 @@
 /* The five calls of document 01 in plain C, for comparison. Written from document 01 alone; it shares nothing with the proved code.
    Standard input: a number of turns, LF, and one request of the vectors' format. Each turn works on fresh copies of the lent buffers.
-   Standard output: the request's answer line, as the vector programs print it. Standard error: nanoseconds a turn. */
+   Standard output: the request's answer line, as the program vectors prints it. Standard error: nanoseconds a turn. */
 #include <stdint.h>
 #include <stdio.h>
 #include <stdlib.h>

@@ -1,6 +1,7 @@
 // What the programs that answer test requests share: the input, the output, and where a program stands between two requests.
 use input::Input;
 
+pub mod cases;
 pub mod input;
 pub mod output;
 

@@ -25,6 +25,13 @@ pub fn put_byte(room: &mut [u8], placed: usize, byte: u8) -> usize {
     0
 }
 
+// Writes out the first n bytes.
+pub fn write(bytes: &[u8], n: usize) {
+    if n <= bytes.len() {
+        io::write_all(STDOUT_FILENO, &bytes[..n]);
+    }
+}
+
 pub fn put_text(room: &mut [u8], from: usize, text: &[u8]) -> usize {
     let mut placed = from;
     let mut i: usize = 0;

@@ -1,11 +1,9 @@
 // Makes one request's call a given number of times, and prints the last answer: the speed of the calls, side by side with C (bench/run).
-use libc::STDOUT_FILENO;
+use requests::output;
 
 fn main() {
     let mut chunk = [0u8; 65536];
     let mut room = [0u8; 65536];
     let placed = answers::answer_turns(&mut chunk, &mut room);
-    if placed <= 65536 {
-        io::write_all(STDOUT_FILENO, &room[..placed]);
-    }
+    output::write(&room, placed);
 }
