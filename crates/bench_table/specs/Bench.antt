@@ -14,20 +14,20 @@ use Rattle.table.specs.Halt.{Halt, Ended, Stopped}
 use Rattle.table.specs.Questions.{tableInRange, question11}
 use Rattle.rungs.specs.Records.{RungRecord, laid, lay, search, present, startOf, isStart, longest, rowOf}
 use Rattle.rungs.specs.Buffers.{Buffers, buffers, asBuffers, needs, written, writtenOver, writtenWords, writtenRecords}
-use Rattle.drawing.specs.Tree.{frontAll, rearAll, rungAll, inputVariable, outputNames, number}
-use Rattle.drawing.specs.Meaning.{scanLadder, scanFrom, runRung, runRear, runOutput, workFront, workInput, jumpIf, unlessJumped, from, follow, left}
-use Rattle.drawing.specs.Kept.{Kept, inputKind, outputKind, inputWord, outputWord, frontWords, rearWords, rungWords, encode, putInput, putFront, putOutput, putRearAnd, putRearOr, kinds, decodeWords, oneRung, decodeRung, decodeFrom, decode}
-use Rattle.drawing.specs.Questions.{ladderOf, holdsLadder, question4, sizesInRange, question5, inputBelow, outputBelow, question6, newLabels, question7, outputLeads, question8, joinScratch, frontScratch, rearScratch, rungScratch, scratchInRange, question9, namedBelow, namedLeads, ladderQuestions, ladderAnswer}
-use Rattle.ladder.specs.LadderScan.{callLadderScan, scanned, refused, scanEnds as ladderScanEnds, scanQuestions as ladderScanQuestions}
-use Rattle.grammar.specs.Reader.{mapP, bind, followed, digitOf, digitsFrom, numeralOf, chain, termBy, frontBy, factorBy, factorOf, termOf, frontOf, opensFactor, branchBy, rearBy, endBy, endOf, rearOf, lineOf, linesOf, textOf}
-use Rattle.grammar.specs.Questions.{question3}
-use Rattle.text.specs.Read.{readText, kept, writtenKept, textLadder, refused as readRefused}
-use Rattle.list.specs.Instruction.{LD, LDN, ST, AND, ANDN, OR, JMPC, operand, opOf, operandNumber, onlyNot, ops, instrWord, decodeInstr, decodeCode, codeOf}
-use Rattle.list.specs.Machine.{scanList, scanMachine, begin, fresh, step, count, does, halted}
-use Rattle.list.specs.Questions.{operandInRange, wordInRange, recordsLaid, listInRange, question10}
-use Rattle.list.specs.ListScan.{listOf, callListScan, scanned as listScanned, refused as listRefused, scanEnds as listScanEnds, scanQuestions as listScanQuestions}
-use Rattle.translation.specs.Translate.{F, R, join, outputCode, rungCode, listRecords, translate}
-use Rattle.translation.specs.TranslateKept.{Counts, countsOf, translateKept, translated, refused as translateRefused}
+use Rattle.ladder_definitions.specs.Tree.{frontAll, rearAll, rungAll, inputVariable, outputNames, number}
+use Rattle.ladder_definitions.specs.Meaning.{scanLadder, scanFrom, runRung, runRear, runOutput, workFront, workInput, jumpIf, unlessJumped, from, follow, left}
+use Rattle.ladder_definitions.specs.Kept.{Kept, inputKind, outputKind, inputWord, outputWord, frontWords, rearWords, rungWords, encode, putInput, putFront, putOutput, putRearAnd, putRearOr, kinds, decodeWords, oneRung, decodeRung, decodeFrom, decode}
+use Rattle.ladder_definitions.specs.Questions.{ladderOf, holdsLadder, question4, sizesInRange, question5, inputBelow, outputBelow, question6, newLabels, question7, outputLeads, question8, joinScratch, frontScratch, rearScratch, rungScratch, scratchInRange, question9, namedBelow, namedLeads, ladderQuestions, ladderAnswer}
+use Rattle.ladder_definitions.specs.LadderScan.{callLadderScan, scanned, refused, scanEnds as ladderScanEnds, scanQuestions as ladderScanQuestions}
+use Rattle.text_grammar.specs.Reader.{mapP, bind, followed, digitOf, digitsFrom, numeralOf, chain, termBy, frontBy, factorBy, factorOf, termOf, frontOf, opensFactor, branchBy, rearBy, endBy, endOf, rearOf, lineOf, linesOf, textOf}
+use Rattle.text_grammar.specs.Questions.{question3}
+use Rattle.text_definitions.specs.Read.{readText, kept, writtenKept, textLadder, refused as readRefused}
+use Rattle.list_definitions.specs.Instruction.{LD, LDN, ST, AND, ANDN, OR, JMPC, operand, opOf, operandNumber, onlyNot, ops, instrWord, decodeInstr, decodeCode, codeOf}
+use Rattle.list_definitions.specs.Machine.{scanList, scanMachine, begin, fresh, step, count, does, halted}
+use Rattle.list_definitions.specs.Questions.{operandInRange, wordInRange, recordsLaid, listInRange, question10}
+use Rattle.list_definitions.specs.ListScan.{listOf, callListScan, scanned as listScanned, refused as listRefused, scanEnds as listScanEnds, scanQuestions as listScanQuestions}
+use Rattle.translation_definitions.specs.Translate.{F, R, join, outputCode, rungCode, listRecords, translate}
+use Rattle.translation_definitions.specs.TranslateKept.{Counts, countsOf, translateKept, translated, refused as translateRefused}
 
 -- how a scan halted, its rungs entered and the variables that it left
 record Scan : Type 0 where

@@ -17,19 +17,20 @@ use Rattle.table.specs.Questions.{tableInRange, question11}
 use Rattle.rungs.specs.Records.{rowOf}
 use Rattle.rungs.specs.Laws.Rows.{row-labels, row-offsets, row-lengths}
 use Rattle.rungs.specs.Laws.Layout.{lay-lengths}
-use Rattle.drawing.specs.Tree.{Ladder, labels}
-use Rattle.drawing.specs.Kept.{Kept, rungWords, encode, decode}
-use Rattle.drawing.specs.Questions.{ladderOf, holdsLadder, question4, sizesInRange, question5, rungBelow, question6, newLabels, question7, rungLeads, question8, scratchInRange, question9, ladderQuestions, ladderAnswer}
-use Rattle.drawing.specs.Laws.Accepting.{encode-decode, holds}
-use Rattle.ladder.specs.Asking.{LadderIn, placeOf, SizesAsked, VariablesAsked, LabelsAsked, JumpsAsked}
-use Rattle.ladder.specs.Held.{LadderHeld}
-use Rattle.ladder.specs.Scanned.{ScratchAsked, Scanned}
-use Rattle.ladder.specs.Laws.Held.{keptOf, rows, even, held}
-use Rattle.ladder.specs.LadderScan.{scanQuestions, callLadderScan, LadderScanDone}
-use Rattle.ladder.specs.Laws.Scans.{scan-first, scan-taken, scan-scans}
-use Rattle.ladder.specs.declared.Found.{Found}
-use Rattle.ladder.specs.declared.Found.the-variants.{At, Nothing}
-use Rattle.ladder.specs.declared.LadderScanned.{LadderScanned}
+use Rattle.ladder_definitions.specs.Tree.{Ladder, labels}
+use Rattle.ladder_definitions.specs.Kept.{Kept, rungWords, encode, decode}
+use Rattle.ladder_definitions.specs.Questions.{ladderOf, holdsLadder, question4, sizesInRange, question5, rungBelow, question6, newLabels, question7, rungLeads, question8, scratchInRange, question9, ladderQuestions, ladderAnswer}
+use Rattle.ladder_definitions.specs.Laws.Accepting.{encode-decode, holds}
+use Rattle.ladder_names.specs.Asking.{LadderIn, placeOf, SizesAsked, VariablesAsked, LabelsAsked, JumpsAsked}
+use Rattle.ladder_definitions.specs.Held.{LadderHeld}
+use Rattle.ladder_scratch.specs.Measuring.{ScratchAsked}
+use Rattle.ladder_walk.specs.Scanned.{Scanned}
+use Rattle.ladder_definitions.specs.Laws.Held.{keptOf, rows, even, held}
+use Rattle.ladder_definitions.specs.LadderScan.{scanQuestions, callLadderScan, LadderScanDone}
+use Rattle.ladder_walk.specs.Laws.Scans.{scan-first, scan-taken, scan-scans}
+use Rattle.ladder_names.specs.declared.Found.{Found}
+use Rattle.ladder_names.specs.declared.Found.the-variants.{At, Nothing}
+use Rattle.ladder_definitions.specs.declared.LadderScanned.{LadderScanned}
 
 -- ---- what question 4 took
 

@@ -1,10 +1,2 @@
--- Laws that the proofs of this crate's functions cite.
-pub mod Sorts
-pub mod Holding
-pub mod Asked
-pub mod Walks
-pub mod Roots
-pub mod Measures
-pub mod FewWords
-pub mod Measuring
+-- Laws that the proofs of functions cite.
 pub mod Answers

@@ -1,37 +1,16 @@
-// The ladder side: questions 4 to 9 and Ladder scan. Document 01, "The kept ladder", "What a ladder does".
+// The calls of the ladder side: questions 1 and 4 to 9, and Ladder scan. Document 01, "The kept ladder", "What a ladder does".
 ghost use mathlib.Core.Path.{_≡_};
 ghost use Rattle.questions.specs.Refusals.{verdictAnswer};
 ghost use Rattle.rungs.specs.Records.{rowOf};
-ghost use Rattle.drawing.specs.Kept.{Kept};
-ghost use Rattle.drawing.specs.Questions.{ladderAnswer};
-ghost use Rattle.ladder.specs.LadderScan.{scanQuestions, callLadderScan, LadderScanDone};
+ghost use Rattle.ladder_definitions.specs.Kept.{Kept};
+ghost use Rattle.ladder_definitions.specs.Questions.{ladderAnswer};
+ghost use Rattle.ladder_definitions.specs.LadderScan.{scanQuestions, callLadderScan, LadderScanDone};
+pub use ladder_definitions::Counts;
+pub use ladder_definitions::LadderScanned;
+use ladder_names::Found;
 use questions::MOST_RUNG_WATCHDOG;
 use questions::Refusal;
 use questions::Verdict;
-
-pub mod holds;
-mod measure;
-mod question;
-mod scan;
-pub mod walk;
-
-// The rungs entered.
-pub struct Counts {
-    pub rungs: u32,
-}
-
-// The answer of Ladder scan.
-pub enum LadderScanned {
-    Ended(Counts),
-    Stopped(Counts),
-    Refused(Refusal),
-}
-
-// The place of the first rung that a question says "no" to, if there is one.
-pub enum Found {
-    At(usize),
-    Nothing,
-}
 
 // Questions 1 and 4 to 9, in order.
 pub fn ladder_answer(
@@ -47,22 +26,22 @@ pub fn ladder_answer(
     if !questions::vars_in_range(vars) {
         return Verdict::Refused(Refusal::Variables);
     }
-    if !holds::holds_ladder(words, labels, offsets, lengths) {
+    if !ladder_kept::holds_ladder(words, labels, offsets, lengths) {
         return Verdict::Refused(Refusal::Kept);
     }
-    if !question::sizes_in_range(words, lengths) {
+    if !ladder_names::sizes_in_range(words, lengths) {
         return Verdict::Refused(Refusal::Sizes);
     }
-    if let Found::At(rung) = question::unknown_variable(vars, words, lengths) {
+    if let Found::At(rung) = ladder_names::unknown_variable(vars, words, lengths) {
         return Verdict::Refused(Refusal::Variable { rung });
     }
-    if let Found::At(rung) = question::repeated_label(labels) {
+    if let Found::At(rung) = ladder_names::repeated_label(labels) {
         return Verdict::Refused(Refusal::Label { rung });
     }
-    if let Found::At(rung) = question::missing_label(labels, words, lengths) {
+    if let Found::At(rung) = ladder_names::missing_label(labels, words, lengths) {
         return Verdict::Refused(Refusal::Jump { rung });
     }
-    if !measure::scratch_in_range(words, offsets, lengths) {
+    if !ladder_scratch::scratch_in_range(words, offsets, lengths) {
         return Verdict::Refused(Refusal::Scratch);
     }
     Verdict::Accepted
@@ -113,6 +92,6 @@ pub fn ladder_scan(
 {
     match scan_questions(vars, words, labels, offsets, lengths, table, watchdog) {
         Verdict::Refused(refusal) => LadderScanned::Refused(refusal),
-        Verdict::Accepted => scan::run(words, labels, offsets, table, watchdog),
+        Verdict::Accepted => ladder_walk::scan::run(words, labels, offsets, table, watchdog),
     }
 }

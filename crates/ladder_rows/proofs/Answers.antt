@@ -16,9 +16,9 @@ use Rattle.rungs.specs.Records.{RungRecord, rowOf, mostRecords}
 use Rattle.rows.specs.Parts.{gathered}
 use Rattle.rows.specs.Laws.Gathered.{gathered-whole}
 use Rattle.rows.specs.declared.Rows.{Rows}
-use Rattle.ladder.specs.LadderScan.{scanQuestions, callLadderScan, LadderScanDone}
-use Rattle.ladder.specs.Laws.Scans.{scan-first, scan-refuses, scan-scans}
-use Rattle.ladder.specs.declared.LadderScanned.{LadderScanned}
+use Rattle.ladder_definitions.specs.LadderScan.{scanQuestions, callLadderScan, LadderScanDone}
+use Rattle.ladder_walk.specs.Laws.Scans.{scan-first, scan-refuses, scan-scans}
+use Rattle.ladder_definitions.specs.declared.LadderScanned.{LadderScanned}
 use Rattle.ladder_rows.specs.Parts.{longHolds, LongRefused, RowAsked, RowScanned}
 
 module _ (vars : ℕ) (ws : List ℕ) (rows : Rows) (long : Bool) (t : List ℕ) (w : ℕ) where

@@ -15,12 +15,12 @@ use Rattle.questions.specs.Refusals.{refusalOf}
 use Rattle.questions.specs.declared.Refusal.the-variants.{Variables, Kept as KeptCase, Sizes}
 use Rattle.rungs.specs.Records.{RungRecord, mostRecords}
 use Rattle.rows.specs.Rows.{noRecord, recordAt}
-use Rattle.drawing.specs.Tree.{Ladder}
-use Rattle.drawing.specs.Questions.{ladderOf, holdsLadder, question4, sizesInRange, question5, ladderQuestions, ladderAnswer}
-use Rattle.ladder.specs.Pending.{completes, holdsFrom}
-use Rattle.drawing.specs.Laws.Accepting.{holds}
-use Rattle.ladder.specs.Laws.Held.{kept-many}
-use Rattle.ladder.specs.Laws.Pending.{holds-counted, holds-next, holds-last}
+use Rattle.ladder_definitions.specs.Tree.{Ladder}
+use Rattle.ladder_definitions.specs.Questions.{ladderOf, holdsLadder, question4, sizesInRange, question5, ladderQuestions, ladderAnswer}
+use Rattle.ladder_kept.specs.Pending.{completes, holdsFrom}
+use Rattle.ladder_definitions.specs.Laws.Accepting.{holds}
+use Rattle.ladder_definitions.specs.Laws.Held.{kept-many}
+use Rattle.ladder_kept.specs.Laws.Pending.{holds-counted, holds-next, holds-last}
 use Rattle.ladder_rows.specs.Parts.{longHolds, askedTo, laidFirst, laidNext, laidWhole, LongRefused}
 use Rattle.ladder_rows.specs.declared.Laid.{Laid}
 

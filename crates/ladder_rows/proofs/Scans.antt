@@ -14,12 +14,12 @@ use Rattle.questions.specs.declared.Verdict.{Verdict}
 use Rattle.questions.specs.declared.Verdict.the-variants.{Accepted, Refused}
 use Rattle.rungs.specs.Records.{RungRecord, labels, offsets, search}
 use Rattle.rows.specs.Rows.{noRecord, recordAt}
-use Rattle.ladder.specs.Walking.{RungRun}
-use Rattle.ladder.specs.Scanned.{Scanned}
-use Rattle.ladder.specs.Laws.Scanning.{Scanning, scanning-first, scan-ended, scan-stopped, scan-onward, scan-jumped}
-use Rattle.ladder.specs.declared.LadderScanned.the-variants.{Ended as EndedCase, Stopped as StoppedCase, Refused as RefusedScan}
-use Rattle.ladder.specs.declared.walk.Ran.{Ran}
-use Rattle.ladder.specs.declared.walk.Ran.the-variants.{Onward, Jumped}
+use Rattle.ladder_walk.specs.Walking.{RungRun}
+use Rattle.ladder_walk.specs.Scanned.{Scanned}
+use Rattle.ladder_walk.specs.Laws.Scanning.{Scanning, scanning-first, scan-ended, scan-stopped, scan-onward, scan-jumped}
+use Rattle.ladder_definitions.specs.declared.LadderScanned.the-variants.{Ended as EndedCase, Stopped as StoppedCase, Refused as RefusedScan}
+use Rattle.ladder_walk.specs.declared.Ran.{Ran}
+use Rattle.ladder_walk.specs.declared.Ran.the-variants.{Onward, Jumped}
 use Rattle.ladder_rows.specs.Parts.{goesOn, accepts, begun, wayOf, Entered, arrivesAt, arrived, answered, RowScanned}
 use Rattle.ladder_rows.specs.declared.Standing.{Standing}
 use Rattle.ladder_rows.specs.declared.Way.{Way}

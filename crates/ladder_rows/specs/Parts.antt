@@ -14,15 +14,15 @@ use Rattle.questions.specs.declared.Verdict.the-variants.{Accepted, Refused}
 use Rattle.rungs.specs.Records.{RungRecord, labels, offsets, mostRecords}
 use Rattle.rows.specs.Parts.{gathered}
 use Rattle.rows.specs.declared.Rows.{Rows}
-use Rattle.drawing.specs.Questions.{holdsLadder, ladderAnswer}
-use Rattle.ladder.specs.LadderScan.{scanQuestions}
-use Rattle.ladder.specs.Pending.{completes}
-use Rattle.ladder.specs.Walking.{RungRun}
-use Rattle.ladder.specs.Scanned.{Scanned}
-use Rattle.ladder.specs.declared.LadderScanned.{LadderScanned}
-use Rattle.ladder.specs.declared.LadderScanned.the-variants.{Ended as EndedCase, Stopped as StoppedCase, Refused as RefusedScan}
-use Rattle.ladder.specs.declared.walk.Ran.{Ran}
-use Rattle.ladder.specs.declared.walk.Ran.the-variants.{Onward, Jumped}
+use Rattle.ladder_definitions.specs.Questions.{holdsLadder, ladderAnswer}
+use Rattle.ladder_definitions.specs.LadderScan.{scanQuestions}
+use Rattle.ladder_kept.specs.Pending.{completes}
+use Rattle.ladder_walk.specs.Walking.{RungRun}
+use Rattle.ladder_walk.specs.Scanned.{Scanned}
+use Rattle.ladder_definitions.specs.declared.LadderScanned.{LadderScanned}
+use Rattle.ladder_definitions.specs.declared.LadderScanned.the-variants.{Ended as EndedCase, Stopped as StoppedCase, Refused as RefusedScan}
+use Rattle.ladder_walk.specs.declared.Ran.{Ran}
+use Rattle.ladder_walk.specs.declared.Ran.the-variants.{Onward, Jumped}
 use Rattle.ladder_rows.specs.declared.Laid.{Laid}
 use Rattle.ladder_rows.specs.declared.Standing.{Standing}
 use Rattle.ladder_rows.specs.declared.Way.{Way}

@@ -4,11 +4,11 @@ ghost use mathlib.Core.Path.{_≡_};
 ghost use lib.ListN.{length};
 ghost use Prim.Native.Nat.{_+_, _≤_, _<_, _^_};
 ghost use Rattle.rows.specs.Rows.{recordOf, recordsOf};
-ghost use Rattle.ladder.specs.LadderScan.{callLadderScan, LadderScanDone};
+ghost use Rattle.ladder_definitions.specs.LadderScan.{callLadderScan, LadderScanDone};
 ghost use Rattle.ladder_rows.specs.Parts.{longHolds, LongRefused, laidFirst, laidNext, laidWhole, askedTo, RowAsked};
 ghost use Rattle.ladder_rows.specs.Parts.{Entered, goesOn, begun, arrived, answered, RowScanned};
-use ladder::LadderScanned;
-use ladder::walk::Ran;
+use ladder_definitions::LadderScanned;
+use ladder_walk::Ran;
 use questions::Refusal;
 use questions::Verdict;
 use rows::Rows;
@@ -72,7 +72,7 @@ fn laid_next(laid: Laid, words: &[u32], r: Rung) -> Laid
     if words.len() - start < n {
         return no;
     }
-    if !ladder::holds::holds_rung(words, start, start + n) {
+    if !ladder_kept::holds_rung(words, start, start + n) {
         return no;
     }
     Laid {
@@ -174,7 +174,7 @@ fn goes_on(rung: usize, n: usize, entered: u32, watchdog: u32) -> bool
 fn enter(words: &[u32], r: Rung, n: usize, table: &mut [u8]) -> Way
     ensures { λ s. ⌜ Entered (now (words .entry)) (recordOf r) n (now (table .entry)) s (now (table .exit)) ⌝ }
 {
-    match ladder::walk::run_rung(words, r.offset as usize, table) {
+    match ladder_walk::run_rung(words, r.offset as usize, table) {
         Ran::Onward(_) => Way {
             jumped: false,
             label: 0,
@@ -209,7 +209,7 @@ fn answer(verdict: Verdict, at: Standing, n: usize) -> LadderScanned
     match verdict {
         Verdict::Refused(refusal) => LadderScanned::Refused(refusal),
         Verdict::Accepted => {
-            let counts = ladder::Counts { rungs: at.entered };
+            let counts = ladder_definitions::Counts { rungs: at.entered };
             if n <= at.rung {
                 LadderScanned::Ended(counts)
             } else {
@@ -220,7 +220,7 @@ fn answer(verdict: Verdict, at: Standing, n: usize) -> LadderScanned
 }
 
 // The scan, if no question got a "no".
-pub fn run(
+fn run(
     verdict: Verdict,
     words: &[u32],
     row: &[Rung],

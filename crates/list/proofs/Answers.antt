@@ -21,15 +21,15 @@ use Rattle.table.specs.Questions.{tableInRange, question11}
 use Rattle.rungs.specs.Records.{RungRecord, rowOf}
 use Rattle.rungs.specs.Laws.Rows.{row-even, row-offsets}
 use Rattle.questions.specs.Laws.Answers.{ask-passed, first-yes, later-yes}
-use Rattle.list.specs.Listing.{fixedNames, listingText, listing, listedAnswer, ListingDone}
-use Rattle.list.specs.declared.Listed.the-variants.{Written, Refused as RefusedListing}
+use Rattle.list_definitions.specs.Listing.{fixedNames, listingText, listing, listedAnswer, ListingDone}
+use Rattle.list_definitions.specs.declared.Listed.the-variants.{Written, Refused as RefusedListing}
 use Rattle.printing.specs.Put.{Put}
-use Rattle.list.specs.Parts.{Ran}
-use Rattle.list.specs.Laws.Scans.{scan-in-range, scan-scans}
-use Rattle.list.specs.Laws.Refusing.{first-accepted, scan-asked-list}
-use Rattle.list.specs.Questions.{listInRange, question10, listAnswer}
-use Rattle.list.specs.ListScan.{listOf, scanQuestions, callListScan, ListScanDone}
-use Rattle.list.specs.declared.ListScanned.{ListScanned}
+use Rattle.list_machine.specs.Parts.{Ran}
+use Rattle.list_machine.specs.Laws.Scans.{scan-in-range, scan-scans}
+use Rattle.list_definitions.specs.Laws.Refusing.{first-accepted, scan-asked-list}
+use Rattle.list_definitions.specs.Questions.{listInRange, question10, listAnswer}
+use Rattle.list_definitions.specs.ListScan.{listOf, scanQuestions, callListScan, ListScanDone}
+use Rattle.list_definitions.specs.declared.ListScanned.{ListScanned}
 
 module _ (vars : ℕ) (ws : List ℕ) (rs : List RungRecord) where
   pub refused-variables : varsInRange vars ≡ false → verdictAnswer (Refused Variables) ≡ listAnswer vars ws rs

@@ -1,6 +1,2 @@
--- Laws that the proofs of this crate's functions cite.
-pub mod Accepting
+-- Laws that the proofs of functions cite.
 pub mod Answers
-pub mod Printed
-pub mod Ranges
-pub mod Steps

@@ -1,39 +1,15 @@
-// The list side: List scan and Listing. Document 01, "What a list does", "Listing".
+// The calls of the list side: questions 1 and 10, List scan and Listing. Document 01, "What a list does", "Listing".
 ghost use mathlib.Core.Path.{_≡_};
 ghost use Rattle.rungs.specs.Records.{rowOf};
 ghost use Rattle.questions.specs.Refusals.{verdictAnswer};
-ghost use Rattle.list.specs.Questions.{listAnswer};
-ghost use Rattle.list.specs.ListScan.{scanQuestions, callListScan, ListScanDone};
-ghost use Rattle.list.specs.Listing.{fixedNames, listing, ListingDone};
+ghost use Rattle.list_definitions.specs.Questions.{listAnswer};
+ghost use Rattle.list_definitions.specs.ListScan.{scanQuestions, callListScan, ListScanDone};
+ghost use Rattle.list_definitions.specs.Listing.{fixedNames, listing, ListingDone};
+pub use list_definitions::Counts;
+pub use list_definitions::ListScanned;
+pub use list_definitions::Listed;
 use questions::Refusal;
 use questions::Verdict;
-
-pub mod ops;
-mod print;
-mod question;
-pub mod scan;
-
-// At most 16,384 instructions.
-pub const MOST_INSTRUCTIONS: usize = 16384;
-
-// The instructions carried out and the rungs entered.
-pub struct Counts {
-    pub instructions: u32,
-    pub rungs: u32,
-}
-
-// The answer of List scan.
-pub enum ListScanned {
-    Ended(Counts),
-    Stopped(Counts),
-    Refused(Refusal),
-}
-
-// The answer of Listing: the bytes written, or the refusal.
-pub enum Listed {
-    Written(usize),
-    Refused(Refusal),
-}
 
 // Questions 1 and 10, in order.
 pub fn list_answer(
@@ -49,7 +25,7 @@ pub fn list_answer(
     if !questions::vars_in_range(vars) {
         return Verdict::Refused(Refusal::Variables);
     }
-    if !question::list_in_range(vars, code, labels, offsets, lengths) {
+    if !list_questions::list_in_range(vars, code, labels, offsets, lengths) {
         return Verdict::Refused(Refusal::List);
     }
     Verdict::Accepted
@@ -100,7 +76,7 @@ pub fn list_scan(
 {
     match scan_questions(vars, code, labels, offsets, lengths, table, watchdog) {
         Verdict::Refused(refusal) => ListScanned::Refused(refusal),
-        Verdict::Accepted => scan::run(code, offsets, table, watchdog),
+        Verdict::Accepted => list_machine::run(code, offsets, table, watchdog),
     }
 }
 
@@ -124,10 +100,10 @@ pub fn listing(
         Verdict::Accepted => {}
     }
     let mut none = [0u8; 0];
-    let needed = print::put_list(vars, code, labels, offsets, lengths, &mut none);
+    let needed = list_printing::put_list(vars, code, labels, offsets, lengths, &mut none);
     if out.len() < needed {
         return Listed::Refused(Refusal::Buffer);
     }
-    let end = print::put_list(vars, code, labels, offsets, lengths, out);
+    let end = list_printing::put_list(vars, code, labels, offsets, lengths, out);
     Listed::Written(end)
 }

@@ -18,15 +18,15 @@ use Rattle.rungs.specs.Records.{RungRecord, rowOf, mostRecords}
 use Rattle.rows.specs.Parts.{gathered}
 use Rattle.rows.specs.Laws.Gathered.{gathered-whole}
 use Rattle.rows.specs.declared.Rows.{Rows}
-use Rattle.list.specs.Questions.{mostInstructions, listInRange, question10, listAnswer}
-use Rattle.list.specs.ListScan.{scanQuestions, callListScan, ListScanDone}
-use Rattle.list.specs.Listing.{fixedNames, listing, ListingDone}
-use Rattle.list.specs.Laws.Scans.{scan-refuses, scan-in-range, scan-scans, first-starts}
-use Rattle.list.specs.Laws.Seeks.{laid-ascend}
-use Rattle.list.specs.Laws.Refusing.{scan-asked-list, listing-refused}
-use Rattle.list.specs.declared.Listed.{Listed}
-use Rattle.list.specs.declared.Listed.the-variants.{Refused as RefusedListing}
-use Rattle.list.specs.declared.ListScanned.{ListScanned}
+use Rattle.list_definitions.specs.Questions.{mostInstructions, listInRange, question10, listAnswer}
+use Rattle.list_definitions.specs.ListScan.{scanQuestions, callListScan, ListScanDone}
+use Rattle.list_definitions.specs.Listing.{fixedNames, listing, ListingDone}
+use Rattle.list_machine.specs.Laws.Scans.{scan-refuses, scan-in-range, scan-scans, first-starts}
+use Rattle.list_machine.specs.Laws.Seeks.{laid-ascend}
+use Rattle.list_definitions.specs.Laws.Refusing.{scan-asked-list, listing-refused}
+use Rattle.list_definitions.specs.declared.Listed.{Listed}
+use Rattle.list_definitions.specs.declared.Listed.the-variants.{Refused as RefusedListing}
+use Rattle.list_definitions.specs.declared.ListScanned.{ListScanned}
 use Rattle.list_rows.specs.Parts.{LongRefused, RowAsked, RowReady, RowRan, RowListed}
 
 -- ---- a row of more than 256 records

@@ -10,8 +10,8 @@ use borrow.Author.Tests.{eqb-true, eqb-false, ltb-true, ltb-false}
 use Rattle.questions.specs.Tests.{bit}
 use Rattle.rungs.specs.Records.{RungRecord, offsets}
 use Rattle.rows.specs.Rows.{noRecord, recordAt}
-use Rattle.list.specs.Parts.{startsHere, ascending, before}
-use Rattle.list.specs.Laws.Seeks.{before-most, between-all, go-up, go-down, carried-on}
+use Rattle.list_machine.specs.Parts.{startsHere, ascending, before}
+use Rattle.list_machine.specs.Laws.Seeks.{before-most, between-all, go-up, go-down, carried-on}
 use Rattle.list_rows.specs.Parts.{placeOf, Begins, RowFollowed, seekFrom, middleOf, halved, placeAt}
 use Rattle.list_rows.specs.declared.RowPlace.{RowPlace}
 use Rattle.list_rows.specs.declared.Seeking.{Seeking}

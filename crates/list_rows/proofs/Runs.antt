@@ -11,10 +11,10 @@ use Rattle.questions.specs.declared.Refusal.{Refusal}
 use Rattle.questions.specs.declared.Verdict.{Verdict}
 use Rattle.questions.specs.declared.Verdict.the-variants.{Accepted, Refused}
 use Rattle.rungs.specs.Records.{RungRecord, offsets}
-use Rattle.list.specs.Parts.{startsHere, Stepped, Followed, firstMachine, runsOn}
-use Rattle.list.specs.Laws.Runs.{runs-on, Standing, standing-first, standing-needs, standing-next, standing-less, standing-ends}
-use Rattle.list.specs.declared.ListScanned.{ListScanned}
-use Rattle.list.specs.declared.scan.Machine.{Machine}
+use Rattle.list_machine.specs.Parts.{startsHere, Stepped, Followed, firstMachine, runsOn}
+use Rattle.list_machine.specs.Laws.Runs.{runs-on, Standing, standing-first, standing-needs, standing-next, standing-less, standing-ends}
+use Rattle.list_definitions.specs.declared.ListScanned.{ListScanned}
+use Rattle.list_machine.specs.declared.Machine.{Machine}
 use Rattle.list_rows.specs.Parts.{placeOf, Begins, RowFollowed, endOf, firstRowPlace, answered, RowReady, RowRan}
 use Rattle.list_rows.specs.declared.RowPlace.{RowPlace}
 

@@ -14,15 +14,15 @@ use Rattle.questions.specs.Tests.{bit}
 use Rattle.rungs.specs.Records.{RungRecord, offsets, mostRecords}
 use Rattle.rows.specs.Parts.{gathered}
 use Rattle.rows.specs.declared.Rows.{Rows}
-use Rattle.list.specs.Questions.{listAnswer}
-use Rattle.list.specs.ListScan.{scanQuestions}
-use Rattle.list.specs.Listing.{fixedNames, listing, ListingDone}
-use Rattle.list.specs.Parts.{startsHere, ascending, Followed, haltedAt, Ran}
-use Rattle.list.specs.declared.Listed.{Listed}
-use Rattle.list.specs.declared.ListScanned.{ListScanned}
-use Rattle.list.specs.declared.ListScanned.the-variants.{Refused as RefusedScan}
-use Rattle.list.specs.declared.scan.Machine.{Machine}
-use Rattle.list.specs.declared.scan.Place.{Place}
+use Rattle.list_definitions.specs.Questions.{listAnswer}
+use Rattle.list_definitions.specs.ListScan.{scanQuestions}
+use Rattle.list_definitions.specs.Listing.{fixedNames, listing, ListingDone}
+use Rattle.list_machine.specs.Parts.{startsHere, ascending, Followed, haltedAt, Ran}
+use Rattle.list_definitions.specs.declared.Listed.{Listed}
+use Rattle.list_definitions.specs.declared.ListScanned.{ListScanned}
+use Rattle.list_definitions.specs.declared.ListScanned.the-variants.{Refused as RefusedScan}
+use Rattle.list_machine.specs.declared.Machine.{Machine}
+use Rattle.list_machine.specs.declared.Place.{Place}
 use Rattle.list_rows.specs.declared.RowPlace.{RowPlace}
 use Rattle.list_rows.specs.declared.Seeking.{Seeking}
 

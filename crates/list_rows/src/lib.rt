@@ -4,13 +4,13 @@ ghost use mathlib.Core.Path.{_≡_};
 ghost use Prim.Native.Nat.{_+_, _≤_, _<_, _^_};
 ghost use lib.ListN.{length};
 ghost use Rattle.rows.specs.Rows.{recordOf, recordsOf};
-ghost use Rattle.list.specs.ListScan.{callListScan, ListScanDone};
-ghost use Rattle.list.specs.Listing.{fixedNames, listing, ListingDone};
+ghost use Rattle.list_definitions.specs.ListScan.{callListScan, ListScanDone};
+ghost use Rattle.list_definitions.specs.Listing.{fixedNames, listing, ListingDone};
 ghost use Rattle.list_rows.specs.Parts.{seekFrom, middleOf, halved, placeAt, RowFollowed, LongRefused, RowAsked};
 ghost use Rattle.list_rows.specs.Parts.{endOf, firstRowPlace, answered, RowReady, RowRan, RowListed};
-use list::ListScanned;
-use list::Listed;
-use list::scan::Machine;
+use list_definitions::ListScanned;
+use list_definitions::Listed;
+use list_machine::Machine;
 use questions::Refusal;
 use questions::Verdict;
 use rows::Rows;
@@ -109,7 +109,7 @@ fn place_at(index: usize, s: Seeking, n: usize) -> RowPlace
 }
 
 // The place at the index after it.
-pub fn follow(row: &[Rung], place: RowPlace, index: usize) -> RowPlace
+fn follow(row: &[Rung], place: RowPlace, index: usize) -> RowPlace
     requires { ⌜ (place .index + 1 < 2 ^ 64) × (place .next + place .entered ≤ length (now row)) ⌝ }
     ensures { λ r. ⌜ RowFollowed (recordsOf (now (row .entry))) place index r ⌝ }
 {
@@ -182,27 +182,21 @@ fn answer(verdict: Verdict, m: Machine, n: usize) -> ListScanned
 {
     match verdict {
         Verdict::Refused(refusal) => ListScanned::Refused(refusal),
-        Verdict::Accepted => list::scan::halted_at(m, n),
+        Verdict::Accepted => list_machine::halted_at(m, n),
     }
 }
 
 // The scan, if no question got a "no". Each instruction changes the machine, which is lent to `step`.
-pub fn run(
-    verdict: Verdict,
-    code: &[u32],
-    row: &[Rung],
-    table: &mut [u8],
-    watchdog: u32,
-) -> ListScanned
+fn run(verdict: Verdict, code: &[u32], row: &[Rung], table: &mut [u8], watchdog: u32) -> ListScanned
     requires { ⌜ RowReady verdict (recordsOf (now row)) ⌝ }
     ensures { λ r. ⌜ RowRan verdict (now (code .entry)) (recordsOf (now (row .entry))) (now (table .entry)) watchdog
         r (now (table .exit)) ⌝ }
 {
     let end = end_of(verdict, code.len());
-    let mut m = list::scan::first_machine();
+    let mut m = list_machine::first_machine();
     let mut place = first_place();
-    while list::scan::runs_on(m, end, watchdog) {
-        list::scan::step(&mut m, code, place.entered, table);
+    while list_machine::runs_on(m, end, watchdog) {
+        list_machine::step(&mut m, code, place.entered, table);
         place = follow(row, place, m.index);
     }
     answer(verdict, m, code.len())

@@ -18,23 +18,24 @@ use Rattle.questions.specs.declared.Refusal.{Refusal as RefusalCase}
 use Rattle.questions.specs.declared.Refusal.the-variants.{Variables, TextLength, Text, Sizes as SizesRefused, Buffer as BufferCase}
 use Rattle.rungs.specs.Records.{rowOf, lay, longest}
 use Rattle.rungs.specs.Laws.Layout.{lay-length}
-use Rattle.drawing.specs.Tree.{Ladder}
-use Rattle.drawing.specs.Kept.{Kept, rungWords, encode, decode}
-use Rattle.drawing.specs.Questions.{question4, sizesInRange, question5, question6, question7, question8, question9, ladderAnswer, ladderQuestions}
-use Rattle.drawing.specs.Laws.Accepting.{ladder-is}
-use Rattle.grammar.specs.Reader.{Parse, read, stuck, textOf}
-use Rattle.grammar.specs.Questions.{question3}
-use Rattle.grammar.specs.Theorems.{read-exactly, read-whole, scratch-always, decoded-always, kept-always}
+use Rattle.ladder_definitions.specs.Tree.{Ladder}
+use Rattle.ladder_definitions.specs.Kept.{Kept, rungWords, encode, decode}
+use Rattle.ladder_definitions.specs.Questions.{question4, sizesInRange, question5, question6, question7, question8, question9, ladderAnswer, ladderQuestions}
+use Rattle.ladder_definitions.specs.Laws.Accepting.{ladder-is}
+use Rattle.text_grammar.specs.Reader.{Parse, read, stuck, textOf}
+use Rattle.text_grammar.specs.Questions.{question3}
+use Rattle.text_grammar.specs.Theorems.{read-exactly, read-whole, scratch-always, decoded-always, kept-always}
 use Rattle.rungs.specs.Buffers.{Buffers, asBuffers, needs, written, writtenOver}
 use Rattle.rungs.specs.Parts.{putAll}
 use Rattle.rungs.specs.Laws.Filling.{taken-out, row-of-buffers, labels-count, offsets-count, lengths-count}
-use Rattle.text.specs.Read.{textLadder, keptBuffers, ReadCall, kept, refused, readText, ReadDone, textReadAnswer}
-use Rattle.text.specs.Parts.{sizesOf, fits, linesParsed, LinesAreKept, handOver}
-use Rattle.text.specs.declared.TextRead.{TextRead}
-use Rattle.text.specs.declared.TextRead.the-variants.{Kept as KeptCase, Refused as RefusedCase}
-use Rattle.text.specs.declared.lines.Sizes.{Sizes}
-use Rattle.text.specs.declared.lines.LinesParsed.{LinesParsed}
-use Rattle.text.specs.declared.lines.LinesParsed.the-variants.{Read as LinesReadCase, Stuck as LinesStuckCase}
+use Rattle.text_definitions.specs.Read.{textLadder, keptBuffers, ReadCall, kept, refused, readText, ReadDone, textReadAnswer}
+use Rattle.text_lines.specs.Parts.{sizesOf, linesParsed, LinesAreKept}
+use Rattle.text.specs.Parts.{fits, handOver}
+use Rattle.text_definitions.specs.declared.TextRead.{TextRead}
+use Rattle.text_definitions.specs.declared.TextRead.the-variants.{Kept as KeptCase, Refused as RefusedCase}
+use Rattle.text_lines.specs.declared.Sizes.{Sizes}
+use Rattle.text_lines.specs.declared.LinesParsed.{LinesParsed}
+use Rattle.text_lines.specs.declared.LinesParsed.the-variants.{Read as LinesReadCase, Stuck as LinesStuckCase}
 
 -- ---- the lent buffers
 

@@ -1,39 +1,23 @@
-// Read: from a text to a kept ladder. Document 01, "Text".
+// The call Read: from a text to a kept ladder. Document 01, "Text".
 ghost use mathlib.Core.Path.{_≡_};
 ghost use lib.Dec.{leb};
 ghost use mathlib.Core.Bool.{_&&_};
 ghost use Rattle.questions.specs.Questions.{mostTextBytes};
 ghost use Rattle.rungs.specs.Buffers.{buffers};
-ghost use Rattle.text.specs.Read.{readText, ReadDone};
+ghost use Rattle.text_definitions.specs.Read.{readText, ReadDone};
 ghost use Rattle.text.specs.Parts.{handOver, fits};
-use kinds::MOST_RUNG_WORDS;
-use kinds::MOST_WORDS;
-use lines::LinesParsed;
-use lines::Sizes;
+use ladder_kinds::MOST_RUNG_WORDS;
+use ladder_kinds::MOST_WORDS;
 use questions::Refusal;
 use questions::Verdict;
 use rungs::MOST_RECORDS;
-
-mod front;
-mod lines;
-mod part;
-mod rear;
-mod words;
+pub use text_definitions::Counts;
+pub use text_definitions::TextRead;
+use text_lines::LinesParsed;
+use text_lines::Sizes;
 
 // Text of 1 to 65,535 bytes.
 pub const MOST_TEXT_BYTES: usize = 65535;
-
-// The words and rungs of a ladder.
-pub struct Counts {
-    pub words: usize,
-    pub rungs: usize,
-}
-
-// The answer of Read.
-pub enum TextRead {
-    Kept(Counts),
-    Refused(Refusal),
-}
 
 // Question 2.
 fn length_in_range(bytes: usize) -> bool
@@ -93,10 +77,10 @@ fn hand_over(
     if lengths.len() < new_lengths.len() {
         return TextRead::Refused(Refusal::Buffer);
     }
-    words::copy_words(new_words, new_words.len(), words, 0);
-    words::copy_labels(new_labels, labels);
-    words::copy_words(new_offsets, new_offsets.len(), offsets, 0);
-    words::copy_words(new_lengths, new_lengths.len(), lengths, 0);
+    text_fronts::words::copy_words(new_words, new_words.len(), words, 0);
+    text_fronts::words::copy_labels(new_labels, labels);
+    text_fronts::words::copy_words(new_offsets, new_offsets.len(), offsets, 0);
+    text_fronts::words::copy_words(new_lengths, new_lengths.len(), lengths, 0);
     TextRead::Kept(Counts {
         words: new_words.len(),
         rungs: new_labels.len(),
@@ -126,7 +110,7 @@ pub fn read(
     let mut new_labels = [0u16; MOST_RECORDS];
     let mut new_offsets = [0u32; MOST_RECORDS];
     let mut new_lengths = [0u32; MOST_RECORDS];
-    match lines::lines(
+    match text_lines::lines(
         text,
         &mut new_words,
         &mut new_labels,

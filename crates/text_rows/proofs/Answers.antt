@@ -16,15 +16,15 @@ use Rattle.rungs.specs.Buffers.{Buffers, buffers, asBuffers}
 use Rattle.rungs.specs.Laws.Layout.{lay-length}
 use Rattle.rows.specs.Parts.{scattered}
 use Rattle.rows.specs.Laws.Written.{same-asked, few-written, within-written, fields, same-refused, same-written}
-use Rattle.drawing.specs.Tree.{Ladder}
-use Rattle.drawing.specs.Kept.{rungWords, encode}
-use Rattle.drawing.specs.Questions.{sizesInRange, question5}
-use Rattle.grammar.specs.Questions.{question3}
-use Rattle.text.specs.Read.{textLadder, kept, readText, ReadDone, textReadAnswer}
-use Rattle.text.specs.Laws.Reads.{not-both, before, asked, call-refused, call-kept, all-yes, rungs-count}
-use Rattle.text.specs.declared.Counts.{Counts}
-use Rattle.text.specs.declared.TextRead.{TextRead}
-use Rattle.text.specs.declared.TextRead.the-variants.{Kept as KeptCase, Refused as RefusedCase}
+use Rattle.ladder_definitions.specs.Tree.{Ladder}
+use Rattle.ladder_definitions.specs.Kept.{rungWords, encode}
+use Rattle.ladder_definitions.specs.Questions.{sizesInRange, question5}
+use Rattle.text_grammar.specs.Questions.{question3}
+use Rattle.text_definitions.specs.Read.{textLadder, kept, readText, ReadDone, textReadAnswer}
+use Rattle.text_definitions.specs.Laws.Reads.{not-both, before, asked, call-refused, call-kept, all-yes, rungs-count}
+use Rattle.text_definitions.specs.declared.Counts.{Counts}
+use Rattle.text_definitions.specs.declared.TextRead.{TextRead}
+use Rattle.text_definitions.specs.declared.TextRead.the-variants.{Kept as KeptCase, Refused as RefusedCase}
 use Rattle.text_rows.specs.Parts.{FieldsRead}
 use Rattle.text_rows.specs.declared.ReadFields.{ReadFields}
 

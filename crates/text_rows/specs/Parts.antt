@@ -6,7 +6,7 @@ use lib.ListN.{length}
 use Rattle.rungs.specs.Records.{RungRecord, mostRecords}
 use Rattle.rungs.specs.Buffers.{asBuffers}
 use Rattle.rows.specs.Parts.{scattered}
-use Rattle.text.specs.Read.{readText, ReadDone}
+use Rattle.text_definitions.specs.Read.{readText, ReadDone}
 use Rattle.text_rows.specs.declared.ReadFields.{ReadFields}
 
 -- the fields kept are those that Read writes into a row of as many records

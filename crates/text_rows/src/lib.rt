@@ -2,12 +2,12 @@
 ghost use mathlib.Core.Path.{_≡_};
 ghost use Rattle.rungs.specs.Buffers.{asBuffers};
 ghost use Rattle.rows.specs.Rows.{recordsOf};
-ghost use Rattle.text.specs.Read.{readText, ReadDone};
+ghost use Rattle.text_definitions.specs.Read.{readText, ReadDone};
 ghost use Rattle.text_rows.specs.Parts.{FieldsRead};
 use rows::Rows;
 use rows::Rung;
 use rungs::MOST_RECORDS;
-use text::TextRead;
+use text_definitions::TextRead;
 
 // What Read answers, and the fields of the records that it writes: as many as `rows` keeps.
 pub struct ReadFields {

@@ -16,20 +16,21 @@ use Rattle.rungs.specs.Records.{offsets, search}
 use Rattle.rungs.specs.Buffers.{Buffers, asBuffers, needs, written}
 use Rattle.rungs.specs.Laws.Layout.{lay-length}
 use Rattle.rungs.specs.Laws.Filling.{written-sets, labels-count, offsets-count, lengths-count, short-words, short-labels, short-offsets, short-lengths, enough, put-written}
-use Rattle.drawing.specs.Tree.{Ladder}
-use Rattle.drawing.specs.Kept.{Kept}
-use Rattle.drawing.specs.Questions.{mostRungs, ladderOf, ladderAnswer}
-use Rattle.ladder.specs.Held.{LadderHeld}
-use Rattle.drawing.specs.Laws.Accepting.{accepted}
-use Rattle.ladder.specs.Laws.Held.{keptOf, held, as-many}
-use Rattle.list.specs.Instruction.{instrWord}
-use Rattle.translation.specs.Translate.{rungCode, listRecords, translate}
-use Rattle.translation.specs.TranslateKept.{listBuffers, countsOf, translateKept, translatedAnswer, TranslateDone}
-use Rattle.translation.specs.Laws.Legal.{sized}
-use Rattle.translation.specs.Laws.Answers.{call-refused, call-written}
-use Rattle.translation.specs.Parts.{startIn, LadderReady, LaidOut, ListPut}
-use Rattle.translation.specs.declared.Translated.the-variants.{Written as WrittenCase, Refused as RefusedCase}
-use Rattle.translation.specs.declared.write.Layout.{Layout}
+use Rattle.ladder_definitions.specs.Tree.{Ladder}
+use Rattle.ladder_definitions.specs.Kept.{Kept}
+use Rattle.ladder_definitions.specs.Questions.{mostRungs, ladderOf, ladderAnswer}
+use Rattle.ladder_definitions.specs.Held.{LadderHeld}
+use Rattle.ladder_definitions.specs.Laws.Accepting.{accepted}
+use Rattle.ladder_definitions.specs.Laws.Held.{keptOf, held, as-many}
+use Rattle.list_definitions.specs.Instruction.{instrWord}
+use Rattle.translation_definitions.specs.Translate.{rungCode, listRecords, translate}
+use Rattle.translation_definitions.specs.TranslateKept.{listBuffers, countsOf, translateKept, translatedAnswer, TranslateDone}
+use Rattle.translation_definitions.specs.Laws.Legal.{sized}
+use Rattle.translation_definitions.specs.Laws.Answers.{call-refused, call-written}
+use Rattle.translation_code.specs.Parts.{startIn}
+use Rattle.translation_layout.specs.Parts.{LadderReady, LaidOut, ListPut}
+use Rattle.translation_definitions.specs.declared.Translated.the-variants.{Written as WrittenCase, Refused as RefusedCase}
+use Rattle.translation_layout.specs.declared.Layout.{Layout}
 
 -- ---- entries over zeros
 

@@ -1,9 +1,2 @@
--- Laws that the proofs of this crate's functions cite.
-pub mod Sorts
-pub mod Fronts
-pub mod Rears
-pub mod Laying
-pub mod Writing
-pub mod Tables
+-- Laws that the proofs of functions cite.
 pub mod Answers
-pub mod Boths

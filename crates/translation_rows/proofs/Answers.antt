@@ -19,17 +19,17 @@ use Rattle.rows.specs.Parts.{gathered, scattered}
 use Rattle.rows.specs.Laws.Gathered.{gathered-whole}
 use Rattle.rows.specs.Laws.Written.{same-asked, few-written, within-written, fields, same-refused, same-written, scattered-none}
 use Rattle.rows.specs.declared.Rows.{Rows}
-use Rattle.drawing.specs.Kept.{Kept}
-use Rattle.drawing.specs.Questions.{ladderOf, sizesInRange, question5, ladderAnswer}
-use Rattle.drawing.specs.Laws.Accepting.{accepted}
-use Rattle.list.specs.Instruction.{instrWord}
-use Rattle.list.specs.Machine.{InstructionList}
-use Rattle.translation.specs.Translate.{listRecords, translate}
-use Rattle.translation.specs.TranslateKept.{countsOf, listBuffers, translated, translateKept, countsIn, TranslateDone, translatedAnswer}
-use Rattle.translation.specs.Laws.Answers.{not-both, asked, call-refused, call-written, all-yes, counts-are}
-use Rattle.translation.specs.declared.Counts.{Counts as CountsStruct}
-use Rattle.translation.specs.declared.Translated.{Translated}
-use Rattle.translation.specs.declared.Translated.the-variants.{Written as WrittenCase, Refused as RefusedCase}
+use Rattle.ladder_definitions.specs.Kept.{Kept}
+use Rattle.ladder_definitions.specs.Questions.{ladderOf, sizesInRange, question5, ladderAnswer}
+use Rattle.ladder_definitions.specs.Laws.Accepting.{accepted}
+use Rattle.list_definitions.specs.Instruction.{instrWord}
+use Rattle.list_definitions.specs.Machine.{InstructionList}
+use Rattle.translation_definitions.specs.Translate.{listRecords, translate}
+use Rattle.translation_definitions.specs.TranslateKept.{countsOf, listBuffers, translated, translateKept, countsIn, TranslateDone, translatedAnswer}
+use Rattle.translation_definitions.specs.Laws.Answers.{not-both, asked, call-refused, call-written, all-yes, counts-are}
+use Rattle.translation_definitions.specs.declared.Counts.{Counts as CountsStruct}
+use Rattle.translation_definitions.specs.declared.Translated.{Translated}
+use Rattle.translation_definitions.specs.declared.Translated.the-variants.{Written as WrittenCase, Refused as RefusedCase}
 use Rattle.ladder_rows.specs.Parts.{LongRefused}
 use Rattle.translation_rows.specs.Parts.{refusedFields, FieldsTranslated}
 

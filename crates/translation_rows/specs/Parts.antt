@@ -9,8 +9,8 @@ use Rattle.rungs.specs.Records.{RungRecord, mostRecords}
 use Rattle.rungs.specs.Buffers.{asBuffers}
 use Rattle.rows.specs.Parts.{gathered, scattered}
 use Rattle.rows.specs.declared.Rows.{Rows}
-use Rattle.translation.specs.TranslateKept.{translateKept, TranslateDone}
-use Rattle.translation.specs.declared.Translated.the-variants.{Refused as RefusedCase}
+use Rattle.translation_definitions.specs.TranslateKept.{translateKept, TranslateDone}
+use Rattle.translation_definitions.specs.declared.Translated.the-variants.{Refused as RefusedCase}
 use Rattle.ladder_rows.specs.Parts.{longHolds}
 use Rattle.translation_rows.specs.declared.TranslatedFields.{TranslatedFields}
 

@@ -3,13 +3,13 @@
 ghost use mathlib.Core.Path.{_≡_};
 ghost use Rattle.rungs.specs.Buffers.{asBuffers};
 ghost use Rattle.rows.specs.Rows.{recordsOf};
-ghost use Rattle.translation.specs.TranslateKept.{translateKept, TranslateDone};
+ghost use Rattle.translation_definitions.specs.TranslateKept.{translateKept, TranslateDone};
 ghost use Rattle.translation_rows.specs.Parts.{refusedFields, FieldsTranslated};
 use questions::Refusal;
 use rows::Rows;
 use rows::Rung;
 use rungs::MOST_RECORDS;
-use translation::Translated;
+use translation_definitions::Translated;
 
 // What Translate answers, and the fields of the records that it writes: as many as `rows` keeps.
 pub struct TranslatedFields {

@@ -1,6 +1,6 @@
 -- `ladder::ladder_scan` meets its contract: the questions' answer, and then the scan. Assumes nothing.
 use Rattle.questions.specs.Laws.Answers.{verdict-refused, verdict-accepted}
-use Rattle.ladder.specs.Laws.Scans.{scan-refuses}
+use Rattle.ladder_walk.specs.Laws.Scans.{scan-refuses}
 use Rattle.ladder.proofs.Answers.{scan-done}
 use borrow.Author.Needs.{needs}
 use Rattle.ladder.proofs.ladder_scan.Statement.{statement}

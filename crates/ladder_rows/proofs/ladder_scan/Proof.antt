@@ -50,15 +50,15 @@ use Rattle.rows.specs.Parts.{gathered}
 use Rattle.rows.specs.declared.Rung.{Rung}
 use Rattle.rows.specs.declared.Rows.{Rows}
 use Rattle.questions.specs.declared.Verdict.{Verdict}
-use Rattle.ladder.specs.LadderScan.{callLadderScan, LadderScanDone}
-use Rattle.ladder.specs.declared.LadderScanned.{LadderScanned}
+use Rattle.ladder_definitions.specs.LadderScan.{callLadderScan, LadderScanDone}
+use Rattle.ladder_definitions.specs.declared.LadderScanned.{LadderScanned}
 use Rattle.rows.proofs.Rung as T
 use Rattle.rows.proofs.Rows as S
 use Rattle.rows.proofs.Rows.Laws as S′
 use Rattle.questions.proofs.Verdict as D
 use Rattle.questions.proofs.Verdict.Laws as D′
-use Rattle.ladder.proofs.LadderScanned as E
-use Rattle.ladder.proofs.LadderScanned.Laws as E′
+use Rattle.ladder_definitions.proofs.LadderScanned as E
+use Rattle.ladder_definitions.proofs.LadderScanned.Laws as E′
 use Rattle.rows.proofs.gather as gather
 use Rattle.rows.proofs.gather.Symbol as gather-def
 use Rattle.rows.proofs.gather.Symbol.{name as #rows·gather}

@@ -64,9 +64,9 @@ use Rattle.rows.proofs.look_up as look-up
 use Rattle.rows.proofs.look_up.Symbol as look-up-def
 use Rattle.rows.proofs.look_up.Symbol.{name as #rows·look-up}
 use Rattle.rows.proofs.look_up.Met as look-up-thm
-use Rattle.ladder.specs.declared.LadderScanned.{LadderScanned}
-use Rattle.ladder.proofs.LadderScanned as L
-use Rattle.ladder.proofs.LadderScanned.Laws as L′
+use Rattle.ladder_definitions.specs.declared.LadderScanned.{LadderScanned}
+use Rattle.ladder_definitions.proofs.LadderScanned as L
+use Rattle.ladder_definitions.proofs.LadderScanned.Laws as L′
 use Rattle.ladder_rows.specs.Parts.{begun, Entered, arrived, answered, RowScanned}
 use Rattle.ladder_rows.specs.declared.Standing.{Standing}
 use Rattle.ladder_rows.specs.declared.Way.{Way}

@@ -1,6 +1,6 @@
 -- `list::list_scan` meets its contract: the questions in order, and then the scan. Assumes nothing.
 use Rattle.questions.specs.Laws.Answers.{verdict-refused, verdict-accepted}
-use Rattle.list.specs.Laws.Scans.{scan-refuses}
+use Rattle.list_machine.specs.Laws.Scans.{scan-refuses}
 use Rattle.list.proofs.Answers.{scanned-row}
 use borrow.Author.Needs.{needs}
 use Rattle.list.proofs.list_scan.Statement.{statement}

@@ -1,6 +1,6 @@
 -- `list::listing` meets its contract: questions 1 and 10, the bytes counted over a buffer of none, question 13, and then the same function over the buffer. Assumes nothing.
 use Rattle.questions.specs.Laws.Answers.{verdict-refused, verdict-accepted}
-use Rattle.list.specs.Laws.Refusing.{listing-refused}
+use Rattle.list_definitions.specs.Laws.Refusing.{listing-refused}
 use Rattle.list.proofs.Answers.{accepted-range, listing-short, listing-written}
 use borrow.Author.Needs.{needs}
 use Rattle.list.proofs.listing.Statement.{statement}

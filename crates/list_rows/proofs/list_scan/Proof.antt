@@ -44,7 +44,7 @@ use Rattle.rows.specs.Parts.{gathered}
 use Rattle.rows.specs.declared.Rung.{Rung}
 use Rattle.rows.specs.declared.Rows.{Rows}
 use Rattle.questions.specs.declared.Verdict.{Verdict}
-use Rattle.list.specs.declared.ListScanned.{ListScanned}
+use Rattle.list_definitions.specs.declared.ListScanned.{ListScanned}
 use Rattle.list_rows.specs.Parts.{RowAsked, RowReady, RowRan}
 use Rattle.rungs.proofs.Again.{LentAgain, lends-again, comes-back}
 use Rattle.list_rows.proofs.Answers.{row-ready, row-done}
@@ -53,8 +53,8 @@ use Rattle.rows.proofs.Rows as S
 use Rattle.rows.proofs.Rows.Laws as S′
 use Rattle.questions.proofs.Verdict as D
 use Rattle.questions.proofs.Verdict.Laws as D′
-use Rattle.list.proofs.ListScanned as E
-use Rattle.list.proofs.ListScanned.Laws as E′
+use Rattle.list_definitions.proofs.ListScanned as E
+use Rattle.list_definitions.proofs.ListScanned.Laws as E′
 use Rattle.rows.proofs.gather as gather
 use Rattle.rows.proofs.gather.Symbol as gather-def
 use Rattle.rows.proofs.gather.Symbol.{name as #rows·gather}

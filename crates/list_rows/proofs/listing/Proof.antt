@@ -40,13 +40,13 @@ use Rattle.rows.specs.Rows.{recordsOf}
 use Rattle.rows.specs.Parts.{gathered}
 use Rattle.rows.specs.declared.Rung.{Rung}
 use Rattle.rows.specs.declared.Rows.{Rows}
-use Rattle.list.specs.declared.Listed.{Listed}
+use Rattle.list_definitions.specs.declared.Listed.{Listed}
 use Rattle.list_rows.specs.Parts.{RowListed}
 use Rattle.rows.proofs.Rung as T
 use Rattle.rows.proofs.Rows as S
 use Rattle.rows.proofs.Rows.Laws as S′
-use Rattle.list.proofs.Listed as E
-use Rattle.list.proofs.Listed.Laws as E′
+use Rattle.list_definitions.proofs.Listed as E
+use Rattle.list_definitions.proofs.Listed.Laws as E′
 use Rattle.rows.proofs.gather as gather
 use Rattle.rows.proofs.gather.Symbol as gather-def
 use Rattle.rows.proofs.gather.Symbol.{name as #rows·gather}

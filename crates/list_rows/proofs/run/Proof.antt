@@ -52,9 +52,9 @@ use Rattle.rows.specs.Rows.{recordsOf}
 use Rattle.rows.specs.Laws.Records.{records-length}
 use Rattle.rows.specs.declared.Rung.{Rung}
 use Rattle.questions.specs.declared.Verdict.{Verdict}
-use Rattle.list.specs.Parts.{Stepped, firstMachine, runsOn}
-use Rattle.list.specs.declared.ListScanned.{ListScanned}
-use Rattle.list.specs.declared.scan.Machine.{Machine}
+use Rattle.list_machine.specs.Parts.{Stepped, firstMachine, runsOn}
+use Rattle.list_definitions.specs.declared.ListScanned.{ListScanned}
+use Rattle.list_machine.specs.declared.Machine.{Machine}
 use Rattle.list_rows.specs.Parts.{RowFollowed, endOf, firstRowPlace, answered, RowReady, RowRan}
 use Rattle.list_rows.specs.declared.RowPlace.{RowPlace}
 use Rattle.rungs.proofs.Again.{LentAgain, lends-again, comes-back}
@@ -62,32 +62,32 @@ use Rattle.list_rows.proofs.Runs.{Going, GoingNeeds, going-first, going
 use Rattle.rows.proofs.Rung as T
 use Rattle.questions.proofs.Verdict as Q
 use Rattle.questions.proofs.Verdict.Laws as Q′
-use Rattle.list.proofs.ListScanned as S
-use Rattle.list.proofs.ListScanned.Laws as S′
-use Rattle.list.proofs.scan.Machine as N
-use Rattle.list.proofs.scan.Machine.Laws as N′
+use Rattle.list_definitions.proofs.ListScanned as S
+use Rattle.list_definitions.proofs.ListScanned.Laws as S′
+use Rattle.list_machine.proofs.Machine as N
+use Rattle.list_machine.proofs.Machine.Laws as N′
 use Rattle.list_rows.proofs.RowPlace as P
 use Rattle.list_rows.proofs.RowPlace.Laws as P′
 use Rattle.list_rows.proofs.end_of as end-of
 use Rattle.list_rows.proofs.end_of.Symbol as end-of-def
 use Rattle.list_rows.proofs.end_of.Symbol.{name as #list-rows·end-of}
 use Rattle.list_rows.proofs.end_of.Met as end-of-thm
-use Rattle.list.proofs.scan.first_machine as first-machine
-use Rattle.list.proofs.scan.first_machine.Symbol as first-machine-def
-use Rattle.list.proofs.scan.first_machine.Symbol.{name as #list·scan·first-machine}
-use Rattle.list.proofs.scan.first_machine.Met as first-machine-thm
+use Rattle.list_machine.proofs.first_machine as first-machine
+use Rattle.list_machine.proofs.first_machine.Symbol as first-machine-def
+use Rattle.list_machine.proofs.first_machine.Symbol.{name as #list-machine·first-machine}
+use Rattle.list_machine.proofs.first_machine.Met as first-machine-thm
 use Rattle.list_rows.proofs.first_place as first-place
 use Rattle.list_rows.proofs.first_place.Symbol as first-place-def
 use Rattle.list_rows.proofs.first_place.Symbol.{name as #list-rows·first-place}
 use Rattle.list_rows.proofs.first_place.Met as first-place-thm
-use Rattle.list.proofs.scan.runs_on as runs-on
-use Rattle.list.proofs.scan.runs_on.Symbol as runs-on-def
-use Rattle.list.proofs.scan.runs_on.Symbol.{name as #list·scan·runs-on}
-use Rattle.list.proofs.scan.runs_on.Met as runs-on-thm
-use Rattle.list.proofs.scan.step as step
-use Rattle.list.proofs.scan.step.Symbol as step-def
-use Rattle.list.proofs.scan.step.Symbol.{name as #list·scan·step}
-use Rattle.list.proofs.scan.step.Met as step-thm
+use Rattle.list_machine.proofs.runs_on as runs-on
+use Rattle.list_machine.proofs.runs_on.Symbol as runs-on-def
+use Rattle.list_machine.proofs.runs_on.Symbol.{name as #list-machine·runs-on}
+use Rattle.list_machine.proofs.runs_on.Met as runs-on-thm
+use Rattle.list_machine.proofs.step as step
+use Rattle.list_machine.proofs.step.Symbol as step-def
+use Rattle.list_machine.proofs.step.Symbol.{name as #list-machine·step}
+use Rattle.list_machine.proofs.step.Met as step-thm
 use Rattle.list_rows.proofs.follow as follow
 use Rattle.list_rows.proofs.follow.Symbol as follow-def
 use Rattle.list_rows.proofs.follow.Symbol.{name as #list-rows·follow}
@@ -150,7 +150,7 @@ abbrev more : Code
 more = seq (assign (place 14 []) (addrOf (place 7 [])))
     (seq (assign (place 15 []) (addrOf (place 4 (field 0 ∷ deref (spelt (tyInt w8)) ∷ []))))
     (seq (assign (place 16 []) (aggregate (copy (place 15 []) ∷ copy (place 4 (field 1 ∷ [])) ∷ [])))
-    (seq (call #list·scan·step (copy (place 14 []) ∷ copy (place 2 []) ∷ copy (place 8 (field 2 ∷ [])) ∷ copy (place 16 []) ∷ []) (place 13 []))
+    (seq (call #list-machine·step (copy (place 14 []) ∷ copy (place 2 []) ∷ copy (place 8 (field 2 ∷ [])) ∷ copy (place 16 []) ∷ []) (place 13 []))
     (seq (assign (place 17 []) (rvOpd (copy (place 7 (field 1 ∷ [])))))
     (call #list-rows·follow (copy (place 3 []) ∷ copy (place 8 []) ∷ copy (place 17 []) ∷ []) (place 8 []))))))
 
@@ -405,8 +405,8 @@ module _ {M : Type 1} (𝓤 : URA M) (H : Heap 𝓤) (A : Atoms 𝓤) (W : Given
   }
 
   module _ (end-fits : end < 2 ^ 64) (𝓣 : Tables 𝓤 H)
-      (known-end-of : Triple 𝓤 (𝓣 .C #list-rows·end-of) (EndOf 𝓤 H A at-mem run)) (known-first-machine : Triple 𝓤 (𝓣 .C #list·scan·first-machine) (FirstMachine 𝓤 H A at-mem run)) (known-first-place : Triple 𝓤 (𝓣 .C #list-rows·first-place) (FirstPlace 𝓤 H A at-mem run)) (known-runs-on : Triple 𝓤 (𝓣 .C #list·scan·runs-on) (RunsOn 𝓤 H A at-mem run))
-      (known-step : Triple 𝓤 (𝓣 .C #list·scan·step) (Step 𝓤 H A at-mem run)) (known-follow : Triple 𝓤 (𝓣 .C #list-rows·follow) (Follow 𝓤 H A at-mem run)) (known-answer : Triple 𝓤 (𝓣 .C #list-rows·answer) (Answer 𝓤 H A at-mem run)) where
+      (known-end-of : Triple 𝓤 (𝓣 .C #list-rows·end-of) (EndOf 𝓤 H A at-mem run)) (known-first-machine : Triple 𝓤 (𝓣 .C #list-machine·first-machine) (FirstMachine 𝓤 H A at-mem run)) (known-first-place : Triple 𝓤 (𝓣 .C #list-rows·first-place) (FirstPlace 𝓤 H A at-mem run)) (known-runs-on : Triple 𝓤 (𝓣 .C #list-machine·runs-on) (RunsOn 𝓤 H A at-mem run))
+      (known-step : Triple 𝓤 (𝓣 .C #list-machine·step) (Step 𝓤 H A at-mem run)) (known-follow : Triple 𝓤 (𝓣 .C #list-rows·follow) (Follow 𝓤 H A at-mem run)) (known-answer : Triple 𝓤 (𝓣 .C #list-rows·answer) (Answer 𝓤 H A at-mem run)) where
     abbrev C : Calls 𝓤 H
     C = 𝓣 .C
 
@@ -508,8 +508,8 @@ module _ {M : Type 1} (𝓤 : URA M) (H : Heap 𝓤) (A : Atoms 𝓤) (W : Given
     begin is is′ = record { m = firstMachine; place = firstRowPlace; t = ts; is = is; is-place = is′; stands = going-first v ws (recordsOf ys) ts w ready firstMachine refl firstRowPlace refl end refl }
 
   module _ (𝓣 : Tables 𝓤 H)
-      (known-end-of : Triple 𝓤 (𝓣 .C #list-rows·end-of) (EndOf 𝓤 H A at-mem run)) (known-first-machine : Triple 𝓤 (𝓣 .C #list·scan·first-machine) (FirstMachine 𝓤 H A at-mem run)) (known-first-place : Triple 𝓤 (𝓣 .C #list-rows·first-place) (FirstPlace 𝓤 H A at-mem run)) (known-runs-on : Triple 𝓤 (𝓣 .C #list·scan·runs-on) (RunsOn 𝓤 H A at-mem run))
-      (known-step : Triple 𝓤 (𝓣 .C #list·scan·step) (Step 𝓤 H A at-mem run)) (known-follow : Triple 𝓤 (𝓣 .C #list-rows·follow) (Follow 𝓤 H A at-mem run)) (known-answer : Triple 𝓤 (𝓣 .C #list-rows·answer) (Answer 𝓤 H A at-mem run)) where
+      (known-end-of : Triple 𝓤 (𝓣 .C #list-rows·end-of) (EndOf 𝓤 H A at-mem run)) (known-first-machine : Triple 𝓤 (𝓣 .C #list-machine·first-machine) (FirstMachine 𝓤 H A at-mem run)) (known-first-place : Triple 𝓤 (𝓣 .C #list-rows·first-place) (FirstPlace 𝓤 H A at-mem run)) (known-runs-on : Triple 𝓤 (𝓣 .C #list-machine·runs-on) (RunsOn 𝓤 H A at-mem run))
+      (known-step : Triple 𝓤 (𝓣 .C #list-machine·step) (Step 𝓤 H A at-mem run)) (known-follow : Triple 𝓤 (𝓣 .C #list-rows·follow) (Follow 𝓤 H A at-mem run)) (known-answer : Triple 𝓤 (𝓣 .C #list-rows·answer) (Answer 𝓤 H A at-mem run)) where
     walk : ent 𝓤 (onEntry 𝓤 H A run′.signature (κ₁, (κ₂, (κ₃, tt))) (q₁, (q₂, (q₃, tt))) x at) (WpFn 𝓤 H (𝓣 .C) (𝓣 .Λ) code.function (v₁ ∷ sw ∷ sr ∷ st ts ∷ vint w32 w ∷ []) Post)
     unfolding begin
     walk =
@@ -544,8 +544,8 @@ module _ {M : Type 1} (𝓤 : URA M) (H : Heap 𝓤) (A : Atoms 𝓤) (W : Given
         first ! $ blocks ! $ loops ! 𝓣 Nearer Nearer-wf (At (is₂ .1) 𝓣 known-end-of known-first-machine known-first-place known-runs-on known-step known-follow known-answer l₀ l₁ l₂ l₃ l₄ l₅ l₆ l₇ l₈ l₉ l₁₀ l₁₁ l₁₂ l₁₃ l₁₄ l₁₅ l₁₆ l₁₇) (turns (is₂ .1) 𝓣 known-end-of known-first-machine known-first-place known-runs-on known-step known-follow known-answer l₀ l₁ l₂ l₃ l₄ l₅ l₆ l₇ l₈ l₉ l₁₀ l₁₁ l₁₂ l₁₃ l₁₄ l₁₅ l₁₆ l₁₇) (begin (is₂ .1) 𝓣 known-end-of known-first-machine known-first-place known-runs-on known-step known-follow known-answer (good firstMachine v₃ is₃) (good-place firstRowPlace v₄ is₄))))))))))))))))))))))))))))))))
 
 module _ {M : Type 1} (𝓤 : URA M) (H : Heap 𝓤) (A : Atoms 𝓤) (W : Given 𝓤 H A) (at-mem : Memory → SProp 𝓤) (run : Routine → Fun 𝓤) (𝓣 : Tables 𝓤 H)
-    (known-end-of : Triple 𝓤 (𝓣 .C #list-rows·end-of) (EndOf 𝓤 H A at-mem run)) (known-first-machine : Triple 𝓤 (𝓣 .C #list·scan·first-machine) (FirstMachine 𝓤 H A at-mem run)) (known-first-place : Triple 𝓤 (𝓣 .C #list-rows·first-place) (FirstPlace 𝓤 H A at-mem run)) (known-runs-on : Triple 𝓤 (𝓣 .C #list·scan·runs-on) (RunsOn 𝓤 H A at-mem run))
-    (known-step : Triple 𝓤 (𝓣 .C #list·scan·step) (Step 𝓤 H A at-mem run)) (known-follow : Triple 𝓤 (𝓣 .C #list-rows·follow) (Follow 𝓤 H A at-mem run)) (known-answer : Triple 𝓤 (𝓣 .C #list-rows·answer) (Answer 𝓤 H A at-mem run)) where
+    (known-end-of : Triple 𝓤 (𝓣 .C #list-rows·end-of) (EndOf 𝓤 H A at-mem run)) (known-first-machine : Triple 𝓤 (𝓣 .C #list-machine·first-machine) (FirstMachine 𝓤 H A at-mem run)) (known-first-place : Triple 𝓤 (𝓣 .C #list-rows·first-place) (FirstPlace 𝓤 H A at-mem run)) (known-runs-on : Triple 𝓤 (𝓣 .C #list-machine·runs-on) (RunsOn 𝓤 H A at-mem run))
+    (known-step : Triple 𝓤 (𝓣 .C #list-machine·step) (Step 𝓤 H A at-mem run)) (known-follow : Triple 𝓤 (𝓣 .C #list-rows·follow) (Follow 𝓤 H A at-mem run)) (known-answer : Triple 𝓤 (𝓣 .C #list-rows·answer) (Answer 𝓤 H A at-mem run)) where
   run-walks : Walks 𝓤 H A run′.ended stayed (WpFn 𝓤 H (𝓣 .C) (𝓣 .Λ) code.function) (run′.clauses 𝓤 H A at-mem run)
   run-walks = walked 𝓤 H A run′.ended stayed (run′.clauses 𝓤 H A at-mem run) (WpFn 𝓤 H (𝓣 .C) (𝓣 .Λ) code.function) (λ κs. (EL.vals Q.the-type Q′.the-laws, (slice-vals, (slice-vals, (slice-vals, (uint-vals w32, tt))))))
       (λ κs. (EL.tells Q.the-type Q′.the-laws, (shr-slice-tells (named 0) (κs .0) u32, (shr-slice-tells (named 1) (κs .1 .0) T.the-row, (mut-slice-tells (named 2) (κs .1 .1 .0) u8, (uint-tells w32, tt))))))
@@ -565,9 +565,9 @@ run-spec 𝓤 H 𝓜 𝓖 𝓡 =
     (tables 𝓤 H 𝓜 𝓡 code.env .C) (tables 𝓤 H 𝓜 𝓡 code.env .Λ) #list-rows·run code.function (code.unfolded 𝓤 H 𝓜 𝓡)
     (run-meets 𝓤 H (𝓖 .A) (givenOf 𝓤 H 𝓜 𝓖) (𝓜 .mem) (𝓡 .run) (tablesOf 𝓤 H 𝓜 (tables 𝓤 H 𝓜 𝓡 code.env))
     (cited 𝓤 H (EndOf 𝓤 H (𝓖 .A) (𝓜 .mem) (𝓡 .run)) 𝓜 𝓡 code.env #list-rows·end-of end-of-def.routine code.calls-list-rows·end-of (end-of-thm.met 𝓤 H 𝓜 𝓖 𝓡))
-    (cited 𝓤 H (FirstMachine 𝓤 H (𝓖 .A) (𝓜 .mem) (𝓡 .run)) 𝓜 𝓡 code.env #list·scan·first-machine first-machine-def.routine code.calls-list·scan·first-machine (first-machine-thm.met 𝓤 H 𝓜 𝓖 𝓡))
+    (cited 𝓤 H (FirstMachine 𝓤 H (𝓖 .A) (𝓜 .mem) (𝓡 .run)) 𝓜 𝓡 code.env #list-machine·first-machine first-machine-def.routine code.calls-list-machine·first-machine (first-machine-thm.met 𝓤 H 𝓜 𝓖 𝓡))
     (cited 𝓤 H (FirstPlace 𝓤 H (𝓖 .A) (𝓜 .mem) (𝓡 .run)) 𝓜 𝓡 code.env #list-rows·first-place first-place-def.routine code.calls-list-rows·first-place (first-place-thm.met 𝓤 H 𝓜 𝓖 𝓡))
-    (cited 𝓤 H (RunsOn 𝓤 H (𝓖 .A) (𝓜 .mem) (𝓡 .run)) 𝓜 𝓡 code.env #list·scan·runs-on runs-on-def.routine code.calls-list·scan·runs-on (runs-on-thm.met 𝓤 H 𝓜 𝓖 𝓡))
-    (cited 𝓤 H (Step 𝓤 H (𝓖 .A) (𝓜 .mem) (𝓡 .run)) 𝓜 𝓡 code.env #list·scan·step step-def.routine code.calls-list·scan·step (step-thm.met 𝓤 H 𝓜 𝓖 𝓡))
+    (cited 𝓤 H (RunsOn 𝓤 H (𝓖 .A) (𝓜 .mem) (𝓡 .run)) 𝓜 𝓡 code.env #list-machine·runs-on runs-on-def.routine code.calls-list-machine·runs-on (runs-on-thm.met 𝓤 H 𝓜 𝓖 𝓡))
+    (cited 𝓤 H (Step 𝓤 H (𝓖 .A) (𝓜 .mem) (𝓡 .run)) 𝓜 𝓡 code.env #list-machine·step step-def.routine code.calls-list-machine·step (step-thm.met 𝓤 H 𝓜 𝓖 𝓡))
     (cited 𝓤 H (Follow 𝓤 H (𝓖 .A) (𝓜 .mem) (𝓡 .run)) 𝓜 𝓡 code.env #list-rows·follow follow-def.routine code.calls-list-rows·follow (follow-thm.met 𝓤 H 𝓜 𝓖 𝓡))
     (cited 𝓤 H (Answer 𝓤 H (𝓖 .A) (𝓜 .mem) (𝓡 .run)) 𝓜 𝓡 code.env #list-rows·answer answer-def.routine code.calls-list-rows·answer (answer-thm.met 𝓤 H 𝓜 𝓖 𝓡)))

@@ -46,15 +46,15 @@ use Rattle.rows.specs.Parts.{scattered}
 use Rattle.rows.specs.Laws.Records.{records-length}
 use Rattle.rows.specs.declared.Rung.{Rung}
 use Rattle.rows.specs.declared.Rows.{Rows}
-use Rattle.text.specs.Read.{readText, ReadDone}
-use Rattle.text.specs.declared.TextRead.{TextRead}
+use Rattle.text_definitions.specs.Read.{readText, ReadDone}
+use Rattle.text_definitions.specs.declared.TextRead.{TextRead}
 use Rattle.text_rows.specs.Parts.{FieldsRead}
 use Rattle.text_rows.specs.declared.ReadFields.{ReadFields}
 use Rattle.rows.proofs.Rung as T
 use Rattle.rows.proofs.Rows as S
 use Rattle.rows.proofs.Rows.Laws as S′
-use Rattle.text.proofs.TextRead as E
-use Rattle.text.proofs.TextRead.Laws as E′
+use Rattle.text_definitions.proofs.TextRead as E
+use Rattle.text_definitions.proofs.TextRead.Laws as E′
 use Rattle.text_rows.proofs.ReadFields as D
 use Rattle.text_rows.proofs.ReadFields.Laws as D′
 use Rattle.text_rows.proofs.read_fields as fields

@@ -48,15 +48,15 @@ use Rattle.rows.specs.Laws.Records.{records-length}
 use Rattle.rows.specs.declared.Rung.{Rung}
 use Rattle.rows.specs.declared.Rows.{Rows}
 use Rattle.ladder_rows.specs.Parts.{longHolds}
-use Rattle.translation.specs.TranslateKept.{translateKept, TranslateDone}
-use Rattle.translation.specs.declared.Translated.{Translated}
+use Rattle.translation_definitions.specs.TranslateKept.{translateKept, TranslateDone}
+use Rattle.translation_definitions.specs.declared.Translated.{Translated}
 use Rattle.translation_rows.specs.Parts.{FieldsTranslated}
 use Rattle.translation_rows.specs.declared.TranslatedFields.{TranslatedFields}
 use Rattle.rows.proofs.Rung as T
 use Rattle.rows.proofs.Rows as S
 use Rattle.rows.proofs.Rows.Laws as S′
-use Rattle.translation.proofs.Translated as E
-use Rattle.translation.proofs.Translated.Laws as E′
+use Rattle.translation_definitions.proofs.Translated as E
+use Rattle.translation_definitions.proofs.Translated.Laws as E′
 use Rattle.translation_rows.proofs.TranslatedFields as D
 use Rattle.translation_rows.proofs.TranslatedFields.Laws as D′
 use Rattle.ladder_rows.proofs.long_holds as long-holds

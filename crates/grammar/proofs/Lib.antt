@@ -1,3 +1,0 @@
--- Laws that the proofs of this crate's functions cite.
-pub mod Bytes
-pub mod Numbers

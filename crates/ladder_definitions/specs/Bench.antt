@@ -1,0 +1,116 @@
+-- The bench ladders A to F of document 01, "Bench ladders", as trees, a few more, and their ladder scans. The crate bench_table has both scans of all rows.
+-- A to D say no watchdog; theirs is the number of rungs that they enter, so that a watchdog asked before the end would show. Assumes nothing.
+use mathlib.Core.Path.{_≡_, refl}
+use mathlib.Core.List.{List, [], _∷_, _++_, map}
+use Prim.Native.Nat.{ℕ}
+use lib.ListN.{replicate, length}
+use Rattle.table.specs.State.{State, stateOf, scratchBytes, variables, valueAt, value, writtenAt, write}
+use Rattle.table.specs.Halt.{Halt, Ended, Stopped}
+use Rattle.rungs.specs.Records.{search}
+use Rattle.ladder_definitions.specs.Tree.{contact, contactn, Front, input, frontAnd, frontOr, coil, coiln, jump, jumpn, Rear, output, rearAnd, rearOr, Rung, Ladder}
+use Rattle.ladder_definitions.specs.Meaning.{scanLadder, scanFrom, runRung, runRear, runOutput, workFront, workInput, jumpIf, unlessJumped, from, follow, left}
+
+-- a rung and its parts, by the letters of document 01, "Text"
+abbrev pub rung : ℕ → Front → Rear → Rung
+rung l f r = record { label = l; front = f; rear = r }
+
+abbrev pub c : ℕ → Front
+c v = input (contact v)
+
+abbrev pub n : ℕ → Front
+n v = input (contactn v)
+
+abbrev pub o : ℕ → Rear
+o v = output (coil v)
+
+abbrev pub q : ℕ → Rear
+q v = output (coiln v)
+
+abbrev pub j : ℕ → Rear
+j l = output (jump l)
+
+abbrev pub k : ℕ → Rear
+k l = output (jumpn l)
+
+-- a ladder, its variables before, the rung watchdog; how the scan halts, the rungs entered and the variables after
+pub record Row : Type 0 where
+  pub ladder : Ladder
+  pub before : List ℕ
+  pub watchdog : ℕ
+  pub halt : Halt
+  pub rungs : ℕ
+  pub after : List ℕ
+
+-- 10:c0|c1&n2>o1|c3&j20 20:n3>o4
+abbrev pub ladderA : Ladder
+ladderA = rung 10 (frontOr (c 0) (frontAnd (c 1) (n 2))) (rearOr (o 1) (rearAnd (c 3) (j 20))) ∷ rung 20 (n 3) (o 4) ∷ []
+
+-- 0:c0>j5|o1 5:c0>o2
+abbrev pub ladderB : Ladder
+ladderB = rung 0 (c 0) (rearOr (j 5) (o 1)) ∷ rung 5 (c 0) (o 2) ∷ []
+
+-- 0:c0>o1|c1&o2
+abbrev pub ladderC : Ladder
+ladderC = rung 0 (c 0) (rearOr (o 1) (rearAnd (c 1) (o 2))) ∷ []
+
+-- 0:c0>c1&o2
+abbrev pub ladderD : Ladder
+ladderD = rung 0 (c 0) (rearAnd (c 1) (o 2)) ∷ []
+
+-- 0:n0>j0
+abbrev pub ladderE : Ladder
+ladderE = rung 0 (n 0) (j 0) ∷ []
+
+abbrev pub rowA : Row
+rowA = record { ladder = ladderA; before = 1 ∷ 0 ∷ 0 ∷ 0 ∷ 0 ∷ []; watchdog = 2; halt = Ended; rungs = 2; after = 1 ∷ 1 ∷ 0 ∷ 0 ∷ 1 ∷ [] }
+
+abbrev pub rowB : Row
+rowB = record { ladder = ladderB; before = 1 ∷ 0 ∷ 0 ∷ []; watchdog = 2; halt = Ended; rungs = 2; after = 1 ∷ 0 ∷ 1 ∷ [] }
+
+abbrev pub rowC : Row
+rowC = record { ladder = ladderC; before = 1 ∷ 0 ∷ 0 ∷ []; watchdog = 1; halt = Ended; rungs = 1; after = 1 ∷ 1 ∷ 1 ∷ [] }
+
+abbrev pub rowD : Row
+rowD = record { ladder = ladderD; before = 0 ∷ 1 ∷ 0 ∷ []; watchdog = 1; halt = Ended; rungs = 1; after = 0 ∷ 1 ∷ 0 ∷ [] }
+
+abbrev pub rowE : Row
+rowE = record { ladder = ladderE; before = 0 ∷ []; watchdog = 3; halt = Stopped; rungs = 3; after = 0 ∷ [] }
+
+abbrev pub rowF : Row
+rowF = record { ladder = ladderE; before = 0 ∷ []; watchdog = 0; halt = Stopped; rungs = 0; after = 0 ∷ [] }
+
+-- how a scan halted, its rungs entered and the variables that it left
+pub record Outcome : Type 0 where
+  pub halt : Halt
+  pub rungs : ℕ
+  pub variables : List ℕ
+
+unfoldable pub expected : Row → Outcome
+expected r = record { halt = r .halt; rungs = r .rungs; variables = r .after }
+
+-- "scratch is 0"
+unfoldable pub start : Row → State
+start r = stateOf (length (r .before)) (r .before ++ replicate scratchBytes 0)
+
+unfoldable pub ladderOutcome : Row → Outcome
+ladderOutcome r = let x = scanLadder (r .ladder) (r .watchdog) (start r) in record { halt = x .halt; rungs = x .rungs; variables = variables (x .state) }
+
+-- one more ladder for each rule of "What a ladder does" that A to F leave untried
+further : List Row
+further =
+    -- 0:c0>c1&o2, no power: r is run all the same, and the coil writes 0
+    record { ladder = rung 0 (c 0) (rearAnd (c 1) (o 2)) ∷ []; before = 0 ∷ 1 ∷ 1 ∷ []; watchdog = 1; halt = Ended; rungs = 1; after = 0 ∷ 1 ∷ 0 ∷ [] }
+    -- 0:c0>c1&o2|o3, v1 false: b gets the power p, and not what was left of it in a
+    ∷ record { ladder = rung 0 (c 0) (rearOr (rearAnd (c 1) (o 2)) (o 3)) ∷ []; before = 1 ∷ 0 ∷ 1 ∷ 0 ∷ []; watchdog = 1; halt = Ended; rungs = 1; after = 1 ∷ 0 ∷ 0 ∷ 1 ∷ [] }
+    -- 5:n0>o0 3:c0>k5|q1: a negated jump is not taken when p is true; a negated coil
+    ∷ record { ladder = rung 5 (n 0) (o 0) ∷ rung 3 (c 0) (rearOr (k 5) (q 1)) ∷ []; before = 0 ∷ 1 ∷ []; watchdog = 9; halt = Ended; rungs = 2; after = 1 ∷ 0 ∷ [] }
+    -- 5:n0>o1 3:c1&n2>o2|j5: back to an earlier rung, once
+    ∷ record { ladder = rung 5 (n 0) (o 1) ∷ rung 3 (frontAnd (c 1) (n 2)) (rearOr (o 2) (j 5)) ∷ []; before = 0 ∷ 0 ∷ 0 ∷ []; watchdog = 9; halt = Ended; rungs = 4; after = 0 ∷ 1 ∷ 0 ∷ [] }
+    ∷ []
+
+rows : List Row
+rows = rowA ∷ rowB ∷ rowC ∷ rowD ∷ rowE ∷ rowF ∷ further
+
+ladders-scanned : map ladderOutcome rows ≡ map expected rows
+unfolding rows further start ladderOutcome expected scanLadder scanFrom runRung runRear runOutput workFront workInput jumpIf unlessJumped search from follow left valueAt value writtenAt write variables
+ladders-scanned = refl

@@ -1,0 +1,60 @@
+-- Worked words and records, and worked questions 4 to 9. Assumes nothing.
+use mathlib.Core.Path.{_≡_, refl}
+use mathlib.Core.Option.{some}
+use mathlib.Core.List.{List, [], _∷_, map, flatMap}
+use Prim.Native.Nat.{ℕ, zero, suc}
+use Rattle.rungs.specs.Records.{search, present, lay}
+use Rattle.questions.specs.Tests.{all, firstFailed}
+use Rattle.questions.specs.Questions.{Answer, yes, ask, askEach, varsInRange, question1, firstNo}
+use Rattle.ladder_definitions.specs.Tree.{Front, frontAnd, rearOr, Ladder, frontAll, rearAll, rungAll, inputVariable, outputNames, number}
+use Rattle.ladder_definitions.specs.Kept.{inputKind, outputKind, inputWord, outputWord, frontWords, rearWords, rungWords, encode, decode, decodeFrom, decodeRung, decodeWords, oneRung, kinds, putInput, putFront, putOutput, putRearAnd, putRearOr}
+use Rattle.ladder_definitions.specs.Questions.{ladderOf, holdsLadder, question4, sizesInRange, question5, question6, question7, question8, scratchInRange, question9, newLabels, inputBelow, namedBelow, outputBelow, namedLeads, outputLeads, joinScratch, frontScratch, rearScratch, rungScratch, ladderQuestions, ladderAnswer}
+use Rattle.ladder_definitions.specs.Bench.{rung, c, o, j, k, ladderA}
+
+-- the kept words and records of case A
+A-encoded : encode ladderA ≡ record {
+  words = 262144 ∷ 65536 ∷ 196608 ∷ 65537 ∷ 131074 ∷ 655360 ∷ 327681 ∷ 589824 ∷ 65539 ∷ 458772 ∷ 131075 ∷ 327684 ∷ [];
+  records = record { label = 10; offset = 0; length = 10 } ∷ record { label = 20; offset = 10; length = 2 } ∷ [];
+}
+unfolding encode lay rungWords frontWords rearWords inputWord inputKind inputVariable outputWord outputKind outputNames number flatMap
+A-encoded = refl
+
+-- a front of m brackets, each the second part of an and: (c0&(c0&( .. c0&c0)))
+nested : ℕ → Front
+nested zero = c 0
+nested (suc m) = frontAnd (c 0) (nested m)
+
+-- a ladder of rungs c0>o0 with these labels
+labelled : List ℕ → Ladder
+labelled ls = map (λ l. rung l (c 0) (o 0)) ls
+
+refused : ℕ → ℕ → Answer
+refused n place = some (record { number = n; place = place })
+
+-- each question's "no", and the "yes" beside it
+answers : List Answer
+answers =
+    ladderAnswer 5 (encode ladderA)
+    ∷ ladderAnswer 0 (encode [])
+    ∷ ladderAnswer 1025 (encode ladderA)
+    ∷ ladderAnswer 5 (encode [])
+    ∷ question4 (record { words = 65536 ∷ 327680 ∷ []; records = record { label = 0; offset = 0; length = 3 } ∷ [] })
+    ∷ question4 (record { words = 65536 ∷ 327680 ∷ []; records = record { label = 0; offset = 1; length = 2 } ∷ [] })
+    ∷ question4 (record { words = 65536 ∷ 327680 ∷ []; records = record { label = 0; offset = 0; length = 2 } ∷ [] })
+    ∷ question4 (record { words = 196609 ∷ 65536 ∷ 65536 ∷ 327680 ∷ []; records = record { label = 0; offset = 0; length = 4 } ∷ [] })
+    ∷ question6 4 ladderA
+    ∷ question6 3 ladderA
+    ∷ question7 (labelled (1 ∷ 2 ∷ 2 ∷ 1 ∷ []))
+    ∷ question7 (labelled (1 ∷ 2 ∷ 3 ∷ 1 ∷ []))
+    ∷ question8 (rung 1 (c 0) (o 0) ∷ rung 2 (c 0) (rearOr (j 2) (k 3)) ∷ [])
+    ∷ question9 (rung 0 (nested 33) (o 0) ∷ [])
+    ∷ question9 (rung 0 (nested 34) (o 0) ∷ [])
+    ∷ []
+
+answers-worked : answers ≡
+    yes ∷ refused 1 0 ∷ refused 1 0 ∷ refused 4 0 ∷ refused 4 0 ∷ refused 4 0 ∷ yes ∷ refused 4 0 ∷ refused 6 1 ∷ refused 6 0 ∷ refused 7 2 ∷ refused 7 3 ∷ refused 8 1 ∷ yes ∷ refused 9 0 ∷ []
+unfolding answers refused nested labelled ladderQuestions ladderAnswer ladderOf encode lay rungWords frontWords rearWords inputWord inputKind inputVariable outputWord outputKind outputNames number flatMap
+    decode decodeFrom decodeRung decodeWords oneRung kinds putInput putFront putOutput putRearAnd putRearOr ask askEach firstNo firstFailed all
+    varsInRange question1 holdsLadder question4 sizesInRange question5 question6 question7 question8 scratchInRange question9 newLabels present search frontAll rearAll rungAll inputBelow namedBelow outputBelow namedLeads outputLeads
+    joinScratch frontScratch rearScratch rungScratch
+answers-worked = refl

@@ -1,0 +1,7 @@
+-- Proofs of what Theorems states. No contract cites these modules.
+pub mod Decoding
+pub mod Watchdog
+pub mod Scratch
+pub mod Accepting
+pub mod Held
+pub mod Trees

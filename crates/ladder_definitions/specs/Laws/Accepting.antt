@@ -1,0 +1,78 @@
+-- What question 4 and the questions after it tell of words and records. Assumes nothing.
+use Prim.Native.Nat.{ℕ, _≤_}
+use native.Mathlib.Omega.{arith}
+use mathlib.Core.Path.{_≡_, refl}
+use mathlib.Core.Option.{Option, none, some}
+use mathlib.Core.List.{List, [], _∷_, _++_}
+use lib.Dec.{T, leb→le, le→leb}
+use lib.ListN.{length}
+use Rattle.questions.specs.Tests.{all}
+use Rattle.questions.specs.Questions.{Answer, firstNo, question1}
+use Rattle.questions.specs.Laws.Answers.{ask-passed, passed-ask, first-yes, later-yes, first-append}
+use Rattle.ladder_definitions.specs.Tree.{Ladder}
+use Rattle.ladder_definitions.specs.Kept.{Kept, encode, decode}
+use Rattle.ladder_definitions.specs.Questions.{ladderOf, holdsLadder, question4, question5, question6, question7, question8, question9, ladderQuestions, ladderAnswer, Accepted}
+use Rattle.ladder_definitions.specs.Laws.Decoding.{rungFits, ladder-back, ladder-held}
+
+pub decode-encode : (gs : Ladder) → T (all rungFits gs) → decode (encode gs) ≡ some gs
+unfolding decode encode
+decode-encode gs h = ladder-back 0 gs h
+
+pub encode-decode : (k : Kept) (gs : Ladder) → decode k ≡ some gs → (k ≡ encode gs) × T (all rungFits gs)
+unfolding decode encode
+encode-decode k gs e =
+    let h = ladder-held 0 (k .records) (k .words) gs e in
+    (λ i. record { words = h .words i; records = h .records i }, h .fit)
+
+pub ladder-is : (k : Kept) (gs : Ladder) → decode k ≡ some gs → ladderOf k ≡ gs
+unfolding ladderOf
+ladder-is k gs e = rw (e, ladderOf)
+
+-- question 4 got a yes: the words and records hold a ladder
+pub holds : (k : Kept) → question4 k ≡ none → (decode k ≡ some (ladderOf k)) × (1 ≤ length (ladderOf k))
+unfolding question4 holdsLadder ladderOf
+holds k e = go (decode k) refl
+  where
+    some-rung : 1 ≤ length (ladderOf k)
+    some-rung = leb→le 1 (length (ladderOf k)) (ask-passed 4 _ e)
+
+    go : (x : Option Ladder) → decode k ≡ x → (decode k ≡ some (ladderOf k)) × (1 ≤ length (ladderOf k))
+    go none q = let z : ladderOf k ≡ [] = rw (q, ladderOf) in let n = rw z at some-rung in absurd (omega arith)
+    go (some gs) q = (rw (ladder-is k gs q) q, some-rung)
+
+pub some-question4 : (k : Kept) → 1 ≤ length (ladderOf k) → question4 k ≡ none
+unfolding question4 holdsLadder
+some-question4 k h = passed-ask 4 _ (le→leb 1 (length (ladderOf k)) h)
+
+-- the questions that got a yes, one by one
+pub accepted : (vars : ℕ) (k : Kept) → ladderAnswer vars k ≡ none → (decode k ≡ some (ladderOf k)) × Accepted vars (ladderOf k)
+unfolding ladderAnswer ladderQuestions
+accepted vars k e =
+    let gs = ladderOf k in
+    let e4 = later-yes (question1 vars) _ e in
+    let e5 = later-yes (question4 k) _ e4 in
+    let e6 = later-yes (question5 gs) _ e5 in
+    let e7 = later-yes (question6 vars gs) _ e6 in
+    let e8 = later-yes (question7 gs) _ e7 in
+    let e9 = later-yes (question8 gs) _ e8 in
+    let h = holds k (first-yes (question4 k) _ e4) in (
+      h .0,
+      record {
+        range = first-yes (question1 vars) _ e;
+        some-rung = h .1;
+        sizes = first-yes (question5 gs) _ e5;
+        variables = first-yes (question6 vars gs) _ e6;
+        differ = first-yes (question7 gs) _ e7;
+        jumps = first-yes (question8 gs) _ e8;
+        scratch = first-yes (question9 gs) _ e9;
+      },
+    )
+
+pub accepting : (vars : ℕ) (k : Kept) → Accepted vars (ladderOf k) → ladderAnswer vars k ≡ none
+unfolding ladderAnswer ladderQuestions firstNo
+accepting vars k a = rw (a .range, some-question4 k (a .some-rung), a .sizes, a .variables, a .differ, a .jumps, a .scratch)
+
+-- questions 1 and 4 to 9 before others: their answer first
+pub ladder-first : (vars : ℕ) (k : Kept) (later : List Answer) → firstNo (question1 vars ∷ ladderQuestions vars k ++ later) ≡ firstNo (ladderAnswer vars k ∷ later)
+unfolding ladderAnswer
+ladder-first vars k later = first-append (question1 vars ∷ ladderQuestions vars k) later

@@ -1,0 +1,89 @@
+-- What is proved of the definitions of this crate, a theorem to a sentence; the proofs are in Laws. Assumes nothing.
+use Prim.Native.Nat.{ℕ, _≤_}
+use mathlib.Core.Path.{_≡_, refl, _∙_}
+use mathlib.Core.Logic.{_↔_}
+use mathlib.Core.Option.{some}
+use mathlib.Core.List.{[], _∷_}
+use lib.Dec.{T}
+use Rattle.questions.specs.Tests.{all}
+use Rattle.questions.specs.Questions.{yes}
+use Rattle.questions.specs.Laws.Answers.{each-passed}
+use Rattle.table.specs.State.{State, beyondVariables, SameButScratch}
+use Rattle.table.specs.Halt.{Ended, Stopped}
+use Rattle.table.specs.Questions.{Legal}
+use Rattle.table.specs.Laws.Alike.{alike-legal, alike-same}
+use Rattle.ladder_definitions.specs.Tree.{Input, contact, contactn, Output, coil, coiln, jump, jumpn, Rung, Ladder, rungAll, outputNames}
+use Rattle.ladder_definitions.specs.Meaning.{LadderResult, scanLadder}
+use Rattle.ladder_definitions.specs.Standing.{Stands}
+use Rattle.ladder_definitions.specs.Kept.{Kept, encode, decode, inputFits, outputFits, inputKind, outputKind, contactSort, outputSort, kindSorts, kindSort, variableName, nameSorts, nameSort, namedSort}
+use Rattle.ladder_definitions.specs.Questions.{question6, rungBelow, ladderOf, ladderAnswer, Accepted}
+use Rattle.ladder_definitions.specs.Laws.Watchdog.{stopped-stands, stands-stopped, ended-stands, stands-ended}
+use Rattle.ladder_definitions.specs.Laws.Scratch.{scan-alike, scan-stays}
+use Rattle.ladder_definitions.specs.Laws.Accepting.{decode-encode, encode-decode, ladder-is, accepted, accepting}
+
+-- words and records are those of a ladder, whose operands all have 16 bits
+pub record IsKept (k : Kept) (gs : Ladder) : Type 0 where
+  pub kept : k ≡ encode gs
+  pub fits : T (all (rungAll inputFits outputFits) gs)
+
+-- Words and records are decoded to a ladder exactly when they are the kept words and records of that ladder.
+pub decoded-exactly : (k : Kept) (gs : Ladder) → (decode k ≡ some gs) ↔ IsKept k gs
+decoded-exactly k gs = (
+  (λ e. let h = encode-decode k gs e in record { kept = h .0; fits = h .1 }),
+  (λ h. rw (h .kept) (decode-encode gs (h .fits))),
+)
+
+-- They are those of one ladder at most.
+pub one-ladder : (k : Kept) (gs hs : Ladder) → IsKept k gs → IsKept k hs → gs ≡ hs
+one-ladder k gs hs g h = let p = decoded-exactly k gs .1 g in let q = decoded-exactly k hs .1 h in cc
+
+-- A kind's sort, and what its operand names, are those of the inputs and outputs of that kind.
+pub input-sorted : (i : Input) → (kindSort (inputKind i) ≡ contactSort) × (nameSort (inputKind i) ≡ variableName)
+unfolding inputKind kindSort kindSorts nameSort nameSorts
+input-sorted (contact v) = (refl, refl)
+input-sorted (contactn v) = (refl, refl)
+
+pub output-sorted : (o : Output) → (kindSort (outputKind o) ≡ outputSort) × (nameSort (outputKind o) ≡ namedSort (outputNames o))
+unfolding outputKind outputNames kindSort kindSorts nameSort nameSorts namedSort
+output-sorted (coil v) = (refl, refl)
+output-sorted (coiln v) = (refl, refl)
+output-sorted (jump l) = (refl, refl)
+output-sorted (jumpn l) = (refl, refl)
+
+-- Question 1 and questions 4 to 9 all get a "yes" exactly when the words and records are those of an accepted ladder.
+pub accepted-exactly : (vars : ℕ) (k : Kept) → (ladderAnswer vars k ≡ yes) ↔ ((gs : Ladder) × IsKept k gs × Accepted vars gs)
+accepted-exactly vars k = (
+  (λ e. let h = accepted vars k e in (ladderOf k, decoded-exactly k (ladderOf k) .0 (h .0), h .1)),
+  (λ h. accepting vars k (rw (ladder-is k (h .0) (decoded-exactly k (h .0) .1 (h .1))) (h .2))),
+)
+
+-- A scan is Stopped with k rungs entered exactly when k equals the watchdog and, after k rungs, a rung is still to come.
+pub stopped-exactly : (gs : Ladder) (watchdog : ℕ) (s : State) (k : ℕ) (t : State)
+    → (scanLadder gs watchdog s ≡ record { halt = Stopped; rungs = k; state = t }) ↔ ((k ≡ watchdog) × ((g : Rung) × (rest : Ladder) × Stands gs s k (g ∷ rest) t))
+stopped-exactly gs watchdog s k t = (
+  stopped-stands gs s watchdog k t,
+  (λ h. stands-stopped gs s watchdog (h .1 .0) (h .1 .1) t (rw (h .0) at (h .1 .2)) ∙ rw (h .0) refl),
+)
+
+-- A scan Ended with k rungs entered exactly when it is past the last rung after k rungs, and k is at most the watchdog.
+pub ended-exactly : (gs : Ladder) (watchdog : ℕ) (s : State) (k : ℕ) (t : State)
+    → (scanLadder gs watchdog s ≡ record { halt = Ended; rungs = k; state = t }) ↔ ((k ≤ watchdog) × Stands gs s k [] t)
+ended-exactly gs watchdog s k t = (ended-stands gs s watchdog k t, (λ h. stands-ended gs s watchdog k t (h .0) (h .1)))
+
+-- A ladder scan's answer, and all that it leaves but scratch, do not depend on scratch.
+pub record ScansSame (x y : LadderResult) : Type 0 where
+  pub halt : x .halt ≡ y .halt
+  pub rungs : x .rungs ≡ y .rungs
+  pub same : SameButScratch (x .state) (y .state)
+
+pub scratch-not-read : (gs : Ladder) (watchdog : ℕ) (s t : State) → question6 (t .vars) gs ≡ yes → Legal s → Legal t
+    → SameButScratch s t → ScansSame (scanLadder gs watchdog s) (scanLadder gs watchdog t)
+unfolding question6
+scratch-not-read gs watchdog s t q6 hs ht e =
+    let x = scan-alike (t .vars) gs watchdog s t (each-passed 6 (rungBelow (t .vars)) gs q6) (alike-legal s t hs ht e) in
+    record { halt = x .halt; rungs = x .rungs; same = alike-same (x .state) }
+
+-- Scratch stays, and with it every byte from V on.
+pub scratch-not-written : (gs : Ladder) (watchdog : ℕ) (s : State) → question6 (s .vars) gs ≡ yes → beyondVariables (scanLadder gs watchdog s .state) ≡ beyondVariables s
+unfolding question6
+scratch-not-written gs watchdog s q6 = scan-stays gs watchdog s (each-passed 6 (rungBelow (s .vars)) gs q6) .same-beyond

@@ -1,0 +1,2 @@
+-- Question 9. What its functions promise each other: Measuring.
+pub mod Measuring

@@ -1,0 +1,173 @@
+-- Laws of one word of a walk: what working and running a tree gives, from what working and running its parts gives. Assumes nothing.
+use Prim.Native.Nat.{ℕ, _+_}
+use native.Mathlib.Omega.{arith}
+use mathlib.Core.Path.{_≡_, refl, sym}
+use mathlib.Core.Bool.{Bool, true, false, not, _&&_}
+use mathlib.Core.List.{List}
+use lib.ListN.{length, length-append, getD}
+use Rattle.table.specs.State.{valueAt, value, writtenAt, write}
+use Rattle.rungs.specs.Words.{numberOf, operandOf}
+use Rattle.ladder_definitions.specs.Tree.{Input, contact, contactn, Front, input, Output, coil, coiln, jump, jumpn, Rear, rearAnd, rearOr, inputVariable, outputNames, number}
+use Rattle.ladder_definitions.specs.Meaning.{workInput, workFront, jumpIf, runOutput, unlessJumped, runRear, runRung}
+use Rattle.ladder_definitions.specs.Kept.{inputKind, outputKind, joinedSort, rearAndSort, rearOrSort, kindSorts, kindSort, frontWords, rearWords, rungWords}
+use Rattle.ladder_walk.specs.Walking.{FrontDone, FrontWorked, Root, PartsJoined, runOf, RunDone, RearRun, RungRun}
+use Rattle.ladder_definitions.specs.Roots.{rearKind}
+use Rattle.ladder_walk.specs.declared.Worked.{Worked}
+use Rattle.ladder_walk.specs.declared.Ran.{Ran}
+use Rattle.ladder_walk.specs.declared.Ran.the-variants.{Onward, Jumped}
+use Rattle.ladder_definitions.specs.Laws.Trees.{front-cases, that-input, parts-only, rear-cases, that-output, rear-and-only, rear-or-only, rung-only}
+
+module _ (ws : List ℕ) (at w : ℕ) (t : List ℕ) (e : w ≡ getD ws at 0) where
+  pub worked-contact : numberOf w ≡ inputKind (contact (operandOf w)) → (b : Bool) → b ≡ valueAt t (operandOf w) → FrontWorked ws at t (record { value = b; next = at + 1 }) t
+  unfolding inputVariable workFront workInput value frontWords
+  worked-contact k b q = record {
+    onward = omega arith;
+    done = that-input ws at w e (FrontDone at t (record { value = b; next = at + 1 }) t) (contact (operandOf w)) k refl (record { same = λ s. rw q refl; next = refl });
+  }
+
+  pub worked-contactn : numberOf w ≡ inputKind (contactn (operandOf w)) → (b : Bool) → b ≡ valueAt t (operandOf w) → FrontWorked ws at t (record { value = not b; next = at + 1 }) t
+  unfolding inputVariable workFront workInput value frontWords
+  worked-contactn k b q = record {
+    onward = omega arith;
+    done = that-input ws at w e (FrontDone at t (record { value = not b; next = at + 1 }) t) (contactn (operandOf w)) k refl (record { same = λ s. rw q refl; next = refl });
+  }
+
+  -- the second part starts from the bytes that the first left
+  pub worked-joined : (first : Worked) (u : List ℕ) (second : Worked) (v : List ℕ) → FrontWorked ws (at + 1) t first u → FrontWorked ws (first .next) u second v
+      → (r : Bool) → PartsJoined (numberOf w) (first .value) (second .value) r → kindSort (numberOf w) ≡ joinedSort
+      → FrontWorked ws at t (record { value = r; next = second .next }) v
+  unfolding workFront frontWords
+  worked-joined first u second v a b r j k = record {
+    onward = omega arith;
+    done = parts-only ws at w e (FrontDone at t (record { value = r; next = second .next }) v) (λ z. let n : _≡_ {A = ℕ} 0 1 = cc in omega arith)
+        (λ f g z sf sg.
+        let x = a .done f sf in
+        let y = b .done g (rw (← x .next) at sg) in
+        record { same = λ s. rw (x .same s, y .same s, j .both f g z); next = simp length-append (omega arith) })
+        (λ f g z sf sg.
+        let x = a .done f sf in
+        let y = b .done g (rw (← x .next) at sg) in
+        record { same = λ s. rw (x .same s, y .same s, j .either f g z); next = simp length-append (omega arith) });
+  }
+
+  -- neither a contact nor a root
+  pub no-contact : (Root ws at → ⊥) → ((v : ℕ) → numberOf w ≡ inputKind (contact v) → ⊥) → ((v : ℕ) → numberOf w ≡ inputKind (contactn v) → ⊥)
+      → FrontWorked ws at t (record { value = false; next = at }) t
+  unfolding kindSort kindSorts
+  no-contact n k l = record {
+    onward = omega arith;
+    done = front-cases ws at w e (FrontDone at t (record { value = false; next = at }) t) inputs
+        (λ f g z sf sg. absurd (n (rw (← e, z) refl))) (λ f g z sf sg. absurd (n (rw (← e, z) refl)));
+  }
+    where
+      inputs : (i : Input) → numberOf w ≡ inputKind i → operandOf w ≡ inputVariable i → FrontDone at t (record { value = false; next = at }) t (input i)
+      inputs (contact v) z o = absurd (k v z)
+      inputs (contactn v) z o = absurd (l v z)
+
+-- ---- rears
+
+abbrev Done : ℕ → Bool → List ℕ → Ran → List ℕ → Rear → Type 0
+Done at p t r u k = RunDone at (length (rearWords k)) (runRear k p) t r u
+
+same-end : (x y : ℕ) → Onward x ≡ Onward y → x ≡ y
+same-end x y e = cc
+
+no-end : {A : Type 0} (l e : ℕ) → Jumped l ≡ Onward e → A
+no-end l e q = let z : _≡_ {A = ℕ} 0 1 = cc in absurd (omega arith)
+
+pub no-output : (k : ℕ) → ((v : ℕ) → k ≡ outputKind (coil v) → ⊥) → ((v : ℕ) → k ≡ outputKind (coiln v) → ⊥) → ((l : ℕ) → k ≡ outputKind (jump l) → ⊥)
+    → ((l : ℕ) → k ≡ outputKind (jumpn l) → ⊥) → (o : Output) → k ≡ outputKind o → ⊥
+no-output k a b c d (coil v) e = a v e
+no-output k a b c d (coiln v) e = b v e
+no-output k a b c d (jump l) e = c l e
+no-output k a b c d (jumpn l) e = d l e
+
+module _ (ws : List ℕ) (at w : ℕ) (p : Bool) (t : List ℕ) (e : w ≡ getD ws at 0) where
+  pub ran-coil : (u : List ℕ) → numberOf w ≡ outputKind (coil (operandOf w)) → u ≡ writtenAt t (operandOf w) p → RearRun ws at p t (Onward (at + 1)) u
+  unfolding runRear runOutput write runOf rearWords outputNames number
+  ran-coil u k q = record {
+    onward = λ n z. let h = same-end (at + 1) n z in omega arith;
+    done = that-output ws at w e (Done at p t (Onward (at + 1)) u) (coil (operandOf w)) k refl (record { same = λ s. rw q refl; next = λ n z. sym (same-end (at + 1) n z) });
+  }
+
+  pub ran-coiln : (u : List ℕ) → numberOf w ≡ outputKind (coiln (operandOf w)) → u ≡ writtenAt t (operandOf w) (not p) → RearRun ws at p t (Onward (at + 1)) u
+  unfolding runRear runOutput write runOf rearWords outputNames number
+  ran-coiln u k q = record {
+    onward = λ n z. let h = same-end (at + 1) n z in omega arith;
+    done = that-output ws at w e (Done at p t (Onward (at + 1)) u) (coiln (operandOf w)) k refl (record { same = λ s. rw q refl; next = λ n z. sym (same-end (at + 1) n z) });
+  }
+
+  pub jump-taken : numberOf w ≡ outputKind (jump (operandOf w)) → p ≡ true → RearRun ws at p t (Jumped (operandOf w)) t
+  unfolding runRear runOutput jumpIf runOf outputNames number
+  jump-taken k q = record {
+    onward = λ n z. no-end (operandOf w) n z;
+    done = that-output ws at w e (Done at p t (Jumped (operandOf w)) t) (jump (operandOf w)) k refl (record { same = λ s. rw q refl; next = λ n z. no-end (operandOf w) n z });
+  }
+
+  pub jump-left : numberOf w ≡ outputKind (jump (operandOf w)) → p ≡ false → RearRun ws at p t (Onward (at + 1)) t
+  unfolding runRear runOutput jumpIf runOf rearWords outputNames number
+  jump-left k q = record {
+    onward = λ n z. let h = same-end (at + 1) n z in omega arith;
+    done = that-output ws at w e (Done at p t (Onward (at + 1)) t) (jump (operandOf w)) k refl (record { same = λ s. rw q refl; next = λ n z. sym (same-end (at + 1) n z) });
+  }
+
+  pub jumpn-taken : numberOf w ≡ outputKind (jumpn (operandOf w)) → p ≡ false → RearRun ws at p t (Jumped (operandOf w)) t
+  unfolding runRear runOutput jumpIf runOf outputNames number
+  jumpn-taken k q = record {
+    onward = λ n z. no-end (operandOf w) n z;
+    done = that-output ws at w e (Done at p t (Jumped (operandOf w)) t) (jumpn (operandOf w)) k refl (record { same = λ s. rw q refl; next = λ n z. no-end (operandOf w) n z });
+  }
+
+  pub jumpn-left : numberOf w ≡ outputKind (jumpn (operandOf w)) → p ≡ true → RearRun ws at p t (Onward (at + 1)) t
+  unfolding runRear runOutput jumpIf runOf rearWords outputNames number
+  jumpn-left k q = record {
+    onward = λ n z. let h = same-end (at + 1) n z in omega arith;
+    done = that-output ws at w e (Done at p t (Onward (at + 1)) t) (jumpn (operandOf w)) k refl (record { same = λ s. rw q refl; next = λ n z. sym (same-end (at + 1) n z) });
+  }
+
+  pub ran-and : (front : Worked) (u : List ℕ) (r : Ran) (v : List ℕ) → kindSort (numberOf w) ≡ rearAndSort → FrontWorked ws (at + 1) t front u
+      → RearRun ws (front .next) (p && front .value) u r v → RearRun ws at p t r v
+  unfolding runRear rearWords
+  ran-and front u r v k a b = record {
+    onward = λ n z. let h = b .onward n z in omega arith;
+    done = rear-and-only ws at w e (Done at p t r v) k (λ f g z sf sg.
+        let x = a .done f sf in
+        let y = b .done g (rw (← x .next) at sg) in
+        record { same = λ s. rw (x .same s) (y .same s); next = λ n q. let h = y .next n q in simp length-append (omega arith) });
+  }
+
+  pub ran-or : (n : ℕ) (q : Ran) (u : List ℕ) (r : Ran) (v : List ℕ) → kindSort (numberOf w) ≡ rearOrSort → RearRun ws (at + 1) p t q u → q ≡ Onward n → RearRun ws n p u r v → RearRun ws at p t r v
+  unfolding runRear rearWords unlessJumped runOf
+  ran-or n q u r v k a o b = record {
+    onward = λ m z. let h = a .onward n o in let i = b .onward m z in omega arith;
+    done = rear-or-only ws at w e (Done at p t r v) k (λ f g z sf sg.
+        let x = a .done f sf in
+        let y = b .done g (rw (← x .next n o) at sg) in
+        record { same = λ s. rw (x .same s, o) (y .same s); next = λ m z. let h = y .next m z in let i = x .next n o in simp length-append (omega arith) });
+  }
+
+  pub ran-or-jumped : (l : ℕ) (q : Ran) (u : List ℕ) → kindSort (numberOf w) ≡ rearOrSort → RearRun ws (at + 1) p t q u → q ≡ Jumped l → RearRun ws at p t (Jumped l) u
+  unfolding runRear unlessJumped runOf
+  ran-or-jumped l q u k a o = record {
+    onward = λ n z. no-end l n z;
+    done = rear-or-only ws at w e (Done at p t (Jumped l) u) k (λ f g z sf sg. record { same = λ s. rw (a .done f sf .same s, o) refl; next = λ n z. no-end l n z });
+  }
+
+  pub ran-none : ((o : Output) → numberOf w ≡ outputKind o → ⊥) → ((f : Front) (r : Rear) → numberOf w ≡ rearKind (rearAnd f r) → ⊥)
+      → ((a b : Rear) → numberOf w ≡ rearKind (rearOr a b) → ⊥) → RearRun ws at p t (Onward at) t
+  ran-none k l m = record {
+    onward = λ n z. let h = same-end at n z in omega arith;
+    done = rear-cases ws at w e (Done at p t (Onward at) t) (λ o z v. absurd (k o z)) (λ f r z sf sr. absurd (l f r z)) (λ a b z sa sb. absurd (m a b z));
+  }
+
+-- ---- rungs
+
+pub ran-rung : (ws : List ℕ) (at : ℕ) (t : List ℕ) (front : Worked) (u : List ℕ) (r : Ran) (v : List ℕ) → FrontWorked ws at t front u
+    → RearRun ws (front .next) (front .value) u r v → RungRun ws at t r v
+unfolding runRung rungWords
+ran-rung ws at t front u r v a b = record {
+  done = rung-only ws at (λ g. RunDone at (length (rungWords g)) (runRung g) t r v) (λ g sf sg.
+      let x = a .done (g .front) sf in
+      let y = b .done (g .rear) (rw (← x .next) at sg) in
+      record { same = λ s. rw (x .same s) (y .same s); next = λ n z. let h = y .next n z in simp length-append (omega arith) });
+}

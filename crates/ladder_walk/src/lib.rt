@@ -1,0 +1,141 @@
+// A rung worked along the prefix order of its kept words: a tree is its root word, then its first part, then its second.
+// Words that hold no tree are passed over from the first that has no place there.
+ghost use Rattle.ladder_walk.specs.Walking.{ContactWorked, PartsJoined, RootsPassed, FrontWorked, RearRun, RungRun};
+use ladder_kinds::KindSort;
+
+pub mod scan;
+
+// A front's value, and the position after its words.
+pub struct Worked {
+    pub value: bool,
+    pub next: usize,
+}
+
+// Past a rear, at the position after its words, or away by a jump to a label.
+pub enum Ran {
+    Onward(usize),
+    Jumped(u32),
+}
+
+// The contact at a position; where none stands there, the position stays.
+fn contact_at(words: &[u32], at: usize, table: &[u8]) -> Worked
+    ensures { λ r. ⌜ ContactWorked (now (words .entry)) at (now (table .entry)) r (now (table .entry)) ⌝ }
+{
+    let word = rungs::word_at(words, at);
+    let value = table::value(table, (word % rungs::OPERANDS) as usize);
+    match word / rungs::OPERANDS {
+        ladder_kinds::CONTACT => Worked {
+            value,
+            next: at + 1,
+        },
+        ladder_kinds::NEGATED_CONTACT => Worked {
+            value: !value,
+            next: at + 1,
+        },
+        _ => Worked {
+            value: false,
+            next: at,
+        },
+    }
+}
+
+// The value of a front-and or of a front-or, from its parts'.
+fn joined(kind: u32, first: bool, second: bool) -> bool
+    ensures { λ r. ⌜ PartsJoined kind first second r ⌝ }
+{
+    if kind == ladder_kinds::FRONT_AND {
+        return first & second;
+    }
+    first | second
+}
+
+// Past the roots that stand before the first contact of the front at a position.
+fn first_contact(words: &[u32], from: usize) -> usize
+    ensures { λ r. ⌜ RootsPassed (now (words .entry)) from r ⌝ }
+{
+    let mut at = from;
+    while at < words.len() {
+        match ladder_kinds::sort_of(words[at] / rungs::OPERANDS) {
+            KindSort::Joined => {
+                at += 1;
+            }
+            _ => {
+                return at;
+            }
+        }
+    }
+    at
+}
+
+// The front whose words begin at a position: its first contact, and then, root by root towards that position, the parts joined with it.
+// The part before a root's second is worked when the root is reached, so only a second part that is no contact takes a call.
+fn front_at(words: &[u32], from: usize, table: &[u8]) -> Worked
+    ensures { λ r. ⌜ FrontWorked (now (words .entry)) from (now (table .entry)) r (now (table .entry)) ⌝ }
+{
+    let mut at = first_contact(words, from);
+    let mut first = contact_at(words, at, table);
+    while from < at {
+        at -= 1;
+        let kind = rungs::word_at(words, at) / rungs::OPERANDS;
+        let contact = contact_at(words, first.next, table);
+        let second = if first.next < contact.next {
+            contact
+        } else {
+            front_at(words, first.next, table)
+        };
+        first = Worked {
+            value: joined(kind, first.value, second.value),
+            next: second.next,
+        };
+    }
+    first
+}
+
+// The rear whose words begin at a position, with a power.
+fn rear_at(words: &[u32], at: usize, power: bool, table: &mut [u8]) -> Ran
+    ensures { λ r. ⌜ RearRun (now (words .entry)) at power (now (table .entry)) r (now (table .exit)) ⌝ }
+{
+    let word = rungs::word_at(words, at);
+    let operand = word % rungs::OPERANDS;
+    match word / rungs::OPERANDS {
+        ladder_kinds::COIL => {
+            table::write(table, operand as usize, power);
+            Ran::Onward(at + 1)
+        }
+        ladder_kinds::NEGATED_COIL => {
+            table::write(table, operand as usize, !power);
+            Ran::Onward(at + 1)
+        }
+        ladder_kinds::JUMP => {
+            if power {
+                Ran::Jumped(operand)
+            } else {
+                Ran::Onward(at + 1)
+            }
+        }
+        ladder_kinds::NEGATED_JUMP => {
+            if power {
+                Ran::Onward(at + 1)
+            } else {
+                Ran::Jumped(operand)
+            }
+        }
+        ladder_kinds::REAR_AND => {
+            let front = front_at(words, at + 1, table);
+            rear_at(words, front.next, power & front.value, table)
+        }
+        ladder_kinds::REAR_OR => match rear_at(words, at + 1, power, table) {
+            Ran::Onward(next) => rear_at(words, next, power, table),
+            Ran::Jumped(label) => Ran::Jumped(label),
+        },
+        _ => Ran::Onward(at),
+    }
+}
+
+// The rung whose words begin at a position.
+pub fn run_rung(words: &[u32], at: usize, table: &mut [u8]) -> Ran
+    ensures { λ r. ⌜ RungRun (now (words .entry)) at (now (table .entry)) r (now (table .exit)) ⌝ }
+{
+    let front = front_at(words, at, table);
+    rear_at(words, front.next, front.value, table)
+}

@@ -1,0 +1,125 @@
+-- Worked lists: case A of document 01, and a list for each rule of "What a list does" that it leaves untried; and worked question 10. Assumes nothing.
+use mathlib.Core.Path.{_≡_, refl}
+use mathlib.Core.Option.{none, some}
+use mathlib.Core.List.{List, [], _∷_, _++_, map, flatMap}
+use mathlib.Core.Bool.{xor}
+use Prim.Native.Nat.{ℕ}
+use lib.ListN.{replicate, length}
+use Rattle.questions.specs.Bytes.{bytes, decimal, digits}
+use Rattle.questions.specs.Tests.{all}
+use Rattle.questions.specs.Questions.{Answer, ask, varsInRange, question1, firstNo}
+use Rattle.table.specs.State.{stateOf, scratchBytes, variables, valueAt, value, writtenAt, write}
+use Rattle.table.specs.Halt.{Halt, Ended, Stopped}
+use Rattle.rungs.specs.Records.{RungRecord, isStart, laid}
+use Rattle.list_definitions.specs.Instruction.{Instr, LD, LDN, ST, STN, AND, ANDN, OR, ORN, XOR, XORN, NOT, JMP, JMPC, JMPCN, operand, opOf, operandNumber, instrWord, decodeInstr, ops, onlyNot}
+use Rattle.list_definitions.specs.Machine.{InstructionList, does, count, step, fresh, begin, halted, scanMachine, scanList}
+use Rattle.list_definitions.specs.Listing.{fixedNames, trimmed, nameOf, operandText, instrLine, labelLine, rungLines, listingLines, ended, listingText}
+use Rattle.list_definitions.specs.Questions.{operandInRange, wordInRange, recordsLaid, listInRange, question10, listAnswer}
+
+-- a list, its variables before, the instruction watchdog; how the scan halts, its counts and the variables after
+record Row : Type 0 where
+  list : InstructionList
+  before : List ℕ
+  watchdog : ℕ
+  halt : Halt
+  instructions : ℕ
+  rungs : ℕ
+  after : List ℕ
+
+abbrev at : ℕ → ℕ → ℕ → RungRecord
+at l o n = record { label = l; offset = o; length = n }
+
+abbrev one : List Instr → InstructionList
+one code = record { code = code; records = at 0 0 (length code) ∷ [] }
+
+abbrev listA : InstructionList
+listA = record {
+  code = LD 0 ∷ ST 5 ∷ LD 1 ∷ ANDN 2 ∷ OR 5 ∷ ST 5 ∷ ST 1 ∷ LD 5 ∷ AND 3 ∷ JMPC 10 ∷ LDN 3 ∷ ST 4 ∷ [];
+  records = at 10 0 10 ∷ at 20 10 2 ∷ [];
+}
+
+rows : List Row
+rows =
+    -- case A, under a watchdog of just its 12 instructions, and of one less
+    record { list = listA; before = 1 ∷ 0 ∷ 0 ∷ 0 ∷ 0 ∷ []; watchdog = 12; halt = Ended; instructions = 12; rungs = 2; after = 1 ∷ 1 ∷ 0 ∷ 0 ∷ 1 ∷ [] }
+    ∷ record { list = listA; before = 1 ∷ 0 ∷ 0 ∷ 0 ∷ 0 ∷ []; watchdog = 11; halt = Stopped; instructions = 11; rungs = 2; after = 1 ∷ 1 ∷ 0 ∷ 0 ∷ 0 ∷ [] }
+    -- the accumulator starts false, and stores keep it
+    ∷ record { list = one (STN 0 ∷ ST 1 ∷ []); before = 0 ∷ 1 ∷ []; watchdog = 9; halt = Ended; instructions = 2; rungs = 1; after = 1 ∷ 0 ∷ [] }
+    -- ORN, XOR, XORN, NOT, ANDN
+    ∷ record {
+      list = one (ORN 0 ∷ ST 1 ∷ XOR 2 ∷ ST 3 ∷ XORN 2 ∷ ST 4 ∷ NOT ∷ ST 5 ∷ ANDN 5 ∷ ST 6 ∷ []);
+      before = 0 ∷ 0 ∷ 1 ∷ 1 ∷ 1 ∷ 0 ∷ 1 ∷ [];
+      watchdog = 99;
+      halt = Ended;
+      instructions = 10;
+      rungs = 1;
+      after = 0 ∷ 1 ∷ 1 ∷ 0 ∷ 0 ∷ 1 ∷ 0 ∷ [];
+    }
+    -- JMPCN jumps when the accumulator is false and JMPC does not, and both keep it; a jump to the end; a jump into a rung enters none
+    ∷ record {
+      list = record { code = JMPC 4 ∷ JMPCN 3 ∷ NOT ∷ STN 0 ∷ JMP 6 ∷ ST 0 ∷ []; records = at 1 0 1 ∷ at 2 1 1 ∷ at 3 2 4 ∷ [] };
+      before = 0 ∷ [];
+      watchdog = 9;
+      halt = Ended;
+      instructions = 4;
+      rungs = 2;
+      after = 1 ∷ [];
+    }
+    -- a loop, stopped
+    ∷ record { list = record { code = LDN 0 ∷ JMPC 0 ∷ []; records = at 0 0 2 ∷ [] }; before = 0 ∷ []; watchdog = 7; halt = Stopped; instructions = 7; rungs = 4; after = 0 ∷ [] }
+    ∷ []
+
+record Outcome : Type 0 where
+  halt : Halt
+  instructions : ℕ
+  rungs : ℕ
+  variables : List ℕ
+
+expected : Row → Outcome
+expected r = record { halt = r .halt; instructions = r .instructions; rungs = r .rungs; variables = r .after }
+
+outcome : Row → Outcome
+outcome r =
+    let x = scanList (r .list) (r .watchdog) (stateOf (length (r .before)) (r .before ++ replicate scratchBytes 0)) in
+    record { halt = x .halt; instructions = x .counts .instructions; rungs = x .counts .rungs; variables = variables (x .state) }
+
+lists-scanned : map outcome rows ≡ map expected rows
+unfolding rows outcome expected scanList scanMachine begin fresh step count does halted isStart valueAt value writtenAt write variables xor
+lists-scanned = refl
+
+no-place : Answer
+no-place = some (record { number = 10; place = 0 })
+
+words : List Instr → List ℕ
+words = map instrWord
+
+answers : List Answer
+answers =
+    listAnswer 5 (words (listA .code)) (listA .records)
+    ∷ question10 5 [] (at 0 0 0 ∷ [])
+    ∷ question10 5 (words (LD 0 ∷ [])) []
+    ∷ question10 5 (words (LD 36 ∷ [])) (at 0 0 1 ∷ [])
+    ∷ question10 5 (words (LD 37 ∷ [])) (at 0 0 1 ∷ [])
+    ∷ question10 5 (words (JMP 1 ∷ [])) (at 0 0 1 ∷ [])
+    ∷ question10 5 (words (JMP 2 ∷ [])) (at 0 0 1 ∷ [])
+    ∷ question10 5 (720896 ∷ []) (at 0 0 1 ∷ [])
+    ∷ question10 5 (720897 ∷ []) (at 0 0 1 ∷ [])
+    ∷ question10 5 (983040 ∷ []) (at 0 0 1 ∷ [])
+    ∷ question10 5 (words (LD 0 ∷ LD 1 ∷ [])) (at 0 0 1 ∷ at 0 1 1 ∷ [])
+    ∷ question10 5 (words (LD 0 ∷ LD 1 ∷ [])) (at 0 0 2 ∷ at 1 2 0 ∷ [])
+    ∷ question10 5 (words (LD 0 ∷ LD 1 ∷ [])) (at 0 0 1 ∷ at 1 2 1 ∷ [])
+    ∷ []
+
+answers-worked : answers ≡ none ∷ no-place ∷ no-place ∷ none ∷ no-place ∷ none ∷ no-place ∷ none ∷ no-place ∷ no-place ∷ none ∷ no-place ∷ no-place ∷ []
+unfolding answers no-place words listAnswer firstNo question1 varsInRange question10 listInRange ask all laid recordsLaid wordInRange operandInRange operand decodeInstr ops onlyNot instrWord opOf operandNumber
+answers-worked = refl
+
+-- document 01, "Listing": what stands above the count line
+A-listing : listingText fixedNames 5 listA ≡ bytes "L10:\nLD v0\nST t0\nLD v1\nANDN v2\nOR t0\nST t0\nST v1\nLD t0\nAND v3\nJMPC @10\nL20:\nLDN v3\nST v4\n"
+unfolding listingText listingLines rungLines labelLine instrLine operandText operand opOf nameOf trimmed fixedNames ended bytes decimal digits flatMap
+A-listing = refl
+
+-- a line without operand, and numbers of several digits
+others-listed : map (instrLine fixedNames 1000) (NOT ∷ XORN 999 ∷ STN 1031 ∷ JMPCN 16384 ∷ JMP 0 ∷ []) ≡ bytes "NOT" ∷ bytes "XORN v999" ∷ bytes "STN t31" ∷ bytes "JMPCN @16384" ∷ bytes "JMP @0" ∷ []
+unfolding instrLine operandText operand opOf nameOf trimmed fixedNames bytes decimal digits
+others-listed = refl

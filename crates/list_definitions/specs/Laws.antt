@@ -1,0 +1,6 @@
+-- Laws of the definitions. No contract cites these modules.
+pub mod Decoding
+pub mod InRange
+pub mod Refusing
+pub mod Watchdog
+pub mod Words

@@ -1,0 +1,38 @@
+-- A "no" to question 1 or 10 is the answer of List scan and of Listing, whatever their later questions are. Assumes nothing.
+use Prim.Native.Nat.{ℕ}
+use mathlib.Core.Path.{_≡_, refl}
+use mathlib.Core.Option.{none, some}
+use mathlib.Core.List.{List, [], _∷_}
+use lib.ListN.{length}
+use Rattle.questions.specs.Questions.{Answer, Refusal, firstNo, question1, question13}
+use Rattle.questions.specs.Refusals.{refusalOf}
+use Rattle.questions.specs.declared.Refusal.{Refusal as RefusalCase}
+use Rattle.rungs.specs.Records.{RungRecord}
+use Rattle.list_definitions.specs.Questions.{question10, listAnswer}
+use Rattle.list_definitions.specs.ListScan.{listOf, scanQuestions}
+use Rattle.list_definitions.specs.Listing.{fixedNames, listingText, listing, listedAnswer, ListingDone}
+use Rattle.list_definitions.specs.declared.Listed.the-variants.{Refused}
+
+first-refused : (a b : Answer) (later : List Answer) (r : Refusal) → firstNo (a ∷ b ∷ []) ≡ some r → firstNo (a ∷ b ∷ later) ≡ some r
+unfolding firstNo
+first-refused (some x) b later r e = e
+first-refused none (some x) later r e = e
+first-refused none none later r e = cc
+
+pub first-accepted : (a b : Answer) (later : List Answer) → firstNo (a ∷ b ∷ []) ≡ none → firstNo (a ∷ b ∷ later) ≡ firstNo later
+unfolding firstNo
+first-accepted none none later e = refl
+first-accepted none (some x) later e = cc
+first-accepted (some x) b later e = cc
+
+module _ (vars : ℕ) (ws : List ℕ) (rs : List RungRecord) where
+  pub scan-asked-list : (t : List ℕ) (w : ℕ) (r : Refusal) → listAnswer vars ws rs ≡ some r → scanQuestions vars ws rs t w ≡ some r
+  unfolding listAnswer scanQuestions
+  scan-asked-list t w r e = first-refused (question1 vars) (question10 vars ws rs) _ r e
+
+  pub listing-refused : (out : List ℕ) (refusal : RefusalCase) → listAnswer vars ws rs ≡ some (refusalOf refusal) → ListingDone (listing fixedNames vars ws rs out) (Refused refusal) out
+  unfolding listAnswer listing listedAnswer
+  listing-refused out refusal e =
+      let room = question13 (record { needed = length (listingText fixedNames vars (listOf ws rs)); lent = length out } ∷ []) in
+      let q = first-refused (question1 vars) (question10 vars ws rs) (room ∷ []) (refusalOf refusal) e in
+      record { answer = rw (q, listing); same-buffer = rw (q, listing) }

@@ -1,0 +1,60 @@
+-- The call List scan: its answer and the table afterwards, for all inputs. Document 01, "What a list does", "Questions before work". Assumes nothing.
+use Prim.Native.Nat.{ℕ}
+use mathlib.Core.Path.{_≡_}
+use mathlib.Core.Option.{none, some}
+use mathlib.Core.List.{List, [], _∷_}
+use Rattle.questions.specs.Questions.{Refusal, Answer, firstNo, question1, question12, mostInstructionWatchdog}
+use Rattle.questions.specs.Refusals.{refusalOf}
+use Rattle.table.specs.State.{stateOf}
+use Rattle.table.specs.Halt.{Halt, Ended, Stopped}
+use Rattle.table.specs.Questions.{question11}
+use Rattle.rungs.specs.Records.{RungRecord}
+use Rattle.list_definitions.specs.Instruction.{codeOf}
+use Rattle.list_definitions.specs.Machine.{InstructionList, Counts, ListResult, scanList}
+use Rattle.list_definitions.specs.Questions.{question10}
+use Rattle.list_definitions.specs.declared.Counts.{Counts as CountsStruct}
+use Rattle.list_definitions.specs.declared.ListScanned.{ListScanned}
+use Rattle.list_definitions.specs.declared.ListScanned.the-variants.{Ended as EndedCase, Stopped as StoppedCase, Refused as RefusedCase}
+
+-- Ended or Stopped with its counts, or the refusal
+pub data ListScanAnswer : Type 0 where
+  scanned : Halt → Counts → ListScanAnswer
+  refused : Refusal → ListScanAnswer
+
+pub record ListScanCall : Type 0 where
+  pub answer : ListScanAnswer
+  pub table : List ℕ
+
+-- the list that instruction words and records hold
+unfoldable pub listOf : List ℕ → List RungRecord → InstructionList
+listOf words rs = record { code = codeOf words; records = rs }
+
+unfoldable pub scanEnds : ListResult → ListScanCall
+scanEnds x = record { answer = scanned (x .halt) (x .counts); table = x .state .bytes }
+
+-- questions 1, 10, 11 and 12 in order
+unfoldable pub scanQuestions : ℕ → List ℕ → List RungRecord → List ℕ → ℕ → Answer
+scanQuestions vars words rs table watchdog =
+    firstNo (question1 vars ∷ question10 vars words rs ∷ question11 (stateOf vars table) ∷ question12 mostInstructionWatchdog watchdog ∷ [])
+
+-- a refusal leaves the table, and else the list is scanned
+unfoldable pub callListScan : ℕ → List ℕ → List RungRecord → List ℕ → ℕ → ListScanCall
+callListScan vars words rs table watchdog = elim (scanQuestions vars words rs table watchdog) [
+  | some refusal ↦ record { answer = refused refusal; table = table }
+  | none ↦ scanEnds (scanList (listOf words rs) watchdog (stateOf vars table))
+]
+
+-- the counts in the struct Counts
+unfoldable pub countsIn : CountsStruct → Counts
+countsIn c = record { instructions = c .instructions; rungs = c .rungs }
+
+-- document 01's values for each case of the enum ListScanned
+unfoldable pub listScannedAnswer : ListScanned → ListScanAnswer
+listScannedAnswer (EndedCase c) = scanned Ended (countsIn c)
+listScannedAnswer (StoppedCase c) = scanned Stopped (countsIn c)
+listScannedAnswer (RefusedCase refusal) = refused (refusalOf refusal)
+
+-- the promise of list_scan: answer and table are those of the definition
+pub record ListScanDone (call : ListScanCall) (r : ListScanned) (table : List ℕ) : Type 0 where
+  pub answer : listScannedAnswer r ≡ call .answer
+  pub same-table : table ≡ call .table

@@ -1,0 +1,33 @@
+-- What is proved of the definitions of this crate, a theorem to a sentence; the proofs are in Laws. Assumes nothing.
+use Prim.Native.Nat.{ℕ, _≤_}
+use mathlib.Core.Path.{_≡_}
+use mathlib.Core.Logic.{_↔_}
+use mathlib.Core.Option.{none, some}
+use mathlib.Core.List.{List, map}
+use lib.Dec.{T}
+use Rattle.questions.specs.Tests.{all}
+use Rattle.table.specs.State.{State}
+use Rattle.table.specs.Halt.{Ended, Stopped}
+use Rattle.list_definitions.specs.Instruction.{Instr, instrWord, instrFits, decodeInstr, decodeCode}
+use Rattle.list_definitions.specs.Machine.{InstructionList, Counts, scanList}
+use Rattle.list_definitions.specs.Standing.{StandsAt}
+use Rattle.list_definitions.specs.Laws.Decoding.{decode-instr, instr-decoded, decode-code, code-decoded}
+use Rattle.list_definitions.specs.Laws.Watchdog.{stopped-stands, stands-stopped, ended-stands, stands-ended}
+
+-- A word is decoded to an instruction exactly when it is the word of that instruction, whose operand has 16 bits.
+pub instruction-exactly : (w : ℕ) (i : Instr) → (decodeInstr w ≡ some i) ↔ ((w ≡ instrWord i) × T (instrFits i))
+instruction-exactly w i = (instr-decoded w i, (λ h. rw (h .0) (decode-instr i (h .1))))
+
+-- The same for the words of a whole list.
+pub code-exactly : (ws : List ℕ) (is : List Instr) → (decodeCode ws ≡ some is) ↔ ((ws ≡ map instrWord is) × T (all instrFits is))
+code-exactly ws is = (code-decoded ws is, (λ h. rw (h .0) (decode-code is (h .1))))
+
+-- A scan is Stopped with the counts c exactly when its instructions carried out equal the watchdog and it then stands before an instruction.
+pub stopped-exactly : (l : InstructionList) (watchdog : ℕ) (s : State) (c : Counts) (t : State)
+    → (scanList l watchdog s ≡ record { halt = Stopped; counts = c; state = t }) ↔ ((c .instructions ≡ watchdog) × ((i : Instr) × StandsAt l s c t (some i)))
+stopped-exactly l watchdog s c t = (stopped-stands l s watchdog c t, (λ h. stands-stopped l s watchdog c t (h .1 .0) (h .0) (h .1 .1)))
+
+-- A scan Ended with the counts c exactly when it then is at the end, and its instructions carried out are at most the watchdog.
+pub ended-exactly : (l : InstructionList) (watchdog : ℕ) (s : State) (c : Counts) (t : State)
+    → (scanList l watchdog s ≡ record { halt = Ended; counts = c; state = t }) ↔ ((c .instructions ≤ watchdog) × StandsAt l s c t none)
+ended-exactly l watchdog s c t = (ended-stands l s watchdog c t, (λ h. stands-ended l s watchdog c t (h .0) (h .1)))

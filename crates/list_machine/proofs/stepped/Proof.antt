@@ -1,0 +1,42 @@
+-- `list::scan::stepped` meets its contract: what the instruction does, and the two counts. Assumes nothing.
+use Rattle.list_machine.proofs.Steps.{stepped}
+use borrow.Author.Needs.{needs}
+use Rattle.list_machine.proofs.stepped.Statement.{statement}
+use Rattle.list_machine.proofs.stepped.Tie as tie
+
+mul-carry-out : tie.Need-mul-carry-out
+mul-carry-out c = search needs
+
+shared-slice-read-carry-out : tie.Need-shared-slice-read-carry-out
+shared-slice-read-carry-out c = search needs
+
+add-carry-out : tie.Need-add-carry-out
+add-carry-out c = search needs
+
+carry-out-requires : tie.Need-carry-out-requires
+carry-out-requires c κs = search needs
+
+add-t10 : tie.Need-add-t10
+add-t10 c = search needs
+
+add-t14 : tie.Need-add-t14
+add-t14 c = search needs
+
+same-length : tie.Need-same-length
+same-length c = search needs
+
+returns : tie.Need-returns
+returns c = stepped _ _ _ _ _ _ (c .before .before .before .before .carry-out .ensures)
+
+pub stepped-spec : {M : Type 1} → statement M
+stepped-spec =
+    tie.close
+    (tie.spec
+    mul-carry-out
+    shared-slice-read-carry-out
+    add-carry-out
+    carry-out-requires
+    add-t10
+    add-t14
+    same-length
+    returns)

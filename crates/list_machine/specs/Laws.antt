@@ -1,0 +1,4 @@
+-- Laws of the definitions. No contract cites these modules.
+pub mod Runs
+pub mod Scans
+pub mod Seeks

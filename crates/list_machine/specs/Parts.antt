@@ -1,0 +1,77 @@
+-- What the functions of this crate promise to each other. Nothing here is a sentence of document 01. Assumes nothing.
+use Prim.Native.Nat.{ℕ, suc, _+_, _≤_}
+use mathlib.Core.Path.{_≡_}
+use mathlib.Core.Bool.{Bool, true, false, not, _&&_}
+use mathlib.Core.Option.{some}
+use mathlib.Core.List.{List, [], _∷_}
+use lib.Dec.{eqb, leb, ltb}
+use lib.ListN.{length, getD}
+use Rattle.questions.specs.Tests.{bit}
+use Rattle.table.specs.State.{State, withBytes}
+use Rattle.rungs.specs.Records.{RungRecord, offsets, isStart}
+use Rattle.list_definitions.specs.Instruction.{Instr, decodeInstr, decodeCode}
+use Rattle.list_definitions.specs.Machine.{InstructionList, Machine, does, step, scanList}
+use Rattle.list_definitions.specs.ListScan.{countsIn, scanEnds, ListScanDone}
+use Rattle.list_definitions.specs.declared.ListScanned.{ListScanned}
+use Rattle.list_machine.specs.declared.Machine.{Machine as MachineStruct}
+use Rattle.list_definitions.specs.declared.ListScanned.the-variants.{Ended as EndedCase, Stopped as StoppedCase}
+use Rattle.list_machine.specs.declared.Place.{Place}
+use Rattle.list_machine.specs.declared.Effect.{Effect}
+
+-- a word that holds an instruction does what the instruction does, from accumulator v
+pub record Did (word : ℕ) (v : Bool) (following : ℕ) (t : List ℕ) (r : Effect) (u : List ℕ) : Type 0 where
+  pub same : (i : Instr) → decodeInstr word ≡ some i → (s : State) (pc : ℕ) → following ≡ pc + 1
+      → does i v (withBytes s t) pc ≡ record { accumulator = r .accumulator; state = withBytes s u; index = r .index }
+
+unfoldable pub machineOf : MachineStruct → Machine
+machineOf m = record { accumulator = m .accumulator; index = m .index; counts = countsIn (m .counts) }
+
+pub record Stepped (word entered : ℕ) (m : MachineStruct) (t : List ℕ) (r : MachineStruct) (u : List ℕ) : Type 0 where
+  pub same : (i : Instr) → decodeInstr word ≡ some i → (rs : List RungRecord) → entered ≡ bit (isStart rs (m .index)) → (s : State)
+      → step rs i (machineOf m) (withBytes s t) ≡ (machineOf r, withBytes s u)
+  pub carried : r .counts .instructions ≡ m .counts .instructions + 1
+  pub rungs : r .counts .rungs ≡ m .counts .rungs + entered
+
+-- 1 where the record `next` begins at the index, and else 0
+unfoldable pub startsHere : List ℕ → ℕ → ℕ → ℕ
+startsHere os next index = bit (ltb next (length os) && eqb (getD os next 0) index)
+
+-- offsets that ascend from `least` on
+unfoldable pub ascending : ℕ → List ℕ → Type 0
+ascending least [] = Unit {0}
+ascending least (o ∷ os) = (least ≤ o) × ascending (suc o) os
+
+-- how many offsets stand before the first that is not below the index
+unfoldable pub before : List ℕ → ℕ → ℕ
+before [] index = 0
+before (o ∷ os) index = elim (ltb o index) [ true ↦ suc (before os index) | false ↦ 0 ]
+
+pub record Sought (os : List ℕ) (index r : ℕ) : Type 0 where
+  pub same : ascending 0 os → r ≡ before os index
+  pub within : r ≤ length os
+
+-- the place at index 0
+unfoldable pub firstPlace : List ℕ → Place
+firstPlace os = record { index = 0; next = 0; entered = startsHere os 0 0 }
+
+-- the place at the index after a place: on a straight run the record is carried along, and else it is found anew
+pub record Followed (os : List ℕ) (p : Place) (index : ℕ) (r : Place) : Type 0 where
+  pub here : r .index ≡ index
+  pub straight : index ≡ p .index + 1 → r .next ≡ p .next + p .entered
+  pub found : (index ≡ p .index + 1 → ⊥) → Sought os index (r .next)
+  pub starts : r .entered ≡ startsHere os (r .next) index
+
+unfoldable pub firstMachine : MachineStruct
+firstMachine = record { accumulator = false; index = 0; counts = record { instructions = 0; rungs = 0 } }
+
+-- the machine is before the end, and the watchdog has not come
+unfoldable pub runsOn : ℕ → ℕ → MachineStruct → Bool
+runsOn end watchdog m = not (leb end (m .index)) && not (eqb (m .counts .instructions) watchdog)
+
+unfoldable pub haltedAt : ℕ → MachineStruct → ListScanned
+haltedAt end m = elim (leb end (m .index)) [ true ↦ EndedCase (m .counts) | false ↦ StoppedCase (m .counts) ]
+
+-- a list's words and offsets are scanned as the list
+pub record Ran (ws os t : List ℕ) (watchdog : ℕ) (r : ListScanned) (u : List ℕ) : Type 0 where
+  pub same : (l : InstructionList) → decodeCode ws ≡ some (l .code) → offsets (l .records) ≡ os → ascending 0 os → (s : State)
+      → ListScanDone (scanEnds (scanList l watchdog (withBytes s t))) r u

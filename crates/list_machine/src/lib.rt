@@ -1,0 +1,258 @@
+// One scan of a list. "Stood at a record's offset" is never a search on straight runs: `next` is the first record that does not
+// begin before the index, so the instruction stands at an offset just when it is that record's; a jump finds it anew, by halving.
+ghost use mathlib.Core.Path.{_≡_};
+ghost use Prim.Native.Nat.{_+_, _<_, _^_};
+ghost use lib.ListN.{length, getD};
+ghost use Rattle.list_machine.specs.Parts.{Did, Stepped, Ran, Sought, Followed, firstMachine, firstPlace, startsHere, runsOn, haltedAt};
+use list_definitions::Counts;
+use list_definitions::ListScanned;
+
+// What each instruction changes.
+pub struct Machine {
+    pub accumulator: bool,
+    pub index: usize,
+    pub counts: Counts,
+}
+
+// Where a scan stands among the records: at an index, with the first record that does not begin before it; `entered` is 1 where that
+// record begins there, and else 0.
+pub struct Place {
+    pub index: usize,
+    pub next: usize,
+    pub entered: u32,
+}
+
+// Accumulator and index after an instruction.
+pub struct Effect {
+    pub accumulator: bool,
+    pub index: usize,
+}
+
+// What an instruction does, from the accumulator before it and the index after it where it does not jump.
+fn carry_out(word: u32, accumulator: bool, following: usize, table: &mut [u8]) -> Effect
+    ensures { λ r. ⌜ Did word accumulator following (now (table .entry)) r (now (table .exit)) ⌝ }
+{
+    let op = word / rungs::OPERANDS;
+    let operand = (word % rungs::OPERANDS) as usize;
+    match op {
+        list_ops::LD => Effect {
+            accumulator: table::value(table, operand),
+            index: following,
+        },
+        list_ops::LDN => Effect {
+            accumulator: !table::value(table, operand),
+            index: following,
+        },
+        list_ops::ST => {
+            table::write(table, operand, accumulator);
+            Effect {
+                accumulator,
+                index: following,
+            }
+        }
+        list_ops::STN => {
+            table::write(table, operand, !accumulator);
+            Effect {
+                accumulator,
+                index: following,
+            }
+        }
+        list_ops::AND => Effect {
+            accumulator: accumulator & table::value(table, operand),
+            index: following,
+        },
+        list_ops::ANDN => Effect {
+            accumulator: accumulator & !table::value(table, operand),
+            index: following,
+        },
+        list_ops::OR => Effect {
+            accumulator: accumulator | table::value(table, operand),
+            index: following,
+        },
+        list_ops::ORN => Effect {
+            accumulator: accumulator | !table::value(table, operand),
+            index: following,
+        },
+        list_ops::XOR => Effect {
+            accumulator: accumulator ^ table::value(table, operand),
+            index: following,
+        },
+        list_ops::XORN => Effect {
+            accumulator: accumulator ^ !table::value(table, operand),
+            index: following,
+        },
+        list_ops::NOT => Effect {
+            accumulator: !accumulator,
+            index: following,
+        },
+        list_ops::JMP => Effect {
+            accumulator,
+            index: operand,
+        },
+        list_ops::JMPC => {
+            if accumulator {
+                Effect {
+                    accumulator,
+                    index: operand,
+                }
+            } else {
+                Effect {
+                    accumulator,
+                    index: following,
+                }
+            }
+        }
+        // JMPCN, the one op left.
+        _ => {
+            if accumulator {
+                Effect {
+                    accumulator,
+                    index: following,
+                }
+            } else {
+                Effect {
+                    accumulator,
+                    index: operand,
+                }
+            }
+        }
+    }
+}
+
+// The machine after the instruction at its index; `entered` is 1 where it stands at a record's offset, and else 0.
+fn stepped(m: Machine, code: &[u32], entered: u32, table: &mut [u8]) -> Machine
+    requires { ⌜ (m .index < length (now code)) × (m .counts .instructions + 1 < 2 ^ 32) × (m .counts .rungs + entered < 2 ^ 32) ⌝ }
+    ensures { λ r. ⌜ Stepped (getD (now (code .entry)) (m .index) 0) entered m (now (table .entry)) r (now (table .exit)) ⌝ }
+{
+    let counts = m.counts;
+    let index = m.index;
+    let effect = carry_out(code[index], m.accumulator, index + 1, table);
+    Machine {
+        accumulator: effect.accumulator,
+        index: effect.index,
+        counts: Counts {
+            instructions: counts.instructions + 1,
+            rungs: counts.rungs + entered,
+        },
+    }
+}
+
+// One instruction changes the machine: it is taken out, stepped and put back.
+pub fn step(m: &mut Machine, code: &[u32], entered: u32, table: &mut [u8])
+    requires { ⌜ (now m .index < length (now code)) × (now m .counts .instructions + 1 < 2 ^ 32)
+        × (now m .counts .rungs + entered < 2 ^ 32) ⌝ }
+    ensures { λ _. ⌜ Stepped (getD (now (code .entry)) (now (m .entry) .index) 0) entered (now (m .entry)) (now (table .entry))
+        (now (m .exit)) (now (table .exit)) ⌝ }
+{
+    *m = stepped(*m, code, entered, table);
+}
+
+// 1 where the record `next` begins at the index, and else 0.
+fn starts_here(offsets: &[u32], next: usize, index: usize) -> u32
+    ensures { λ r. ⌜ r ≡ startsHere (now (offsets .entry)) next index ⌝ }
+{
+    if next < offsets.len() {
+        if offsets[next] as usize == index {
+            return 1;
+        }
+    }
+    0
+}
+
+// The first record that does not begin before the index.
+fn seek(offsets: &[u32], index: usize) -> usize
+    ensures { λ r. ⌜ Sought (now (offsets .entry)) index r ⌝ }
+{
+    let mut low: usize = 0;
+    let mut high: usize = offsets.len();
+    while low < high {
+        let middle = low + (high - low) / 2;
+        if (offsets[middle] as usize) < index {
+            low = middle + 1;
+        } else {
+            high = middle;
+        }
+    }
+    low
+}
+
+// The place at the index after it.
+fn follow(offsets: &[u32], place: Place, index: usize) -> Place
+    requires { ⌜ (place .index + 1 < 2 ^ 64) × (place .next + place .entered < 2 ^ 64) ⌝ }
+    ensures { λ r. ⌜ Followed (now (offsets .entry)) place index r ⌝ }
+{
+    if index == place.index + 1 {
+        let next = place.next + place.entered as usize;
+        return Place {
+            index,
+            next,
+            entered: starts_here(offsets, next, index),
+        };
+    }
+    let next = seek(offsets, index);
+    Place {
+        index,
+        next,
+        entered: starts_here(offsets, next, index),
+    }
+}
+
+// The machine before the first instruction.
+pub fn first_machine() -> Machine
+    ensures { λ r. ⌜ r ≡ firstMachine ⌝ }
+{
+    Machine {
+        accumulator: false,
+        index: 0,
+        counts: Counts {
+            instructions: 0,
+            rungs: 0,
+        },
+    }
+}
+
+// Whether there is an instruction to carry out: the machine is before the end, and the watchdog has not come.
+pub fn runs_on(m: Machine, end: usize, watchdog: u32) -> bool
+    ensures { λ r. ⌜ r ≡ runsOn end watchdog m ⌝ }
+{
+    if end <= m.index {
+        return false;
+    }
+    let counts = m.counts;
+    counts.instructions != watchdog
+}
+
+// The answer of a machine that does not run on: at the end, Ended, and else Stopped.
+pub fn halted_at(m: Machine, end: usize) -> ListScanned
+    ensures { λ r. ⌜ r ≡ haltedAt end m ⌝ }
+{
+    let counts = m.counts;
+    if end <= m.index {
+        return ListScanned::Ended(counts);
+    }
+    ListScanned::Stopped(counts)
+}
+
+// The place at index 0.
+fn first_place(offsets: &[u32]) -> Place
+    ensures { λ r. ⌜ r ≡ firstPlace (now (offsets .entry)) ⌝ }
+{
+    Place {
+        index: 0,
+        next: 0,
+        entered: starts_here(offsets, 0, 0),
+    }
+}
+
+// A scan with a watchdog. Each instruction changes the machine, which is lent to `step`.
+pub fn run(code: &[u32], offsets: &[u32], table: &mut [u8], watchdog: u32) -> ListScanned
+    ensures { λ r. ⌜ Ran (now (code .entry)) (now (offsets .entry)) (now (table .entry)) watchdog r (now (table .exit)) ⌝ }
+{
+    let mut m = first_machine();
+    let mut place = first_place(offsets);
+    while runs_on(m, code.len(), watchdog) {
+        step(&mut m, code, place.entered, table);
+        place = follow(offsets, place, m.index);
+    }
+    halted_at(m, code.len())
+}

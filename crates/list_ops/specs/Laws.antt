@@ -1,0 +1,2 @@
+-- Laws of the definitions. No contract cites these modules.
+pub mod Sorts

@@ -1,0 +1,96 @@
+-- Sorts of operands by tests of an op's number, and words in range by the sort of their op. Assumes nothing.
+use Prim.Native.Nat.{ℕ, zero, suc, _≤_}
+use native.Mathlib.Omega.{arith}
+use native.Mathlib.Decide.{ℕ-discrete, decLe}
+use mathlib.Core.Path.{_≡_, refl, sym, _∙_}
+use mathlib.Core.Bool.{Bool, false}
+use mathlib.Core.Option.{Option, none, some}
+use lib.Dec.{eqb, leb, ltb, eqb·suc-zero}
+use lib.ListN.{getD, List·getD-eq-default}
+use Rattle.rungs.specs.Words.{numberOf, operandOf}
+use Rattle.list_definitions.specs.Instruction.{Instr, operand, noOp, onlyNot, ops, decodeInstr, OperandSort, tableSort, nothingSort, instructionSort, noSort, sortOf, operandSort}
+use Rattle.list_definitions.specs.Questions.{operandInRange, instrInRange, wordInRange}
+use Rattle.list_ops.specs.Sorts.{sortIn}
+use Rattle.list_ops.specs.declared.OperandSort.{OperandSort as OperandSortCase}
+
+pub table-sort : (k : ℕ) → 1 ≤ k → k ≤ 10 → tableSort ≡ operandSort k
+unfolding operandSort ops operand sortOf
+table-sort zero l h = absurd (omega arith)
+table-sort (suc zero) l h = refl
+table-sort (suc (suc zero)) l h = refl
+table-sort (suc (suc (suc zero))) l h = refl
+table-sort (suc (suc (suc (suc zero)))) l h = refl
+table-sort (suc (suc (suc (suc (suc zero))))) l h = refl
+table-sort (suc (suc (suc (suc (suc (suc zero)))))) l h = refl
+table-sort (suc (suc (suc (suc (suc (suc (suc zero))))))) l h = refl
+table-sort (suc (suc (suc (suc (suc (suc (suc (suc zero)))))))) l h = refl
+table-sort (suc (suc (suc (suc (suc (suc (suc (suc (suc zero))))))))) l h = refl
+table-sort (suc (suc (suc (suc (suc (suc (suc (suc (suc (suc zero)))))))))) l h = refl
+table-sort (suc (suc (suc (suc (suc (suc (suc (suc (suc (suc (suc k))))))))))) l h = absurd (omega arith)
+
+pub instruction-sort : (k : ℕ) → 12 ≤ k → k ≤ 14 → instructionSort ≡ operandSort k
+unfolding operandSort ops operand sortOf
+instruction-sort k l h = go (ℕ-discrete k 12) (ℕ-discrete k 13)
+  where
+    go : Dec (k ≡ 12) → Dec (k ≡ 13) → instructionSort ≡ operandSort k
+    go (yes e) d = rw e refl
+    go (no e) (yes f) = rw f refl
+    go (no e) (no f) = let g : k ≡ 14 = omega arith in rw g refl
+
+-- before the first op and past the last there is no sort
+pub no-sort : (k : ℕ) → (1 ≤ k → k ≤ 14 → ⊥) → noSort ≡ operandSort k
+unfolding operandSort ops
+no-sort zero h = refl
+no-sort (suc k) h = go (decLe (suc k) 14)
+  where
+    go : Dec (suc k ≤ 14) → noSort ≡ operandSort (suc k)
+    go (yes l) = absurd (h (omega arith) l)
+    go (no l) = rw (List·getD-eq-default ops noOp {n = suc k} (omega arith), operandSort)
+
+-- an answer that is known to be one case
+pub sort-told : {r x : OperandSortCase} {s : OperandSort} → sortIn r ≡ s → r ≡ x → sortIn x ≡ s
+sort-told e q = rw q at e
+
+-- ---- words in range
+
+-- a number that is an operand of a sort
+unfoldable pub sortInRange : ℕ → ℕ → OperandSort → ℕ → Bool
+sortInRange size n tableSort x = ltb x size
+sortInRange size n nothingSort x = eqb x 0
+sortInRange size n instructionSort x = leb x n
+sortInRange size n noSort x = false
+
+rangeBy : ℕ → ℕ → Option Instr → Bool
+rangeBy size n none = false
+rangeBy size n (some i) = instrInRange size n i
+
+of-op : (size n k x : ℕ) → rangeBy size n (getD ops k noOp x) ≡ sortInRange size n (operandSort k) x
+unfolding rangeBy sortInRange operandSort ops onlyNot operand sortOf operandInRange
+of-op size n zero x = refl
+of-op size n (suc zero) x = refl
+of-op size n (suc (suc zero)) x = refl
+of-op size n (suc (suc (suc zero))) x = refl
+of-op size n (suc (suc (suc (suc zero)))) x = refl
+of-op size n (suc (suc (suc (suc (suc zero))))) x = refl
+of-op size n (suc (suc (suc (suc (suc (suc zero)))))) x = refl
+of-op size n (suc (suc (suc (suc (suc (suc (suc zero))))))) x = refl
+of-op size n (suc (suc (suc (suc (suc (suc (suc (suc zero)))))))) x = refl
+of-op size n (suc (suc (suc (suc (suc (suc (suc (suc (suc zero))))))))) x = refl
+of-op size n (suc (suc (suc (suc (suc (suc (suc (suc (suc (suc zero)))))))))) x = refl
+of-op size n (suc (suc (suc (suc (suc (suc (suc (suc (suc (suc (suc zero))))))))))) zero = refl
+of-op size n (suc (suc (suc (suc (suc (suc (suc (suc (suc (suc (suc zero))))))))))) (suc x) = sym (eqb·suc-zero x)
+of-op size n (suc (suc (suc (suc (suc (suc (suc (suc (suc (suc (suc (suc zero)))))))))))) x = refl
+of-op size n (suc (suc (suc (suc (suc (suc (suc (suc (suc (suc (suc (suc (suc zero))))))))))))) x = refl
+of-op size n (suc (suc (suc (suc (suc (suc (suc (suc (suc (suc (suc (suc (suc (suc zero)))))))))))))) x = refl
+of-op size n (suc (suc (suc (suc (suc (suc (suc (suc (suc (suc (suc (suc (suc (suc (suc k))))))))))))))) x = refl
+
+pub word-by-sort : (size n w : ℕ) → wordInRange size n w ≡ sortInRange size n (operandSort (numberOf w)) (operandOf w)
+unfolding wordInRange decodeInstr rangeBy
+word-by-sort size n w = go (decodeInstr w) refl ∙ of-op size n (numberOf w) (operandOf w)
+  where
+    go : (o : Option Instr) → decodeInstr w ≡ o → wordInRange size n w ≡ rangeBy size n (decodeInstr w)
+    go none e = rw (e, wordInRange)
+    go (some i) e = rw (e, wordInRange)
+
+pub word-told : (size n w : ℕ) {r x : OperandSortCase} → sortIn r ≡ operandSort (numberOf w) → r ≡ x → sortInRange size n (sortIn x) (operandOf w) ≡ wordInRange size n w
+word-told size n w e q = rw (sort-told e q) (sym (word-by-sort size n w))

@@ -1,0 +1,91 @@
+-- `list::print::put_name` meets its contract. The loop's invariant: what is left of the name, over what is written, is the whole name. Assumes nothing.
+use Prim.Native.Nat.{_-_}
+use native.Mathlib.Omega.{arith}
+use Rattle.questions.specs.Bytes.{bytes}
+use Rattle.list_definitions.specs.Listing.{fixedNames, nameOf}
+use Rattle.list_printing.proofs.Printed.{Naming, name-row, naming-start, naming-stop, naming-end, naming-more}
+use Rattle.list_printing.proofs.put_name.Statement.{statement}
+use Rattle.list_printing.proofs.put_name.Tie as tie
+
+abbrev Inv-loop : tie.InvT-loop
+Inv-loop out₀ at op name k₀ out k = Naming out₀ at name out k
+
+abbrev μ-loop : tie.MeasureT-loop
+μ-loop out₀ at op name k₀ out k = 6 - k
+
+sub-name : tie.Need-sub-name Inv-loop μ-loop
+sub-name c = omega arith
+
+mul-name : tie.Need-mul-name Inv-loop μ-loop
+unfolding fixedNames bytes
+mul-name c = omega arith
+
+array-copy-out-name : tie.Need-array-copy-out-name Inv-loop μ-loop
+unfolding fixedNames bytes
+array-copy-out-name c = omega arith
+
+loop-holds : tie.Need-loop-holds Inv-loop μ-loop
+unfolding fixedNames bytes
+loop-holds c = naming-start _ _ _ (name-row (c .before .before .args .op - 1))
+
+array-read-b : tie.Need-array-read-b Inv-loop μ-loop
+array-read-b c = omega arith
+
+add-result : tie.Need-add-result Inv-loop μ-loop
+add-result c = omega arith
+
+same-length : tie.Need-same-length Inv-loop μ-loop
+same-length c = c .before .before .loop .inv .left .long
+
+returns : tie.Need-returns Inv-loop μ-loop
+unfolding nameOf fixedNames bytes
+returns c = naming-stop (c .before .before .loop .inv) (c .if1 .taken)
+
+add-put-byte : tie.Need-add-put-byte Inv-loop μ-loop
+add-put-byte c = omega arith
+
+put-byte-requires : tie.Need-put-byte-requires Inv-loop μ-loop
+put-byte-requires c κs = omega arith
+
+add-k : tie.Need-add-k Inv-loop μ-loop
+add-k c = omega arith
+
+loop-less : tie.Need-loop-less Inv-loop μ-loop
+loop-less c = omega arith
+
+loop-again : tie.Need-loop-again Inv-loop μ-loop
+loop-again c =
+    naming-more (c .before .before .before .before .before .before .loop .inv) (c .before .before .before .before .before .loop-test .taken) (c .before .before .before .before .if1 .left) (c .before .before .put-byte .ensures)
+
+add-result-2 : tie.Need-add-result-2 Inv-loop μ-loop
+add-result-2 c = omega arith
+
+same-length-2 : tie.Need-same-length-2 Inv-loop μ-loop
+same-length-2 c = c .before .loop .inv .left .long
+
+returns-2 : tie.Need-returns-2 Inv-loop μ-loop
+unfolding nameOf fixedNames bytes
+returns-2 c = naming-end (c .before .loop .inv) (c .loop-test .left)
+
+pub put-name-spec : {M : Type 1} → statement M
+put-name-spec =
+    tie.close
+    (tie.spec
+    Inv-loop
+    μ-loop
+    sub-name
+    mul-name
+    array-copy-out-name
+    loop-holds
+    array-read-b
+    add-result
+    same-length
+    returns
+    add-put-byte
+    put-byte-requires
+    add-k
+    loop-less
+    loop-again
+    add-result-2
+    same-length-2
+    returns-2)

@@ -1,0 +1,146 @@
+// The printed list. Each function writes its text from `at` on and gives the position after it; past the buffer's end nothing is
+// written, so that the same functions count the bytes, over a buffer of none.
+ghost use Prim.Native.Nat.{_≤_, _<_};
+ghost use mathlib.Core.List.{_∷_};
+ghost use lib.Dec.{T};
+ghost use lib.ListN.{length};
+ghost use lib.Seq.{slice};
+ghost use Rattle.questions.specs.Bytes.{byte, decimal};
+ghost use Rattle.rungs.specs.Words.{operands};
+ghost use Rattle.rungs.specs.Records.{rowOf};
+ghost use Rattle.list_definitions.specs.Questions.{listInRange};
+ghost use Rattle.list_definitions.specs.ListScan.{listOf};
+ghost use Rattle.list_definitions.specs.Listing.{fixedNames, nameOf, labelLine, ended, listingText};
+ghost use Rattle.printing.specs.Put.{Put};
+ghost use Rattle.list_definitions.specs.Laws.Words.{Decodes};
+ghost use Rattle.list_printing.specs.Parts.{operandBy, wordLine, wordLines, RungReady};
+use list_ops::OperandSort;
+
+// Six bytes a name, filled with zeros, by op from 1.
+const NAMES: [[u8; 6]; 14] = [
+    [b'L', b'D', 0, 0, 0, 0],
+    [b'L', b'D', b'N', 0, 0, 0],
+    [b'S', b'T', 0, 0, 0, 0],
+    [b'S', b'T', b'N', 0, 0, 0],
+    [b'A', b'N', b'D', 0, 0, 0],
+    [b'A', b'N', b'D', b'N', 0, 0],
+    [b'O', b'R', 0, 0, 0, 0],
+    [b'O', b'R', b'N', 0, 0, 0],
+    [b'X', b'O', b'R', 0, 0, 0],
+    [b'X', b'O', b'R', b'N', 0, 0],
+    [b'N', b'O', b'T', 0, 0, 0],
+    [b'J', b'M', b'P', 0, 0, 0],
+    [b'J', b'M', b'P', b'C', 0, 0],
+    [b'J', b'M', b'P', b'C', b'N', 0],
+];
+
+// The name of an op, up to its filling.
+fn put_name(out: &mut [u8], at: usize, op: usize) -> usize
+    requires { ⌜ (at < 800000) × (1 ≤ op) × (op ≤ length fixedNames) ⌝ }
+    ensures { λ r. ⌜ Put (now (out .entry)) at (nameOf fixedNames op) r (now (out .exit)) ⌝ }
+{
+    let name = NAMES[op - 1];
+    let mut k: usize = 0;
+    while k < 6 {
+        let b = name[k];
+        if b == 0 {
+            return at + k;
+        }
+        printing::put_byte(out, at + k, b);
+        k += 1;
+    }
+    at + k
+}
+
+// A space, a letter and a number.
+fn put_index(out: &mut [u8], at: usize, letter: u8, number: usize) -> usize
+    requires { ⌜ (at < 700000) × (number < operands) ⌝ }
+    ensures { λ r. ⌜ Put (now (out .entry)) at (byte " " ∷ letter ∷ decimal number) r (now (out .exit)) ⌝ }
+{
+    let space = printing::put_byte(out, at, b' ');
+    let sign = printing::put_byte(out, space, letter);
+    printing::put_number(out, sign, number)
+}
+
+// A space, and the operand of an op with its letter; nothing where the op takes none.
+fn put_operand(out: &mut [u8], at: usize, vars: u32, op: u32, operand: u32) -> usize
+    requires { ⌜ (at < 700000) × (operand < operands) ⌝ }
+    ensures { λ r. ⌜ Put (now (out .entry)) at (operandBy vars op operand) r (now (out .exit)) ⌝ }
+{
+    match list_ops::operand_sort(op) {
+        OperandSort::Table => {
+            if operand < vars {
+                return put_index(out, at, b'v', operand as usize);
+            }
+            put_index(out, at, b't', (operand - vars) as usize)
+        }
+        OperandSort::Nothing => at,
+        OperandSort::Instruction => put_index(out, at, b'@', operand as usize),
+        OperandSort::NoOp => at,
+    }
+}
+
+// The line of an instruction.
+fn put_instruction(out: &mut [u8], at: usize, vars: u32, word: u32) -> usize
+    requires { ⌜ (at < 600000) × Decodes word ⌝ }
+    ensures { λ r. ⌜ Put (now (out .entry)) at (wordLine vars word) r (now (out .exit)) ⌝ }
+{
+    let op = word / rungs::OPERANDS;
+    let operand = word % rungs::OPERANDS;
+    let name = put_name(out, at, op as usize);
+    let end = put_operand(out, name, vars, op, operand);
+    printing::put_byte(out, end, b'\n')
+}
+
+// The line of a label.
+fn put_label(out: &mut [u8], at: usize, label: u16) -> usize
+    requires { ⌜ at < 600000 ⌝ }
+    ensures { λ r. ⌜ Put (now (out .entry)) at (ended (labelLine label)) r (now (out .exit)) ⌝ }
+{
+    let sign = printing::put_byte(out, at, b'L');
+    let number = printing::put_number(out, sign, label as usize);
+    let colon = printing::put_byte(out, number, b':');
+    printing::put_byte(out, colon, b'\n')
+}
+
+// The lines of the instructions from one index up to another.
+fn put_rung(out: &mut [u8], at: usize, vars: u32, code: &[u32], from: usize, to: usize) -> usize
+    requires { ⌜ RungReady vars (now code) from to at ⌝ }
+    ensures { λ r. ⌜ Put (now (out .entry)) at (wordLines vars (slice from to (now (code .entry)))) r (now (out .exit)) ⌝ }
+{
+    let mut end = at;
+    let mut i = from;
+    while i < to {
+        end = put_instruction(out, end, vars, code[i]);
+        i += 1;
+    }
+    end
+}
+
+// The whole listing.
+pub fn put_list(
+    vars: u32,
+    code: &[u32],
+    labels: &[u16],
+    offsets: &[u32],
+    lengths: &[u32],
+    out: &mut [u8],
+) -> usize
+    requires { ⌜ T (listInRange vars (now code) (rowOf (now labels) (now offsets) (now lengths))) ⌝ }
+    ensures { λ r. ⌜ Put (now (out .entry)) 0
+        (listingText fixedNames vars (listOf (now (code .entry))
+        (rowOf (now (labels .entry)) (now (offsets .entry)) (now (lengths .entry)))))
+        r (now (out .exit)) ⌝ }
+{
+    let mut end: usize = 0;
+    let mut start: usize = 0;
+    let mut k: usize = 0;
+    while k < labels.len() {
+        end = put_label(out, end, labels[k]);
+        let next = start + lengths[k] as usize;
+        end = put_rung(out, end, vars, code, start, next);
+        start = next;
+        k += 1;
+    }
+    end
+}

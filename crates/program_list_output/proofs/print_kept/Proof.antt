@@ -1,0 +1,106 @@
+-- `printout::print_kept` meets its contract: by Translate's answer, the refusal's line, or what the list prints. Assumes nothing.
+use Prim.Native.Nat.{_≤_}
+use native.Mathlib.Omega.{arith}
+use mathlib.Core.Path.{sym}
+use lib.Seq.{length-take-le}
+use Rattle.program_list_output.proofs.Prints.{kept-refused, kept-room, kept-listed}
+use borrow.Author.Needs.{needs}
+use Rattle.program_list_output.proofs.print_kept.Statement.{statement}
+use Rattle.program_list_output.proofs.print_kept.Tie as tie
+
+-- what was written has room
+room : (c : tie.After-counts) → (c .counts .given .0 .0 .instructions ≤ 16384) × (c .counts .given .0 .0 .rungs ≤ 256)
+room c = kept-room _ _ (c .before .before .before .before .before .before .translate .ensures) _ (c .counts .given .1)
+
+slice-aggregate-translate : tie.Need-slice-aggregate-translate
+slice-aggregate-translate c = search needs
+
+slice-aggregate-translate-2 : tie.Need-slice-aggregate-translate-2
+slice-aggregate-translate-2 c = search needs
+
+slice-aggregate-translate-3 : tie.Need-slice-aggregate-translate-3
+slice-aggregate-translate-3 c = search needs
+
+slice-aggregate-translate-4 : tie.Need-slice-aggregate-translate-4
+slice-aggregate-translate-4 c = search needs
+
+translate-requires : tie.Need-translate-requires
+translate-requires c κs = search needs
+
+enum-known-refusal : tie.Need-enum-known-refusal
+enum-known-refusal c = search needs
+
+put-refusal-requires : tie.Need-put-refusal-requires
+put-refusal-requires c κs = search needs
+
+enum-known-counts : tie.Need-enum-known-counts
+enum-known-counts c = search needs
+
+array-share-prefix-code : tie.Need-array-share-prefix-code
+array-share-prefix-code c = omega (arith, room (c .before) .0, c .before .before .before .before .before .before .code2 .given)
+
+slice-aggregate-print-list : tie.Need-slice-aggregate-print-list
+slice-aggregate-print-list c = sym (length-take-le _ _ (omega (arith, room (c .before .before) .0, c .before .before .before .before .before .before .before .code2 .given)))
+
+array-share-prefix-code-labels : tie.Need-array-share-prefix-code-labels
+array-share-prefix-code-labels c = omega (arith, room (c .before .before) .1, c .before .before .before .before .before .before .code-labels2 .given)
+
+slice-aggregate-print-list-2 : tie.Need-slice-aggregate-print-list-2
+slice-aggregate-print-list-2 c = sym (length-take-le _ _ (omega (arith, room (c .before .before .before) .1, c .before .before .before .before .before .before .before .code-labels2 .given)))
+
+array-share-prefix-code-offsets : tie.Need-array-share-prefix-code-offsets
+array-share-prefix-code-offsets c = omega (arith, room (c .before .before .before) .1, c .before .before .before .before .before .before .code-offsets2 .given)
+
+slice-aggregate-print-list-3 : tie.Need-slice-aggregate-print-list-3
+slice-aggregate-print-list-3 c = sym (length-take-le _ _ (omega (arith, room (c .before .before .before .before) .1, c .before .before .before .before .before .before .before .code-offsets2 .given)))
+
+array-share-prefix-code-lengths : tie.Need-array-share-prefix-code-lengths
+array-share-prefix-code-lengths c = omega (arith, room (c .before .before .before .before) .1, c .before .before .before .before .before .before .code-lengths2 .given)
+
+slice-aggregate-print-list-4 : tie.Need-slice-aggregate-print-list-4
+slice-aggregate-print-list-4 c = sym (length-take-le _ _ (omega (arith, room (c .before .before .before .before .before) .1, c .before .before .before .before .before .before .before .code-lengths2 .given)))
+
+print-list-requires : tie.Need-print-list-requires
+print-list-requires c κs = search needs
+
+same-length : tie.Need-same-length
+same-length c = search needs
+
+returns : tie.Need-returns
+returns c =
+    kept-refused _ _ (c .before .before .before .before .before .before .before .before .before .before .before .translate .ensures) _
+    (c .before .before .before .before .before .refusal .given .1) (c .before .before .put-refusal .ensures)
+
+same-length-2 : tie.Need-same-length-2
+same-length-2 c = search needs
+
+returns-2 : tie.Need-returns-2
+returns-2 c =
+    kept-listed _ _ (c .before .before .before .before .before .before .before .before .before .before .before .before .before .before .before .translate .ensures) _
+    (c .before .before .before .before .before .before .before .before .before .counts .given .1) (c .before .before .print-list .ensures)
+
+pub print-kept-spec : {M : Type 1} → statement M
+print-kept-spec =
+    tie.close
+    (tie.spec
+    slice-aggregate-translate
+    slice-aggregate-translate-2
+    slice-aggregate-translate-3
+    slice-aggregate-translate-4
+    translate-requires
+    enum-known-refusal
+    put-refusal-requires
+    enum-known-counts
+    array-share-prefix-code
+    slice-aggregate-print-list
+    array-share-prefix-code-labels
+    slice-aggregate-print-list-2
+    array-share-prefix-code-offsets
+    slice-aggregate-print-list-3
+    array-share-prefix-code-lengths
+    slice-aggregate-print-list-4
+    print-list-requires
+    same-length
+    returns
+    same-length-2
+    returns-2)

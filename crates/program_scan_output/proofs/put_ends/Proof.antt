@@ -1,0 +1,162 @@
+-- `scanout::put_ends` meets its contract: the parts of the lines, one after the other. Assumes nothing.
+use Prim.Native.Nat.{_≤_}
+use native.Mathlib.Omega.{arith}
+use Rattle.questions.specs.Bytes.{bytes}
+use Rattle.printing.specs.Laws.Puts.{put-long}
+use Rattle.program_list_output.proofs.Refusals.{text-reach, number-reach}
+use Rattle.program_scan_output.proofs.Printing.{word-long, ends-put}
+use Rattle.program_scan_output.specs.Parts.{countsIn}
+use borrow.Author.Needs.{needs}
+use Rattle.program_scan_output.proofs.put_ends.Statement.{statement}
+use Rattle.program_scan_output.proofs.put_ends.Tie as tie
+
+-- how far each part of the line reaches
+reach-1 : (c : tie.After-put-text) → c .put-text .result ≤ 21
+reach-1 c = text-reach 21 0 (c .put-text .ensures) (omega arith) (omega arith)
+
+reach-2 : (c : tie.After-put-end) → c .put-end .result ≤ 28
+reach-2 c = text-reach 7 21 (c .put-end .ensures) (word-long _) (reach-1 (c .before .before .before .before))
+
+reach-3 : (c : tie.After-put-text2) → c .put-text2 .result ≤ 29
+reach-3 c = text-reach 1 28 (c .put-text2 .ensures) (omega arith) (reach-2 (c .before .before .before .before .before))
+
+reach-4 : (c : tie.After-put-end2) → c .put-end2 .result ≤ 36
+reach-4 c = text-reach 7 29 (c .put-end2 .ensures) (word-long _) (reach-3 (c .before .before .before .before))
+
+reach-5 : (c : tie.After-put-text3) → c .put-text3 .result ≤ 43
+reach-5 c = text-reach 7 36 (c .put-text3 .ensures) (omega arith) (reach-4 (c .before .before .before .before .before))
+
+reach-6 : (c : tie.After-put-number) → c .put-number .result ≤ 63
+reach-6 c = number-reach _ 43 (c .put-number .ensures) (omega (arith, c .before .before .before .before .before .before .before .before .before .before .before .before .before .before .before .before .before .before .before .before .before .before .before .before .before .before .before .good .1 .0 .1 .1 .1 .0 .1)) (reach-5 (c .before .before .before .before .before))
+
+reach-7 : (c : tie.After-put-text4) → c .put-text4 .result ≤ 64
+reach-7 c = text-reach 1 63 (c .put-text4 .ensures) (omega arith) (reach-6 (c .before .before .before .before .before))
+
+reach-8 : (c : tie.After-put-number2) → c .put-number2 .result ≤ 84
+reach-8 c = number-reach _ 64 (c .put-number2 .ensures) (omega (arith, c .before .before .before .before .before .before .before .before .before .before .before .before .before .before .before .before .before .before .before .before .before .before .before .before .before .before .before .before .before .before .before .before .before .before .before .before .before .good .1 .1 .0 .1 .1 .1 .0 .1)) (reach-7 (c .before .before .before .before .before))
+
+reach-9 : (c : tie.After-put-text5) → c .put-text5 .result ≤ 100
+reach-9 c = text-reach 16 84 (c .put-text5 .ensures) (omega arith) (reach-8 (c .before .before .before .before .before))
+
+reach-10 : (c : tie.After-put-number3) → c .put-number3 .result ≤ 120
+reach-10 c = number-reach _ 100 (c .put-number3 .ensures) (omega (arith, c .before .before .before .before .before .before .before .before .before .before .before .before .before .before .before .before .before .before .before .before .before .before .before .before .before .before .before .before .before .before .before .before .before .before .before .before .before .before .before .before .before .before .before .before .before .before .before .good .1 .1 .0 .1 .1 .1 .1 .0 .1)) (reach-9 (c .before .before .before .before .before))
+
+slice-aggregate-put-text : tie.Need-slice-aggregate-put-text
+slice-aggregate-put-text c = search needs
+
+put-text-requires : tie.Need-put-text-requires
+put-text-requires c κs = search needs
+
+put-end-requires : tie.Need-put-end-requires
+put-end-requires c κs = let h = reach-1 (c .before .before .before) in omega arith
+
+slice-aggregate-put-text-2 : tie.Need-slice-aggregate-put-text-2
+slice-aggregate-put-text-2 c = search needs
+
+put-text-requires-2 : tie.Need-put-text-requires-2
+put-text-requires-2 c κs = let h = reach-2 (c .before .before .before .before) in (omega arith, omega arith)
+
+put-end-requires-2 : tie.Need-put-end-requires-2
+put-end-requires-2 c κs = let h = reach-3 (c .before .before .before) in omega arith
+
+slice-aggregate-put-text-3 : tie.Need-slice-aggregate-put-text-3
+slice-aggregate-put-text-3 c = search needs
+
+put-text-requires-3 : tie.Need-put-text-requires-3
+put-text-requires-3 c κs = let h = reach-4 (c .before .before .before .before) in (omega arith, omega arith)
+
+cast-put-number : tie.Need-cast-put-number
+cast-put-number c = search needs
+
+put-number-requires : tie.Need-put-number-requires
+put-number-requires c κs = let h = reach-5 (c .before .before .before .before) in omega arith
+
+slice-aggregate-put-text-4 : tie.Need-slice-aggregate-put-text-4
+slice-aggregate-put-text-4 c = search needs
+
+put-text-requires-4 : tie.Need-put-text-requires-4
+put-text-requires-4 c κs = let h = reach-6 (c .before .before .before .before) in (omega arith, omega arith)
+
+cast-put-number-2 : tie.Need-cast-put-number-2
+cast-put-number-2 c = search needs
+
+put-number-requires-2 : tie.Need-put-number-requires-2
+put-number-requires-2 c κs = let h = reach-7 (c .before .before .before .before) in omega arith
+
+slice-aggregate-put-text-5 : tie.Need-slice-aggregate-put-text-5
+slice-aggregate-put-text-5 c = search needs
+
+put-text-requires-5 : tie.Need-put-text-requires-5
+put-text-requires-5 c κs = let h = reach-8 (c .before .before .before .before) in (omega arith, omega arith)
+
+cast-put-number-3 : tie.Need-cast-put-number-3
+cast-put-number-3 c = search needs
+
+put-number-requires-3 : tie.Need-put-number-requires-3
+put-number-requires-3 c κs = let h = reach-9 (c .before .before .before .before) in omega arith
+
+slice-aggregate-put-text-6 : tie.Need-slice-aggregate-put-text-6
+slice-aggregate-put-text-6 c = search needs
+
+put-text-requires-6 : tie.Need-put-text-requires-6
+put-text-requires-6 c κs = let h = reach-10 (c .before .before .before .before) in (omega arith, omega arith)
+
+same-length : tie.Need-same-length
+unfolding bytes
+same-length c =
+    put-long (ends-put
+    _ _ _ _
+    (c .before .before .before .before .before .before .before .before .before .before .before .before .before .before .before .before .before .before .before .before .before .before .before .before .before .before .before .before .before .before .before .before .before .before .before .before .before .before .before .before .before .before .before .before .before .before .before .before .before .before .put-text .ensures)
+    (c .before .before .before .before .before .before .before .before .before .before .before .before .before .before .before .before .before .before .before .before .before .before .before .before .before .before .before .before .before .before .before .before .before .before .before .before .before .before .before .before .before .before .before .before .before .before .put-end .ensures)
+    (c .before .before .before .before .before .before .before .before .before .before .before .before .before .before .before .before .before .before .before .before .before .before .before .before .before .before .before .before .before .before .before .before .before .before .before .before .before .before .before .before .before .put-text2 .ensures)
+    (c .before .before .before .before .before .before .before .before .before .before .before .before .before .before .before .before .before .before .before .before .before .before .before .before .before .before .before .before .before .before .before .before .before .before .before .before .before .put-end2 .ensures)
+    (c .before .before .before .before .before .before .before .before .before .before .before .before .before .before .before .before .before .before .before .before .before .before .before .before .before .before .before .before .before .before .before .before .put-text3 .ensures)
+    (c .before .before .before .before .before .before .before .before .before .before .before .before .before .before .before .before .before .before .before .before .before .before .before .before .before .before .before .put-number .ensures)
+    (c .before .before .before .before .before .before .before .before .before .before .before .before .before .before .before .before .before .before .before .before .before .before .put-text4 .ensures)
+    (c .before .before .before .before .before .before .before .before .before .before .before .before .before .before .before .before .before .put-number2 .ensures)
+    (c .before .before .before .before .before .before .before .before .before .before .before .before .put-text5 .ensures)
+    (c .before .before .before .before .before .before .before .put-number3 .ensures)
+    (c .before .before .put-text6 .ensures))
+
+returns : tie.Need-returns
+unfolding bytes countsIn
+returns c =
+    ends-put _ _ _ _
+    (c .before .before .before .before .before .before .before .before .before .before .before .before .before .before .before .before .before .before .before .before .before .before .before .before .before .before .before .before .before .before .before .before .before .before .before .before .before .before .before .before .before .before .before .before .before .before .before .before .before .before .put-text .ensures)
+    (c .before .before .before .before .before .before .before .before .before .before .before .before .before .before .before .before .before .before .before .before .before .before .before .before .before .before .before .before .before .before .before .before .before .before .before .before .before .before .before .before .before .before .before .before .before .before .put-end .ensures)
+    (c .before .before .before .before .before .before .before .before .before .before .before .before .before .before .before .before .before .before .before .before .before .before .before .before .before .before .before .before .before .before .before .before .before .before .before .before .before .before .before .before .before .put-text2 .ensures)
+    (c .before .before .before .before .before .before .before .before .before .before .before .before .before .before .before .before .before .before .before .before .before .before .before .before .before .before .before .before .before .before .before .before .before .before .before .before .before .put-end2 .ensures)
+    (c .before .before .before .before .before .before .before .before .before .before .before .before .before .before .before .before .before .before .before .before .before .before .before .before .before .before .before .before .before .before .before .before .put-text3 .ensures)
+    (c .before .before .before .before .before .before .before .before .before .before .before .before .before .before .before .before .before .before .before .before .before .before .before .before .before .before .before .put-number .ensures)
+    (c .before .before .before .before .before .before .before .before .before .before .before .before .before .before .before .before .before .before .before .before .before .before .put-text4 .ensures)
+    (c .before .before .before .before .before .before .before .before .before .before .before .before .before .before .before .before .before .put-number2 .ensures)
+    (c .before .before .before .before .before .before .before .before .before .before .before .before .put-text5 .ensures)
+    (c .before .before .before .before .before .before .before .put-number3 .ensures)
+    (c .before .before .put-text6 .ensures)
+
+pub put-ends-spec : {M : Type 1} → statement M
+put-ends-spec =
+    tie.close
+    (tie.spec
+    slice-aggregate-put-text
+    put-text-requires
+    put-end-requires
+    slice-aggregate-put-text-2
+    put-text-requires-2
+    put-end-requires-2
+    slice-aggregate-put-text-3
+    put-text-requires-3
+    cast-put-number
+    put-number-requires
+    slice-aggregate-put-text-4
+    put-text-requires-4
+    cast-put-number-2
+    put-number-requires-2
+    slice-aggregate-put-text-5
+    put-text-requires-5
+    cast-put-number-3
+    put-number-requires-3
+    slice-aggregate-put-text-6
+    put-text-requires-6
+    same-length
+    returns)

@@ -1,0 +1,94 @@
+-- `answers::lists::answer_scan` meets its contract. The loop counts the turns down and keeps the lengths. Assumes nothing.
+use mathlib.Core.Path.{_≡_, refl, sym}
+use Prim.Native.Nat.{_≤_}
+use lib.ListN.{length}
+use native.Mathlib.Omega.{arith}
+use lib.Seq.{length-take-le}
+use borrow.Author.Needs.{needs}
+use Rattle.test_answers.proofs.lists.answer_scan.Statement.{statement}
+use Rattle.test_answers.proofs.lists.answer_scan.Tie as tie
+
+abbrev Inv-loop : tie.InvT-loop
+Inv-loop room placed lent code labels offsets lengths given table₀ watchdog turns n m answer₀ left₀ table answer left = (left ≤ turns) × (length table ≡ length table₀)
+
+abbrev μ-loop : tie.MeasureT-loop
+μ-loop room placed lent code labels offsets lengths given table₀ watchdog turns n m answer₀ left₀ table answer left = left
+
+none-scanned-requires : tie.Need-none-scanned-requires Inv-loop μ-loop
+none-scanned-requires c κs = search needs
+
+loop-holds : tie.Need-loop-holds Inv-loop μ-loop
+loop-holds c = (omega arith, refl)
+
+copy-bytes-requires : tie.Need-copy-bytes-requires Inv-loop μ-loop
+copy-bytes-requires c κs = search needs
+
+slice-aggregate-list-scan : tie.Need-slice-aggregate-list-scan Inv-loop μ-loop
+slice-aggregate-list-scan c = sym (length-take-le _ _ (search needs))
+
+slice-aggregate-list-scan-2 : tie.Need-slice-aggregate-list-scan-2 Inv-loop μ-loop
+slice-aggregate-list-scan-2 c = sym (length-take-le _ _ (search needs))
+
+slice-aggregate-list-scan-3 : tie.Need-slice-aggregate-list-scan-3 Inv-loop μ-loop
+slice-aggregate-list-scan-3 c = sym (length-take-le _ _ (search needs))
+
+slice-aggregate-list-scan-4 : tie.Need-slice-aggregate-list-scan-4 Inv-loop μ-loop
+slice-aggregate-list-scan-4 c = sym (length-take-le _ _ (search needs))
+
+list-scan-requires : tie.Need-list-scan-requires Inv-loop μ-loop
+list-scan-requires c κs = search needs
+
+sub-left : tie.Need-sub-left Inv-loop μ-loop
+sub-left c = omega arith
+
+loop-less : tie.Need-loop-less Inv-loop μ-loop
+loop-less c = omega arith
+
+loop-again : tie.Need-loop-again Inv-loop μ-loop
+loop-again c = omega arith
+
+scan-head-requires : tie.Need-scan-head-requires Inv-loop μ-loop
+scan-head-requires c κs = search needs
+
+put-head-requires : tie.Need-put-head-requires Inv-loop μ-loop
+put-head-requires c κs = search needs
+
+put-bytes-requires : tie.Need-put-bytes-requires Inv-loop μ-loop
+put-bytes-requires c κs = search needs
+
+put-byte-requires : tie.Need-put-byte-requires Inv-loop μ-loop
+put-byte-requires c κs = search needs
+
+same-length : tie.Need-same-length Inv-loop μ-loop
+same-length c = omega arith
+
+same-length-2 : tie.Need-same-length-2 Inv-loop μ-loop
+same-length-2 c = omega arith
+
+returns : tie.Need-returns Inv-loop μ-loop
+returns c = tt
+
+pub answer-scan-spec : {M : Type 1} → statement M
+answer-scan-spec =
+    tie.close
+    (tie.spec
+    Inv-loop
+    μ-loop
+    none-scanned-requires
+    loop-holds
+    copy-bytes-requires
+    slice-aggregate-list-scan
+    slice-aggregate-list-scan-2
+    slice-aggregate-list-scan-3
+    slice-aggregate-list-scan-4
+    list-scan-requires
+    sub-left
+    loop-less
+    loop-again
+    scan-head-requires
+    put-head-requires
+    put-bytes-requires
+    put-byte-requires
+    same-length
+    same-length-2
+    returns)

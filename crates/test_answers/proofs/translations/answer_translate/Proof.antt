@@ -1,0 +1,102 @@
+-- `answers::translations::answer_translate` meets its contract. The loop counts the turns down and keeps the lengths. Assumes nothing.
+use mathlib.Core.Path.{_≡_, refl, sym}
+use Prim.Native.Nat.{_≤_}
+use lib.ListN.{length}
+use native.Mathlib.Omega.{arith}
+use lib.Seq.{length-take-le}
+use borrow.Author.Needs.{needs}
+use Rattle.test_answers.proofs.translations.answer_translate.Statement.{statement}
+use Rattle.test_answers.proofs.translations.answer_translate.Tie as tie
+
+abbrev Inv-loop : tie.InvT-loop
+Inv-loop room placed lent words labels offsets lengths code₀ code-labels₀ code-offsets₀ code-lengths₀ turns n m answer₀ left₀ code code-labels code-offsets code-lengths answer left = (left ≤ turns) × (length code ≡ length code₀) × (length code-labels ≡ length code-labels₀) × (length code-offsets ≡ length code-offsets₀) × (length code-lengths ≡ length code-lengths₀)
+
+abbrev μ-loop : tie.MeasureT-loop
+μ-loop room placed lent words labels offsets lengths code₀ code-labels₀ code-offsets₀ code-lengths₀ turns n m answer₀ left₀ code code-labels code-offsets code-lengths answer left = left
+
+none-translated-requires : tie.Need-none-translated-requires Inv-loop μ-loop
+none-translated-requires c κs = search needs
+
+loop-holds : tie.Need-loop-holds Inv-loop μ-loop
+loop-holds c = (omega arith, refl, refl, refl, refl)
+
+slice-aggregate-translate : tie.Need-slice-aggregate-translate Inv-loop μ-loop
+slice-aggregate-translate c = sym (length-take-le _ _ (search needs))
+
+slice-aggregate-translate-2 : tie.Need-slice-aggregate-translate-2 Inv-loop μ-loop
+slice-aggregate-translate-2 c = sym (length-take-le _ _ (search needs))
+
+slice-aggregate-translate-3 : tie.Need-slice-aggregate-translate-3 Inv-loop μ-loop
+slice-aggregate-translate-3 c = sym (length-take-le _ _ (search needs))
+
+slice-aggregate-translate-4 : tie.Need-slice-aggregate-translate-4 Inv-loop μ-loop
+slice-aggregate-translate-4 c = sym (length-take-le _ _ (search needs))
+
+translate-requires : tie.Need-translate-requires Inv-loop μ-loop
+translate-requires c κs = search needs
+
+sub-left : tie.Need-sub-left Inv-loop μ-loop
+sub-left c = omega arith
+
+loop-less : tie.Need-loop-less Inv-loop μ-loop
+loop-less c = omega arith
+
+loop-again : tie.Need-loop-again Inv-loop μ-loop
+loop-again c = omega arith
+
+put-translated-requires : tie.Need-put-translated-requires Inv-loop μ-loop
+put-translated-requires c κs = search needs
+
+put-words-requires : tie.Need-put-words-requires Inv-loop μ-loop
+put-words-requires c κs = search needs
+
+put-records-requires : tie.Need-put-records-requires Inv-loop μ-loop
+put-records-requires c κs = search needs
+
+put-byte-requires : tie.Need-put-byte-requires Inv-loop μ-loop
+put-byte-requires c κs = search needs
+
+same-length : tie.Need-same-length Inv-loop μ-loop
+same-length c = omega arith
+
+same-length-2 : tie.Need-same-length-2 Inv-loop μ-loop
+same-length-2 c = omega arith
+
+same-length-3 : tie.Need-same-length-3 Inv-loop μ-loop
+same-length-3 c = omega arith
+
+same-length-4 : tie.Need-same-length-4 Inv-loop μ-loop
+same-length-4 c = omega arith
+
+same-length-5 : tie.Need-same-length-5 Inv-loop μ-loop
+same-length-5 c = omega arith
+
+returns : tie.Need-returns Inv-loop μ-loop
+returns c = tt
+
+pub answer-translate-spec : {M : Type 1} → statement M
+answer-translate-spec =
+    tie.close
+    (tie.spec
+    Inv-loop
+    μ-loop
+    none-translated-requires
+    loop-holds
+    slice-aggregate-translate
+    slice-aggregate-translate-2
+    slice-aggregate-translate-3
+    slice-aggregate-translate-4
+    translate-requires
+    sub-left
+    loop-less
+    loop-again
+    put-translated-requires
+    put-words-requires
+    put-records-requires
+    put-byte-requires
+    same-length
+    same-length-2
+    same-length-3
+    same-length-4
+    same-length-5
+    returns)

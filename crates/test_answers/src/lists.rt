@@ -1,0 +1,217 @@
+// List scan (kind 4) and Listing (kind 5).
+ghost use mathlib.Core.Path.{_≡_};
+ghost use Prim.Native.Nat.{_≤_};
+ghost use lib.ListN.{length};
+use list_definitions::ListScanned;
+use list_definitions::Listed;
+use test_requests::State;
+use test_requests::input;
+use test_requests::input::Input;
+use test_requests::input::Lent;
+use test_requests::output;
+use test_requests::output::Head;
+
+fn scan_head(answer: ListScanned) -> Head {
+    match answer {
+        ListScanned::Ended(counts) => Head {
+            ending: 1,
+            first: counts.instructions as u64,
+            second: counts.rungs as u64,
+        },
+        ListScanned::Stopped(counts) => Head {
+            ending: 2,
+            first: counts.instructions as u64,
+            second: counts.rungs as u64,
+        },
+        ListScanned::Refused(refusal) => output::refused_head(refusal),
+    }
+}
+
+fn put_listed(room: &mut [u8], placed: usize, answer: Listed) -> usize {
+    match answer {
+        Listed::Written(bytes) => {
+            let ended = output::put_number(room, placed, 1);
+            output::put_next(room, ended, bytes as u64)
+        }
+        Listed::Refused(refusal) => output::put_head(room, placed, output::refused_head(refusal)),
+    }
+}
+
+// Before the first turn.
+fn none_scanned() -> ListScanned {
+    ListScanned::Stopped(list_definitions::Counts {
+        instructions: 0,
+        rungs: 0,
+    })
+}
+
+// Calls List scan on what was read, in each turn on a copy of the table, and puts the last answer.
+fn answer_scan(
+    room: &mut [u8],
+    placed: usize,
+    lent: Lent,
+    code: &[u32],
+    labels: &[u16],
+    offsets: &[u32],
+    lengths: &[u32],
+    given: &[u8],
+    table: &mut [u8],
+    watchdog: u32,
+    turns: u32,
+) -> usize
+    requires { ⌜ (lent .words ≤ length (now code)) × (lent .records ≤ length (now labels))
+        × (lent .records ≤ length (now offsets)) × (lent .records ≤ length (now lengths)) ⌝ }
+{
+    let n = lent.words;
+    let m = lent.records;
+    let mut answer = none_scanned();
+    let mut left = turns;
+    while 0 < left {
+        test_requests::copy_bytes(given, table);
+        answer = list::list_scan(
+            lent.vars,
+            &code[..n],
+            &labels[..m],
+            &offsets[..m],
+            &lengths[..m],
+            table,
+            watchdog,
+        );
+        left -= 1;
+    }
+    let ended = output::put_head(room, placed, scan_head(answer));
+    let shown = output::put_bytes(room, ended, table, table.len());
+    output::put_byte(room, shown, b'\n')
+}
+
+// Calls Listing on what was read, and puts the answer.
+fn answer_listing(
+    room: &mut [u8],
+    placed: usize,
+    lent: Lent,
+    code: &[u32],
+    labels: &[u16],
+    offsets: &[u32],
+    lengths: &[u32],
+    out: &mut [u8],
+    turns: u32,
+) -> usize
+    requires { ⌜ (lent .words ≤ length (now code)) × (lent .records ≤ length (now labels))
+        × (lent .records ≤ length (now offsets)) × (lent .records ≤ length (now lengths)) ⌝ }
+{
+    let n = lent.words;
+    let m = lent.records;
+    let mut answer = Listed::Written(0);
+    let mut left = turns;
+    while 0 < left {
+        answer = list::listing(
+            lent.vars,
+            &code[..n],
+            &labels[..m],
+            &offsets[..m],
+            &lengths[..m],
+            out,
+        );
+        left -= 1;
+    }
+    let ended = put_listed(room, placed, answer);
+    let shown = output::put_buffer(room, ended, out);
+    output::put_byte(room, shown, b'\n')
+}
+
+// List scan, from the number after its kind on.
+pub fn scan_request(
+    chunk: &mut [u8],
+    room: &mut [u8],
+    begun: Input,
+    placed: usize,
+    turns: u32,
+) -> State {
+    let mut code = [0u32; 20000];
+    let mut labels = [0u16; 400];
+    let mut offsets = [0u32; 400];
+    let mut lengths = [0u32; 400];
+    let mut given = [0u8; 1100];
+    let mut table = [0u8; 1100];
+    let lent = input::read_lent(
+        chunk,
+        begun,
+        &mut code,
+        &mut labels,
+        &mut offsets,
+        &mut lengths,
+    );
+    let filled = input::read_table(chunk, lent.input, &mut given);
+    let input = input::more(chunk, filled.input);
+    if !input::is_line_end(input) {
+        return test_requests::refuse(placed);
+    }
+    let t = filled.count;
+    let answered = answer_scan(
+        room,
+        placed,
+        lent,
+        &code,
+        &labels,
+        &offsets,
+        &lengths,
+        &given[..t],
+        &mut table[..t],
+        input.value,
+        turns,
+    );
+    State {
+        input,
+        placed: answered,
+    }
+}
+
+// The filling of a listing buffer.
+fn blank_listing() -> [u8; 70000]
+    ensures { λ r. ⌜ 70000 ≡ length r ⌝ }
+{
+    [255u8; 70000]
+}
+
+// Listing, from the number after its kind on.
+pub fn listing_request(
+    chunk: &mut [u8],
+    room: &mut [u8],
+    begun: Input,
+    placed: usize,
+    turns: u32,
+) -> State {
+    let mut code = [0u32; 20000];
+    let mut labels = [0u16; 400];
+    let mut offsets = [0u32; 400];
+    let mut lengths = [0u32; 400];
+    let mut out = blank_listing();
+    let lent = input::read_lent(
+        chunk,
+        begun,
+        &mut code,
+        &mut labels,
+        &mut offsets,
+        &mut lengths,
+    );
+    let input = input::limited(chunk, lent.input, 70000);
+    if !input::is_line_end(input) {
+        return test_requests::refuse(placed);
+    }
+    let bytes = input.value as usize;
+    let answered = answer_listing(
+        room,
+        placed,
+        lent,
+        &code,
+        &labels,
+        &offsets,
+        &lengths,
+        &mut out[..bytes],
+        turns,
+    );
+    State {
+        input,
+        placed: answered,
+    }
+}

@@ -1,0 +1,231 @@
+// Runs document 01's case A through the calls over rows: this program owns two rows of rung records, the ladder's and the list's, and
+// lends them. It prints what each call answered, the variables that each scan left, and the listing.
+use ladder_definitions::LadderScanned;
+use libc::STDOUT_FILENO;
+use list_definitions::ListScanned;
+use list_definitions::Listed;
+use questions::Refusal;
+use rows::Rung;
+use test_requests::output;
+use text_definitions::TextRead;
+use translation_definitions::Translated;
+
+// "A* `10:c0|c1&n2>o1|c3&j20` `20:n3>o4`, V 5, only v0 true": it has as many kept words as instructions.
+const VARS: u32 = 5;
+
+const WORDS: usize = 12;
+
+const RUNGS: usize = 2;
+
+const TABLE_BYTES: usize = 37;
+
+const LISTING_BYTES: usize = 200;
+
+const RUNG_WATCHDOG: u32 = 2;
+
+const INSTRUCTION_WATCHDOG: u32 = 20;
+
+// What the five calls answered.
+struct Answers {
+    read: TextRead,
+    translated: Translated,
+    ladder: LadderScanned,
+    list: ListScanned,
+    listed: Listed,
+}
+
+fn no_words() -> [u32; WORDS] {
+    [0u32; WORDS]
+}
+
+fn no_row() -> [Rung; RUNGS] {
+    [Rung {
+        label: 0,
+        offset: 0,
+        length: 0,
+    }; RUNGS]
+}
+
+fn answers_of(
+    read: TextRead,
+    translated: Translated,
+    ladder: LadderScanned,
+    list: ListScanned,
+    listed: Listed,
+) -> Answers {
+    Answers {
+        read,
+        translated,
+        ladder,
+        list,
+        listed,
+    }
+}
+
+// The five calls, over two rows of this function's own.
+fn run_rows(
+    text: &[u8],
+    ladder_table: &mut [u8],
+    list_table: &mut [u8],
+    lines: &mut [u8],
+) -> Answers {
+    let mut words = no_words();
+    let mut row = no_row();
+    let mut code = no_words();
+    let mut code_row = no_row();
+    let read = text_rows::read(VARS, text, &mut words, &mut row);
+    let translated = translation_rows::translate(VARS, &words, &row, &mut code, &mut code_row);
+    let ladder = ladder_rows::ladder_scan(VARS, &words, &row, ladder_table, RUNG_WATCHDOG);
+    let list = list_rows::list_scan(VARS, &code, &code_row, list_table, INSTRUCTION_WATCHDOG);
+    let listed = list_rows::listing(VARS, &code, &code_row, lines);
+    answers_of(read, translated, ladder, list, listed)
+}
+
+// A text and a number after it.
+fn put_count(room: &mut [u8], placed: usize, text: &[u8], value: u64) -> usize {
+    let end = output::put_text(room, placed, text);
+    output::put_next(room, end, value)
+}
+
+fn put_refusal(room: &mut [u8], placed: usize, refusal: Refusal) -> usize {
+    let head = output::refused_head(refusal);
+    let number = put_count(room, placed, b" refused", head.first);
+    put_count(room, number, b" place", head.second)
+}
+
+fn put_read(room: &mut [u8], placed: usize, answer: TextRead) -> usize {
+    let name = output::put_text(room, placed, b"read");
+    match answer {
+        TextRead::Kept(counts) => {
+            let words = put_count(room, name, b" words", counts.words as u64);
+            put_count(room, words, b" rungs", counts.rungs as u64)
+        }
+        TextRead::Refused(refusal) => put_refusal(room, name, refusal),
+    }
+}
+
+fn put_translated(room: &mut [u8], placed: usize, answer: Translated) -> usize {
+    let name = output::put_text(room, placed, b"\ntranslate");
+    match answer {
+        Translated::Written(counts) => {
+            let instructions = put_count(room, name, b" instructions", counts.instructions as u64);
+            let rungs = put_count(room, instructions, b" rungs", counts.rungs as u64);
+            put_count(room, rungs, b" longest", counts.longest as u64)
+        }
+        Translated::Refused(refusal) => put_refusal(room, name, refusal),
+    }
+}
+
+fn put_ladder(room: &mut [u8], placed: usize, answer: LadderScanned) -> usize {
+    let name = output::put_text(room, placed, b"\nladder scan");
+    match answer {
+        LadderScanned::Ended(counts) => put_count(
+            room,
+            name,
+            b" ended, rungs",
+            counts.rungs as u64,
+        ),
+        LadderScanned::Stopped(counts) => put_count(
+            room,
+            name,
+            b" stopped, rungs",
+            counts.rungs as u64,
+        ),
+        LadderScanned::Refused(refusal) => put_refusal(room, name, refusal),
+    }
+}
+
+fn put_counts(room: &mut [u8], placed: usize, counts: list_definitions::Counts) -> usize {
+    let rungs = put_count(room, placed, b" rungs", counts.rungs as u64);
+    put_count(room, rungs, b" instructions", counts.instructions as u64)
+}
+
+fn put_list(room: &mut [u8], placed: usize, answer: ListScanned) -> usize {
+    let name = output::put_text(room, placed, b"\nlist scan");
+    match answer {
+        ListScanned::Ended(counts) => {
+            let ended = output::put_text(room, name, b" ended,");
+            put_counts(room, ended, counts)
+        }
+        ListScanned::Stopped(counts) => {
+            let stopped = output::put_text(room, name, b" stopped,");
+            put_counts(room, stopped, counts)
+        }
+        ListScanned::Refused(refusal) => put_refusal(room, name, refusal),
+    }
+}
+
+// The variables of a table.
+fn put_variables(room: &mut [u8], placed: usize, table: &[u8]) -> usize {
+    let name = output::put_text(room, placed, b"\nvariables");
+    output::put_bytes(room, name, table, VARS as usize)
+}
+
+// The first `bytes` bytes of the listing.
+fn put_lines(room: &mut [u8], placed: usize, listing: &[u8], bytes: usize) -> usize {
+    if bytes <= listing.len() {
+        return output::put_text(room, placed, &listing[..bytes]);
+    }
+    placed
+}
+
+fn put_listed(room: &mut [u8], placed: usize, answer: Listed, listing: &[u8]) -> usize {
+    let name = output::put_text(room, placed, b"\nlisting");
+    match answer {
+        Listed::Written(bytes) => {
+            let counted = put_count(room, name, b" bytes", bytes as u64);
+            let line = output::put_byte(room, counted, b'\n');
+            put_lines(room, line, listing, bytes)
+        }
+        Listed::Refused(refusal) => {
+            let refused = put_refusal(room, name, refusal);
+            output::put_byte(room, refused, b'\n')
+        }
+    }
+}
+
+// What the scans answered and left.
+fn put_scans(
+    room: &mut [u8],
+    placed: usize,
+    answers: Answers,
+    ladder_table: &[u8],
+    list_table: &[u8],
+) -> usize {
+    let ladder = answers.ladder;
+    let list = answers.list;
+    let after_ladder = put_ladder(room, placed, ladder);
+    let ladder_left = put_variables(room, after_ladder, ladder_table);
+    let after_list = put_list(room, ladder_left, list);
+    put_variables(room, after_list, list_table)
+}
+
+// Runs the five calls, and puts what they answered.
+fn put_all(room: &mut [u8]) -> usize {
+    let mut ladder_table = [0u8; TABLE_BYTES];
+    let mut list_table = [0u8; TABLE_BYTES];
+    let mut lines = [0u8; LISTING_BYTES];
+    ladder_table[0] = 1;
+    list_table[0] = 1;
+    let answers = run_rows(
+        b"10:c0|c1&n2>o1|c3&j20\n20:n3>o4\n",
+        &mut ladder_table,
+        &mut list_table,
+        &mut lines,
+    );
+    let read = answers.read;
+    let translated = answers.translated;
+    let listed = answers.listed;
+    let after_read = put_read(room, 0, read);
+    let after_translated = put_translated(room, after_read, translated);
+    let scanned = put_scans(room, after_translated, answers, &ladder_table, &list_table);
+    put_listed(room, scanned, listed, &lines)
+}
+
+fn main() {
+    let mut room = [0u8; 1000];
+    let placed = put_all(&mut room);
+    if placed <= 1000 {
+        io::write_all(STDOUT_FILENO, &room[..placed]);
+    }
+}

@@ -1,0 +1,52 @@
+-- `requests::output::words_reach` is safe and ends. Assumes nothing.
+use Prim.Native.Nat.{_≤_}
+use lib.ListN.{length}
+use native.Mathlib.Omega.{arith}
+use borrow.Author.Needs.{needs}
+use Rattle.test_requests.proofs.output.words_reach.Statement.{statement}
+use Rattle.test_requests.proofs.output.words_reach.Tie as tie
+
+abbrev Inv-loop : tie.InvT-loop
+Inv-loop words k₀ k = k ≤ length words
+
+abbrev μ-loop : tie.MeasureT-loop
+μ-loop words k₀ k = k
+
+loop-holds : tie.Need-loop-holds Inv-loop μ-loop
+loop-holds c = omega arith
+
+sub-word-at : tie.Need-sub-word-at Inv-loop μ-loop
+sub-word-at c = omega arith
+
+word-at-requires : tie.Need-word-at-requires Inv-loop μ-loop
+word-at-requires c κs = search needs
+
+returns : tie.Need-returns Inv-loop μ-loop
+returns c = omega arith
+
+sub-k : tie.Need-sub-k Inv-loop μ-loop
+sub-k c = omega arith
+
+loop-less : tie.Need-loop-less Inv-loop μ-loop
+loop-less c = omega arith
+
+loop-again : tie.Need-loop-again Inv-loop μ-loop
+loop-again c = omega arith
+
+returns-2 : tie.Need-returns-2 Inv-loop μ-loop
+returns-2 c = omega arith
+
+pub words-reach-spec : {M : Type 1} → statement M
+words-reach-spec =
+    tie.close
+    (tie.spec
+    Inv-loop
+    μ-loop
+    loop-holds
+    sub-word-at
+    word-at-requires
+    returns
+    sub-k
+    loop-less
+    loop-again
+    returns-2)

@@ -1,0 +1,54 @@
+-- Demand 3 over the definitions of the calls Translate, Ladder scan and List scan. Its hypotheses are Given, its conclusions CallsAgree, a field to a sentence;
+-- Theorems states that the first give the second. Assumes nothing.
+use Prim.Native.Nat.{ℕ, _*_}
+use mathlib.Core.Path.{_≡_}
+use mathlib.Core.List.{List}
+use Rattle.questions.specs.Questions.{yes, question12, question13, mostRungWatchdog, mostInstructionWatchdog}
+use Rattle.table.specs.State.{stateOf}
+use Rattle.table.specs.Halt.{Halt, Stopped}
+use Rattle.table.specs.Questions.{question11}
+use Rattle.rungs.specs.Records.{RungRecord}
+use Rattle.rungs.specs.Buffers.{Buffers, needs, writtenWords, writtenRecords}
+use Rattle.ladder_definitions.specs.Kept.{Kept}
+use Rattle.ladder_definitions.specs.Questions.{ladderOf, ladderAnswer}
+use Rattle.ladder_definitions.specs.LadderScan.{LadderCounts, callLadderScan, scanned as ladderScanned}
+use Rattle.list_definitions.specs.Questions.{listAnswer}
+use Rattle.list_definitions.specs.ListScan.{callListScan}
+use Rattle.translation_definitions.specs.Translate.{translate}
+use Rattle.translation_definitions.specs.TranslateKept.{Counts, translateKept, listBuffers, translated}
+use Rattle.translation_definitions.specs.Demand3.{ScansAlike}
+
+-- "for every accepted ladder of V variables that is translated, every legal table and every rung watchdog n from 0 to 65,535"; Translate has room enough
+pub record Given (vars : ℕ) (kept : Kept) (lent : Buffers) (table : List ℕ) (n : ℕ) : Type 0 where
+  pub accepted : ladderAnswer vars kept ≡ yes
+  pub room : question13 (needs (listBuffers (translate vars (ladderOf kept))) lent) ≡ yes
+  pub legal : question11 (stateOf vars table) ≡ yes
+  pub watchdog : question12 mostRungWatchdog n ≡ yes
+
+-- The two scans of a kept ladder and a list, "each" begun "on a copy of that table", under every instruction watchdog w.
+unfoldable pub CallsAlike : ℕ → ℕ → ℕ → Kept → List ℕ → List RungRecord → List ℕ → ℕ → Type 0
+CallsAlike least longest vars kept words records table n = (w : ℕ) →
+    let ladder = callLadderScan vars kept table n in
+    let list = callListScan vars words records table w in
+    ScansAlike least longest n w (ladder .answer) (stateOf vars (ladder .table)) (list .answer) (stateOf vars (list .table))
+
+pub record ScansAgree (vars : ℕ) (kept : Kept) (words : List ℕ) (records : List RungRecord) (longest : ℕ) (table : List ℕ) (n : ℕ) : Type 0 where
+  -- the list is one that List scan and Listing take
+  pub list-accepted : listAnswer vars words records ≡ yes
+  -- the ladder scan is not refused: it halts with its counts
+  pub halt : Halt
+  pub counts : LadderCounts
+  pub scanned : callLadderScan vars kept table n .answer ≡ ladderScanned halt counts
+  -- k × L is a legal instruction watchdog, and so is 2 × n
+  pub ended-watchdog : question12 mostInstructionWatchdog (counts .rungs * longest) ≡ yes
+  pub stopped-watchdog : question12 mostInstructionWatchdog (2 * n) ≡ yes
+  -- "Stopped at n rungs"
+  pub stopped-at : halt ≡ Stopped → counts .rungs ≡ n
+  pub alike : CallsAlike 2 longest vars kept words records table n
+
+pub record CallsAgree (vars : ℕ) (kept : Kept) (lent : Buffers) (table : List ℕ) (n : ℕ) : Type 0 where
+  pub counts : Counts
+  pub translated : translateKept vars kept lent .answer ≡ translated counts
+  -- "In demand 3 a ladder's list is what Translate writes for it, records included."
+  pub scans : ScansAgree vars kept (writtenWords (translateKept vars kept lent .buffers) (counts .instructions))
+      (writtenRecords (translateKept vars kept lent .buffers) (counts .rungs)) (counts .longest) table n

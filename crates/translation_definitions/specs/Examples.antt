@@ -1,0 +1,47 @@
+-- Worked translations, by hand from the clauses of document 01, "Translation". Assumes nothing.
+use mathlib.Core.Path.{_≡_, refl}
+use mathlib.Core.List.{List, [], _∷_, map, flatMap}
+use Prim.Native.Nat.{ℕ}
+use Rattle.rungs.specs.Records.{lay, search, startOf}
+use Rattle.ladder_definitions.specs.Tree.{frontAnd, frontOr, rearAnd, rearOr, Ladder}
+use Rattle.ladder_definitions.specs.Bench.{rung, c, n, o, q, j, k}
+use Rattle.list_definitions.specs.Instruction.{Instr, LD, LDN, ST, STN, AND, ANDN, OR, ORN, JMPC, JMPCN}
+use Rattle.translation_definitions.specs.Translate.{F, R, join, outputCode, rungCode, listRecords, translate}
+
+-- a ladder, its V, and its instructions
+record Row : Type 0 where
+  ladder : Ladder
+  vars : ℕ
+  code : List Instr
+
+rows : List Row
+rows =
+    -- 0:c0&(c1|c2&(n3|c4))>o5 with t0 to t2 in bytes 6 to 8
+    record {
+      ladder = rung 0 (frontAnd (c 0) (frontOr (c 1) (frontAnd (c 2) (frontOr (n 3) (c 4))))) (o 5) ∷ [];
+      vars = 6;
+      code = LD 0 ∷ ST 6 ∷ LD 1 ∷ ST 7 ∷ LD 2 ∷ ST 8 ∷ LDN 3 ∷ OR 4 ∷ AND 8 ∷ OR 7 ∷ AND 6 ∷ ST 5 ∷ [];
+    }
+    -- 0:c0|n1&c2|n3>o0, to the left: the second term goes through t0, the third is short
+    ∷ record {
+      ladder = rung 0 (frontOr (frontOr (c 0) (frontAnd (n 1) (c 2))) (n 3)) (o 0) ∷ [];
+      vars = 4;
+      code = LD 0 ∷ ST 4 ∷ LDN 1 ∷ AND 2 ∷ OR 4 ∷ ORN 3 ∷ ST 0 ∷ [];
+    }
+    -- 7:c0>(c1|c2)&[o3|c1&k7|q4] 9:n0>n1&j9
+    ∷ record {
+      ladder = rung 7 (c 0) (rearAnd (frontOr (c 1) (c 2)) (rearOr (o 3) (rearOr (rearAnd (c 1) (k 7)) (q 4)))) ∷ rung 9 (n 0) (rearAnd (n 1) (j 9)) ∷ [];
+      vars = 5;
+      code = LD 0 ∷ ST 5 ∷ LD 1 ∷ OR 2 ∷ AND 5 ∷ ST 5 ∷ ST 3 ∷ LD 5 ∷ ST 5 ∷ AND 1 ∷ JMPCN 0 ∷ LD 5 ∷ STN 4 ∷ LDN 0 ∷ ANDN 1 ∷ JMPC 13 ∷ [];
+    }
+    -- 0:c0>[o1|o2]|o3: the first part of the outer or has t1
+    ∷ record {
+      ladder = rung 0 (c 0) (rearOr (rearOr (o 1) (o 2)) (o 3)) ∷ [];
+      vars = 4;
+      code = LD 0 ∷ ST 4 ∷ ST 5 ∷ ST 1 ∷ LD 5 ∷ ST 2 ∷ LD 4 ∷ ST 3 ∷ [];
+    }
+    ∷ []
+
+translations : map (λ r. translate (r .vars) (r .ladder) .code) rows ≡ map (λ r. r .code) rows
+unfolding rows F R join outputCode rungCode lay search startOf listRecords translate flatMap
+translations = refl

@@ -1,0 +1,224 @@
+-- Demand 3 over the calls, from demand 3 over trees: what the calls do once every question got a "yes". Assumes nothing.
+use Prim.Native.Nat.{ℕ, zero, suc, _*_, _≤_}
+use native.Mathlib.Omega.{arith}
+use mathlib.Core.Path.{_≡_, refl, sym, ap, _∙_}
+use mathlib.Core.Bool.{Bool}
+use mathlib.Core.Option.{Option, none, some}
+use mathlib.Core.List.{List, [], _∷_, map}
+use lib.ListN.{length, take, getElem?, length-map}
+use Rattle.questions.specs.Questions.{firstNo, question1, question12, question13, mostRungWatchdog, mostInstructionWatchdog}
+use Rattle.questions.specs.Laws.Answers.{watchdog-in-range, in-range-watchdog}
+use Rattle.table.specs.State.{State, stateOf, write}
+use Rattle.table.specs.Halt.{Halt, Ended, Stopped}
+use Rattle.table.specs.Questions.{question11}
+use Rattle.table.specs.Laws.Alike.{alike-self}
+use Rattle.rungs.specs.Records.{longest}
+use Rattle.rungs.specs.Buffers.{Buffers, asBuffers, needs, written, writtenOver, writtenWords, writtenRecords}
+use Rattle.rungs.specs.Laws.Filling.{written-first, row-of-buffers, labels-count, offsets-count, lengths-count}
+use Rattle.ladder_definitions.specs.Tree.{Ladder}
+use Rattle.ladder_definitions.specs.Meaning.{LadderResult, scanLadder}
+use Rattle.ladder_definitions.specs.Kept.{Kept}
+use Rattle.ladder_definitions.specs.Questions.{ladderOf, ladderAnswer, Accepted}
+use Rattle.ladder_definitions.specs.LadderScan.{LadderCounts, callLadderScan, scanned as ladderScanned, scanEnds as ladderEnds, scanQuestions as ladderScanQuestions}
+use Rattle.ladder_definitions.specs.Laws.Accepting.{accepted, ladder-first}
+use Rattle.ladder_definitions.specs.Laws.Scratch.{scan-stays}
+use Rattle.ladder_definitions.specs.Laws.Watchdog.{stopped-stands, ended-stands}
+use Rattle.list_definitions.specs.Instruction.{Instr, LD, LDN, ST, STN, AND, ANDN, OR, ORN, XOR, XORN, NOT, JMP, JMPC, JMPCN, instrWord, codeOf}
+use Rattle.list_definitions.specs.Machine.{InstructionList, Machine, does, step, halted, scanMachine, scanList}
+use Rattle.list_definitions.specs.Questions.{question10, listAnswer}
+use Rattle.list_definitions.specs.ListScan.{listOf, callListScan, scanEnds as listEnds, scanQuestions}
+use Rattle.list_definitions.specs.Laws.Watchdog.{scan-end, scan-stop, scan-step}
+use Rattle.translation_definitions.specs.Translate.{translate}
+use Rattle.translation_definitions.specs.TranslateKept.{countsOf, listBuffers, translated, translateKept}
+use Rattle.translation_definitions.specs.Demand3.{EndedAlike, StoppedAlike}
+use Rattle.translation_definitions.specs.Agreement.{Agreement}
+use Rattle.translation_definitions.specs.Calls.{Given, CallsAlike, ScansAgree, CallsAgree}
+use Rattle.translation_definitions.specs.Laws.Answers.{call-written}
+use Rattle.translation_definitions.specs.Laws.Lists.{below-all, translated-agrees}
+use Rattle.translation_definitions.specs.Laws.Legal.{list-in-range, list-decodes, watchdog-in-range as most-in-range}
+
+-- ---- a list scan leaves V
+
+does-vars : (i : Instr) (v : Bool) (e : State) (pc : ℕ) → does i v e pc .state .vars ≡ e .vars
+unfolding does write
+does-vars (LD x) v e pc = refl
+does-vars (LDN x) v e pc = refl
+does-vars (ST x) v e pc = refl
+does-vars (STN x) v e pc = refl
+does-vars (AND x) v e pc = refl
+does-vars (ANDN x) v e pc = refl
+does-vars (OR x) v e pc = refl
+does-vars (ORN x) v e pc = refl
+does-vars (XOR x) v e pc = refl
+does-vars (XORN x) v e pc = refl
+does-vars NOT v e pc = refl
+does-vars (JMP j) v e pc = refl
+does-vars (JMPC j) v e pc = refl
+does-vars (JMPCN j) v e pc = refl
+
+module _ (l : InstructionList) where
+  machine-vars : (n : ℕ) (m : Machine) (t : State) → scanMachine l n m t .state .vars ≡ t .vars
+  unfolding halted step
+  machine-vars zero m t = go (getElem? (l .code) (m .index)) refl
+    where
+      go : (o : Option Instr) → getElem? (l .code) (m .index) ≡ o → scanMachine l 0 m t .state .vars ≡ t .vars
+      go none e = ap (λ x. x .state .vars) (scan-end l 0 m t e)
+      go (some i) e = ap (λ x. x .state .vars) (scan-stop l m t i e)
+  machine-vars (suc n) m t = go (getElem? (l .code) (m .index)) refl (λ i. machine-vars n (step (l .records) i m t .0) (step (l .records) i m t .1))
+    where
+      go : (o : Option Instr) → getElem? (l .code) (m .index) ≡ o
+          → ((i : Instr) → scanMachine l n (step (l .records) i m t .0) (step (l .records) i m t .1) .state .vars ≡ step (l .records) i m t .1 .vars)
+          → scanMachine l (suc n) m t .state .vars ≡ t .vars
+      go none e ih = ap (λ x. x .state .vars) (scan-end l (suc n) m t e)
+      go (some i) e ih = ap (λ x. x .state .vars) (scan-step l n m t i e) ∙ ih i ∙ does-vars i (m .accumulator) t (m .index)
+
+  pub list-vars : (w : ℕ) (s : State) → scanList l w s .state .vars ≡ s .vars
+  unfolding scanList
+  list-vars w s = machine-vars w _ s
+
+-- ---- the rungs entered are at most the watchdog, and equal it where the scan is Stopped
+
+module _ (gs : Ladder) (n : ℕ) (s : State) where
+  abbrev x : LadderResult
+  x = scanLadder gs n s
+
+  stopped-rungs : x .halt ≡ Stopped → x .rungs ≡ n
+  stopped-rungs e = stopped-stands gs s n (x .rungs) (x .state) (λ i. record { halt = e i; rungs = x .rungs; state = x .state }) .0
+
+  few-rungs : x .rungs ≤ n
+  few-rungs = go (x .halt) refl
+    where
+      go : (h : Halt) → x .halt ≡ h → x .rungs ≤ n
+      go Ended e = ended-stands gs s n (x .rungs) (x .state) (λ i. record { halt = e i; rungs = x .rungs; state = x .state }) .0
+      go Stopped e = let q = stopped-rungs e in omega arith
+
+-- ---- both scans, where the list is the ladder's
+
+module _ (vars : ℕ) (kept : Kept) (table : List ℕ) (n : ℕ)
+    (ok : ladderAnswer vars kept ≡ none) (legal : question11 (stateOf vars table) ≡ none) (watchdog : question12 mostRungWatchdog n ≡ none) where
+  abbrev gs : Ladder
+  gs = ladderOf kept
+
+  abbrev s : State
+  s = stateOf vars table
+
+  abbrev list : InstructionList
+  list = translate vars gs
+
+  abbrev words : List ℕ
+  words = map instrWord (list .code)
+
+  abbrev most : ℕ
+  most = longest (list .records)
+
+  taken : Accepted vars gs
+  taken = accepted vars kept ok .1
+
+  agrees : Agreement 2 gs list s n
+  agrees = translated-agrees vars gs s n taken (alike-self s (record { table = legal }))
+
+  ladder-call : callLadderScan vars kept table n ≡ ladderEnds (scanLadder gs n s)
+  unfolding callLadderScan ladderScanQuestions firstNo
+  ladder-call =
+      let later : firstNo (ladderAnswer vars kept ∷ question11 s ∷ question12 mostRungWatchdog n ∷ []) ≡ none = rw (ok, legal, watchdog) in
+      rw (ladder-first vars kept (question11 s ∷ question12 mostRungWatchdog n ∷ []) ∙ later, callLadderScan)
+
+  list-held : listOf words (list .records) ≡ list
+  unfolding listOf codeOf
+  list-held =
+      let e : codeOf words ≡ list .code = rw (list-decodes vars gs taken, codeOf) in
+      λ i. record { code = e i; records = list .records }
+
+  list-call : (w : ℕ) → question12 mostInstructionWatchdog w ≡ none → callListScan vars words (list .records) table w ≡ listEnds (scanList list w s)
+  unfolding callListScan scanQuestions firstNo
+  list-call w h =
+      let q : firstNo (question1 vars ∷ question10 vars words (list .records) ∷ question11 s ∷ question12 mostInstructionWatchdog w ∷ []) ≡ none
+      = rw (taken .range, list-in-range vars gs taken, legal, h) in
+      rw (q, callListScan) (ap (λ l. listEnds (scanList l w s)) list-held)
+
+  -- the state that a scan left, from its table
+  ladder-state : stateOf vars (ladderEnds (scanLadder gs n s) .table) ≡ scanLadder gs n s .state
+  unfolding ladderEnds
+  ladder-state = λ i. stateOf (sym (scan-stays gs n s (below-all vars gs taken) .same-vars) i) (scanLadder gs n s .state .bytes)
+
+  list-state : (w : ℕ) → stateOf vars (listEnds (scanList list w s) .table) ≡ scanList list w s .state
+  unfolding listEnds
+  list-state w = λ i. stateOf (sym (list-vars list w s) i) (scanList list w s .state .bytes)
+
+  -- what the ladder scan's answer tells
+  answered : (h : Halt) (c : LadderCounts) → callLadderScan vars kept table n .answer ≡ ladderScanned h c → (scanLadder gs n s .halt ≡ h) × (scanLadder gs n s .rungs ≡ c .rungs)
+  unfolding ladderEnds
+  answered h c e =
+      let z : ladderScanned (scanLadder gs n s .halt) (record { rungs = scanLadder gs n s .rungs }) ≡ ladderScanned h c = sym (ap (λ c. c .answer) ladder-call) ∙ e in
+      let halt : scanLadder gs n s .halt ≡ h = cc in
+      let counts : record { rungs = scanLadder gs n s .rungs } ≡ c = cc in
+      (halt, ap (λ (d : LadderCounts). d .rungs) counts)
+
+  ended-calls : (w : ℕ) (c : LadderCounts) → callLadderScan vars kept table n .answer ≡ ladderScanned Ended c → question12 mostInstructionWatchdog w ≡ none → c .rungs * most ≤ w
+      → EndedAlike 2 most (c .rungs) (stateOf vars (callLadderScan vars kept table n .table)) (callListScan vars words (list .records) table w .answer)
+      (stateOf vars (callListScan vars words (list .records) table w .table))
+  ended-calls w c e h room =
+      let a = answered Ended c e in
+      rw (ladder-call, list-call w h, ladder-state, list-state w, ← (a .1)) (agrees .ended w (a .0) (rw (a .1) room))
+
+  stopped-calls : (w : ℕ) (c : LadderCounts) → callLadderScan vars kept table n .answer ≡ ladderScanned Stopped c → w ≤ 2 * n
+      → StoppedAlike (callListScan vars words (list .records) table w .answer)
+  stopped-calls w c e few =
+      let most = watchdog-in-range mostRungWatchdog n watchdog in
+      rw (list-call w (in-range-watchdog mostInstructionWatchdog w (omega arith))) (agrees .stopped w (answered Stopped c e .0) few)
+
+  pub scans-alike : ScansAgree vars kept words (list .records) most table n
+  unfolding listAnswer firstNo ladderEnds CallsAlike
+  scans-alike =
+      let few = few-rungs gs n s in
+      let most = watchdog-in-range mostRungWatchdog n watchdog in
+      record {
+        list-accepted = rw (taken .range, list-in-range vars gs taken);
+        halt = scanLadder gs n s .halt;
+        counts = record { rungs = scanLadder gs n s .rungs };
+        scanned = ap (λ c. c .answer) ladder-call;
+        ended-watchdog = most-in-range vars gs taken (scanLadder gs n s .rungs) (omega arith);
+        stopped-watchdog = in-range-watchdog mostInstructionWatchdog (2 * n) (omega arith);
+        stopped-at = stopped-rungs gs n s;
+        alike = λ w. record { ended = λ c. ended-calls w c; stopped = λ c. stopped-calls w c };
+      }
+
+-- ---- what Translate wrote, taken out again
+
+module _ (list : InstructionList) (lent : Buffers) where
+  abbrev new : Buffers
+  new = listBuffers list
+
+  abbrev wrote : List ℕ
+  wrote = map instrWord (list .code)
+
+  words-out : writtenWords (writtenOver (listBuffers list) lent) (countsOf list .instructions) ≡ map instrWord (list .code)
+  unfolding writtenWords writtenOver countsOf asBuffers
+  words-out = rw (← (length-map (list .code) instrWord)) (written-first wrote (lent .words))
+
+  records-out : writtenRecords (writtenOver (listBuffers list) lent) (countsOf list .rungs) ≡ list .records
+  unfolding writtenRecords writtenOver countsOf
+  records-out =
+      let ls : take (length (list .records)) (written (new .labels) (lent .labels)) ≡ new .labels
+      = rw (← (labels-count wrote (list .records))) (written-first (new .labels) (lent .labels)) in
+      let os : take (length (list .records)) (written (new .offsets) (lent .offsets)) ≡ new .offsets
+      = rw (← (offsets-count wrote (list .records))) (written-first (new .offsets) (lent .offsets)) in
+      let ns : take (length (list .records)) (written (new .lengths) (lent .lengths)) ≡ new .lengths
+      = rw (← (lengths-count wrote (list .records))) (written-first (new .lengths) (lent .lengths)) in
+      rw (ls, os, ns) (row-of-buffers wrote (list .records))
+
+translate-call : (vars : ℕ) (k : Kept) (lent : Buffers) → ladderAnswer vars k ≡ none → question13 (needs (listBuffers (translate vars (ladderOf k))) lent) ≡ none
+    → translateKept vars k lent ≡ record { answer = translated (countsOf (translate vars (ladderOf k))); buffers = writtenOver (listBuffers (translate vars (ladderOf k))) lent }
+unfolding firstNo
+translate-call vars k lent ok room = call-written vars k lent (rw (ok, room))
+
+pub calls-alike : (vars : ℕ) (k : Kept) (lent : Buffers) (table : List ℕ) (n : ℕ) → Given vars k lent table n → CallsAgree vars k lent table n
+unfolding countsOf
+calls-alike vars k lent table n g =
+    let list = translate vars (ladderOf k) in
+    let e = translate-call vars k lent (g .accepted) (g .room) in
+    record {
+      counts = countsOf list;
+      translated = ap (λ c. c .answer) e;
+      scans = rw (e, words-out list lent, records-out list lent) (scans-alike vars k table n (g .accepted) (g .legal) (g .watchdog));
+    }

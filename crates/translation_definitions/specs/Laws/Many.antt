@@ -1,0 +1,233 @@
+-- Agreement over any number of scans, from demand 3's record for one scan: a ladder scan does not read scratch, and a list scan leaves a legal table legal.
+-- Assumes nothing.
+use Prim.Native.Nat.{ℕ, zero, suc, _+_}
+use native.Mathlib.Omega.{arith}
+use mathlib.Core.Path.{_≡_, refl, sym, ap, _∙_}
+use mathlib.Core.Bool.{Bool, true, false}
+use mathlib.Core.Option.{Option, none, some}
+use mathlib.Core.List.{List, [], _∷_, map}
+use lib.Dec.{T, eqb}
+use lib.ListN.{length, set, take, getElem?, length-set}
+use mir.Facts.{and-yes, yes-and}
+use Rattle.questions.specs.Tests.{all, bit}
+use Rattle.questions.specs.Questions.{Answer, firstNo, question1, question12, mostRungWatchdog, mostInstructionWatchdog}
+use Rattle.questions.specs.Laws.Tests.{all-head, all-tail, all-cons}
+use Rattle.questions.specs.Laws.Answers.{ask-passed, passed-ask, first-yes, later-yes}
+use Rattle.table.specs.State.{State, stateOf, tableSize, variables, writtenAt, write, SameButScratch}
+use Rattle.table.specs.Halt.{Halt, Ended}
+use Rattle.table.specs.Laws.Alike.{same-both}
+use Rattle.table.specs.Questions.{isBit, tableInRange, question11}
+use Rattle.rungs.specs.Records.{RungRecord}
+use Rattle.ladder_definitions.specs.Meaning.{scanLadder}
+use Rattle.ladder_definitions.specs.Kept.{Kept}
+use Rattle.ladder_definitions.specs.Questions.{ladderOf, ladderAnswer}
+use Rattle.ladder_definitions.specs.LadderScan.{LadderCounts, LadderScanCall, callLadderScan, scanQuestions as ladderScanQuestions, scanned, refused, scanEnds}
+use Rattle.ladder_definitions.specs.Laws.Accepting.{accepted, ladder-first}
+use Rattle.ladder_definitions.specs.Laws.Scratch.{scan-stays}
+use Rattle.ladder_definitions.specs.Theorems.{scratch-not-read}
+use Rattle.list_definitions.specs.Instruction.{Instr, LD, LDN, ST, STN, AND, ANDN, OR, ORN, XOR, XORN, NOT, JMP, JMPC, JMPCN, instrWord}
+use Rattle.list_definitions.specs.Machine.{InstructionList, Machine, does, step, halted, begin, scanMachine, scanList}
+use Rattle.list_definitions.specs.Questions.{question10}
+use Rattle.list_definitions.specs.ListScan.{listOf, callListScan, scanEnds as listEnds, scanQuestions}
+use Rattle.list_definitions.specs.Laws.Watchdog.{scan-end, scan-stop, scan-step}
+use Rattle.translation_definitions.specs.Calls.{CallsAlike, ScansAgree}
+use Rattle.translation_definitions.specs.ManyScans.{InputValue, inputPhase, Scan, listFor, longestFor, ladderWith, listWith, LadderEnds, LaddersEnd, ManyGiven, BothEnd, ManyAgree}
+use Rattle.translation_definitions.specs.Laws.Lists.{below-all}
+
+-- ---- a write leaves a legal table legal
+
+-- a table that question 11 takes
+abbrev LegalTable : ℕ → List ℕ → Type 0
+LegalTable vars table = question11 (stateOf vars table) ≡ none
+
+bit-fits : (b : Bool) → T (isBit (bit b))
+bit-fits true = tt
+bit-fits false = tt
+
+bits-written : (table : List ℕ) (i : ℕ) (b : Bool) → T (all isBit table) → T (all isBit (set table i (bit b)))
+bits-written [] i b h = h
+bits-written (x ∷ xs) zero b h = all-cons isBit (bit b) xs (bit-fits b) (all-tail isBit x xs h)
+bits-written (x ∷ xs) (suc i) b h = all-cons isBit x (set xs i (bit b)) (all-head isBit x xs h) (bits-written xs i b (all-tail isBit x xs h))
+
+module _ (vars : ℕ) where
+  written-legal : (table : List ℕ) (i : ℕ) (b : Bool) → LegalTable vars table → LegalTable vars (writtenAt table i b)
+  unfolding question11 tableInRange writtenAt
+  written-legal table i b h =
+      let p = and-yes (eqb (length table) (tableSize vars)) (all isBit table) (ask-passed 11 _ h) in
+      passed-ask 11 _ (yes-and (eqb (length (set table i (bit b))) (tableSize vars)) (all isBit (set table i (bit b)))
+      (rw (length-set table i (bit b)) (p .0)) (bits-written table i b (p .1)))
+
+  input-legal : (inputs : List InputValue) (table : List ℕ) → LegalTable vars table → LegalTable vars (inputPhase inputs table)
+  unfolding inputPhase
+  input-legal [] table h = h
+  input-legal (x ∷ later) table h = input-legal later (writtenAt table (x .variable) (x .value)) (written-legal table (x .variable) (x .value) h)
+
+  does-legal : (i : Instr) (v : Bool) (e : State) (pc : ℕ) → LegalTable vars (e .bytes) → LegalTable vars (does i v e pc .state .bytes)
+  unfolding does write
+  does-legal (LD x) v e pc h = h
+  does-legal (LDN x) v e pc h = h
+  does-legal (ST x) v e pc h = written-legal (e .bytes) x v h
+  does-legal (STN x) v e pc h = written-legal (e .bytes) x _ h
+  does-legal (AND x) v e pc h = h
+  does-legal (ANDN x) v e pc h = h
+  does-legal (OR x) v e pc h = h
+  does-legal (ORN x) v e pc h = h
+  does-legal (XOR x) v e pc h = h
+  does-legal (XORN x) v e pc h = h
+  does-legal NOT v e pc h = h
+  does-legal (JMP j) v e pc h = h
+  does-legal (JMPC j) v e pc h = h
+  does-legal (JMPCN j) v e pc h = h
+
+  machine-legal : (l : InstructionList) (n : ℕ) (m : Machine) (t : State) → LegalTable vars (t .bytes) → LegalTable vars (scanMachine l n m t .state .bytes)
+  unfolding halted step
+  machine-legal l zero m t h = go (getElem? (l .code) (m .index)) refl
+    where
+      go : (o : Option Instr) → getElem? (l .code) (m .index) ≡ o → LegalTable vars (scanMachine l 0 m t .state .bytes)
+      go none e = rw (scan-end l 0 m t e) h
+      go (some i) e = rw (scan-stop l m t i e) h
+  machine-legal l (suc n) m t h = go (getElem? (l .code) (m .index)) refl
+      (λ i. machine-legal l n (step (l .records) i m t .0) (step (l .records) i m t .1) (does-legal i (m .accumulator) t (m .index) h))
+    where
+      go : (o : Option Instr) → getElem? (l .code) (m .index) ≡ o
+          → ((i : Instr) → LegalTable vars (scanMachine l n (step (l .records) i m t .0) (step (l .records) i m t .1) .state .bytes))
+          → LegalTable vars (scanMachine l (suc n) m t .state .bytes)
+      go none e ih = rw (scan-end l (suc n) m t e) h
+      go (some i) e ih = rw (scan-step l n m t i e) (ih i)
+
+  -- List scan leaves a legal table legal, refused or not
+  list-legal : (words : List ℕ) (rs : List RungRecord) (table : List ℕ) (w : ℕ) → LegalTable vars table → LegalTable vars (callListScan vars words rs table w .table)
+  unfolding callListScan scanQuestions listEnds scanList
+  list-legal words rs table w h = go answers refl
+    where
+      s : State
+      s = stateOf vars table
+
+      answers : Answer
+      answers = firstNo (question1 vars ∷ question10 vars words rs ∷ question11 s ∷ question12 mostInstructionWatchdog w ∷ [])
+
+      go : (a : Answer) → answers ≡ a → LegalTable vars (callListScan vars words rs table w .table)
+      go none q = rw (q, callListScan) (machine-legal (listOf words rs) w (begin (listOf words rs)) s h)
+      go (some refusal) q = rw (q, callListScan) h
+
+-- ---- the input phase gives the same variables from the same variables
+
+taken-set : (n : ℕ) (table : List ℕ) (i x : ℕ) → take n (set table i x) ≡ set (take n table) i x
+taken-set zero table i x = refl
+taken-set (suc n) [] i x = refl
+taken-set (suc n) (y ∷ ys) zero x = refl
+taken-set (suc n) (y ∷ ys) (suc i) x = ap (λ r. y ∷ r) (taken-set n ys i x)
+
+input-taken : (vars : ℕ) (inputs : List InputValue) (t u : List ℕ) → take vars t ≡ take vars u → take vars (inputPhase inputs t) ≡ take vars (inputPhase inputs u)
+unfolding inputPhase writtenAt
+input-taken vars [] t u e = e
+input-taken vars (x ∷ later) t u e =
+    let v = x .variable in
+    let b = bit (x .value) in
+    input-taken vars later (set t v b) (set u v b) (taken-set vars t v b ∙ ap (λ r. set r v b) e ∙ sym (taken-set vars u v b))
+
+input-same : (vars : ℕ) (inputs : List InputValue) (t u : List ℕ) → SameButScratch (stateOf vars t) (stateOf vars u)
+    → SameButScratch (stateOf vars (inputPhase inputs t)) (stateOf vars (inputPhase inputs u))
+unfolding variables
+input-same vars inputs t u e = record { same-vars = refl; same-variables = input-taken vars inputs t u (e .same-variables) }
+
+-- ---- a ladder scan that is not refused does the same on two tables with the same variables
+
+module _ (vars : ℕ) (kept : Kept) where
+  -- questions 11 and 12 got a "yes", and the ladder was scanned
+  pub record Asked (table : List ℕ) (n : ℕ) : Type 0 where
+    pub legal : LegalTable vars table
+    pub watchdog : question12 mostRungWatchdog n ≡ none
+    pub call : callLadderScan vars kept table n ≡ scanEnds (scanLadder (ladderOf kept) n (stateOf vars table))
+
+  pub asked : (table : List ℕ) (n : ℕ) (h : Halt) (c : LadderCounts) → callLadderScan vars kept table n .answer ≡ scanned h c → Asked table n
+  unfolding callLadderScan ladderScanQuestions
+  asked table n h c e = go answers refl
+    where
+      s : State
+      s = stateOf vars table
+
+      later : List Answer
+      later = question11 s ∷ question12 mostRungWatchdog n ∷ []
+
+      answers : Answer
+      answers = ladderScanQuestions vars kept table n
+
+      go : (a : Answer) → answers ≡ a → Asked table n
+      go none q =
+          let rest = later-yes (ladderAnswer vars kept) later (sym (ladder-first vars kept later) ∙ q) in
+          record {
+            legal = first-yes (question11 s) _ rest;
+            watchdog = first-yes (question12 mostRungWatchdog n) _ (later-yes (question11 s) _ rest);
+            call = rw (q, callLadderScan);
+          }
+      go (some refusal) q =
+          let r : refused refusal ≡ scanned h c = rw (q, callLadderScan) at e in
+          let z : _≡_ {A = ℕ} 0 1 = cc in
+          absurd (omega arith)
+
+  -- two ladder scans with the same answer and the same variables
+  record Same (x y : LadderScanCall) : Type 0 where
+    answer : x .answer ≡ y .answer
+    same : SameButScratch (stateOf vars (x .table)) (stateOf vars (y .table))
+
+  ladder-same : ladderAnswer vars kept ≡ none → (t u : List ℕ) (n : ℕ) → SameButScratch (stateOf vars t) (stateOf vars u) → Asked t n → Asked u n
+      → Same (callLadderScan vars kept t n) (callLadderScan vars kept u n)
+  unfolding variables scanEnds
+  ladder-same ok t u n e a b =
+      let gs = ladderOf kept in
+      let taken = accepted vars kept ok .1 in
+      let s : State = stateOf vars t in
+      let s′ : State = stateOf vars u in
+      let x = scratch-not-read gs n s s′ (taken .variables) (record { table = a .legal }) (record { table = b .legal }) e in
+      let p = scan-stays gs n s (below-all vars gs taken) .same-vars in
+      let q = scan-stays gs n s′ (below-all vars gs taken) .same-vars in
+      rw (a .call, b .call) (record {
+        answer = λ i. scanned (x .halt i) (record { rungs = x .rungs i });
+        same = record { same-vars = refl; same-variables = rw (p, q) at (x .same .same-variables) };
+      })
+
+-- ---- scan by scan
+
+-- demand 3's record for one scan of this ladder, on every legal table
+abbrev pub OneScan : ℕ → Kept → Type 0
+OneScan vars kept = (table : List ℕ) (n : ℕ) → question11 (stateOf vars table) ≡ none → question12 mostRungWatchdog n ≡ none
+    → ScansAgree vars kept (map instrWord (listFor vars kept .code)) (listFor vars kept .records) (longestFor vars kept) table n
+
+module _ (vars : ℕ) (kept : Kept) (demand3 : OneScan vars kept) (ok : ladderAnswer vars kept ≡ none) where
+  scan-alike : (scan : Scan) (t u : List ℕ) → LegalTable vars u → SameButScratch (stateOf vars t) (stateOf vars u) → LadderEnds vars kept scan (ladderWith vars kept scan t)
+      → BothEnd vars kept (ladderWith vars kept scan t) (listWith vars kept scan u)
+  unfolding ladderWith listWith CallsAlike
+  scan-alike scan t u legal same h =
+      let n = scan .rungWatchdog in
+      let t′ = inputPhase (scan .inputs) t in
+      let u′ = inputPhase (scan .inputs) u in
+      let a = asked vars kept t′ n Ended (h .counts) (h .ended) in
+      let one = demand3 u′ n (input-legal vars (scan .inputs) u legal) (a .watchdog) in
+      let b = asked vars kept u′ n (one .halt) (one .counts) (one .scanned) in
+      let s = ladder-same vars kept ok t′ u′ n (input-same vars (scan .inputs) t u same) a b in
+      let x = one .alike (scan .instructionWatchdog) .ended (h .counts) (sym (s .answer) ∙ h .ended) (h .watchdog) (h .enough) in
+      record {
+        counts = h .counts;
+        ladder-ended = h .ended;
+        list-ended = record {
+          counts = x .counts;
+          ended = x .ended;
+          same = same-both (s .same) (x .same);
+          rungs = x .rungs;
+          at-least = x .at-least;
+          at-most = x .at-most;
+        };
+      }
+
+  scans-alike : (scans : List Scan) (t u : List ℕ) → LegalTable vars u → SameButScratch (stateOf vars t) (stateOf vars u) → LaddersEnd vars kept scans t
+      → ManyAgree vars kept scans t u
+  unfolding LaddersEnd ManyAgree listWith
+  scans-alike [] t u legal same h = tt
+  scans-alike (scan ∷ later) t u legal same h =
+      let b = scan-alike scan t u legal same (h .0) in
+      let left = list-legal vars _ _ (inputPhase (scan .inputs) u) (scan .instructionWatchdog) (input-legal vars (scan .inputs) u legal) in
+      (b, scans-alike later (ladderWith vars kept scan t .table) (listWith vars kept scan u .table) left (b .list-ended .same) (h .1))
+
+pub many-alike : (vars : ℕ) (kept : Kept) → OneScan vars kept → (scans : List Scan) (t u : List ℕ) → ManyGiven vars kept scans t u → ManyAgree vars kept scans t u
+many-alike vars kept demand3 scans t u g = scans-alike vars kept demand3 (g .accepted) scans t u (g .list-legal) (g .same) (g .ladders-end)

@@ -1,0 +1,83 @@
+-- Any number of scans, with an input phase before each. Document 01 speaks of one scan and leaves the input phase out ("Without: .. input and output phases of
+-- the scan"): this is beyond demand 3. The ladder works on one table, its list on another; before each scan the same variables of both tables are overwritten
+-- with the same values. The hypotheses are ManyGiven, the conclusions ManyAgree; Theorems states that the first give the second. Assumes nothing.
+use Prim.Native.Nat.{ℕ, _*_, _≤_}
+use mathlib.Core.Path.{_≡_}
+use mathlib.Core.Bool.{Bool}
+use mathlib.Core.List.{List, [], _∷_, map}
+use Rattle.questions.specs.Questions.{yes, question12, mostInstructionWatchdog}
+use Rattle.table.specs.State.{stateOf, writtenAt, SameButScratch}
+use Rattle.table.specs.Halt.{Ended}
+use Rattle.table.specs.Questions.{question11}
+use Rattle.rungs.specs.Records.{longest}
+use Rattle.ladder_definitions.specs.Kept.{Kept}
+use Rattle.ladder_definitions.specs.Questions.{ladderOf, ladderAnswer}
+use Rattle.ladder_definitions.specs.LadderScan.{LadderCounts, LadderScanCall, callLadderScan, scanned as ladderScanned}
+use Rattle.list_definitions.specs.Instruction.{instrWord}
+use Rattle.list_definitions.specs.Machine.{InstructionList}
+use Rattle.list_definitions.specs.ListScan.{ListScanCall, callListScan}
+use Rattle.translation_definitions.specs.Translate.{translate}
+use Rattle.translation_definitions.specs.Demand3.{EndedAlike}
+
+-- a variable, and the value, 0 or 1, that the input phase gives it; that it is below V need not be asked
+pub record InputValue : Type 0 where
+  pub variable : ℕ
+  pub value : Bool
+
+-- the table after the input phase: the values written, first to last
+unfoldable pub inputPhase : List InputValue → List ℕ → List ℕ
+inputPhase [] table = table
+inputPhase (x ∷ later) table = inputPhase later (writtenAt table (x .variable) (x .value))
+
+-- one scan: the input phase before it, the rung watchdog n of the ladder scan, the instruction watchdog w of the list scan
+pub record Scan : Type 0 where
+  pub inputs : List InputValue
+  pub rungWatchdog : ℕ
+  pub instructionWatchdog : ℕ
+
+module _ (vars : ℕ) (kept : Kept) where
+  -- the ladder's list, and L
+  abbrev pub listFor : InstructionList
+  listFor = translate vars (ladderOf kept)
+
+  abbrev pub longestFor : ℕ
+  longestFor = longest (listFor .records)
+
+  -- the input phase and the ladder scan, on the ladder's table
+  unfoldable pub ladderWith : Scan → List ℕ → LadderScanCall
+  ladderWith scan table = callLadderScan vars kept (inputPhase (scan .inputs) table) (scan .rungWatchdog)
+
+  -- the input phase and the list scan, on the list's table
+  unfoldable pub listWith : Scan → List ℕ → ListScanCall
+  listWith scan table = callListScan vars (map instrWord (listFor .code)) (listFor .records) (inputPhase (scan .inputs) table) (scan .instructionWatchdog)
+
+  -- The ladder scan answers Ended with k rungs entered, and w is a legal instruction watchdog of k × L or more.
+  pub record LadderEnds (scan : Scan) (ladder : LadderScanCall) : Type 0 where
+    pub counts : LadderCounts
+    pub ended : ladder .answer ≡ ladderScanned Ended counts
+    pub watchdog : question12 mostInstructionWatchdog (scan .instructionWatchdog) ≡ yes
+    pub enough : counts .rungs * longestFor ≤ scan .instructionWatchdog
+
+  -- Every ladder scan does so, from the table t on; each begins on the table that the one before it left.
+  unfoldable pub LaddersEnd : List Scan → List ℕ → Type 0
+  LaddersEnd [] t = Unit {0}
+  LaddersEnd (scan ∷ later) t = LadderEnds scan (ladderWith scan t) × LaddersEnd later (ladderWith scan t .table)
+
+  -- an accepted ladder; two legal tables, t for the ladder and u for its list, with the same V variables, while scratch may differ; and ladder scans that end
+  pub record ManyGiven (scans : List Scan) (t u : List ℕ) : Type 0 where
+    pub accepted : ladderAnswer vars kept ≡ yes
+    pub ladder-legal : question11 (stateOf vars t) ≡ yes
+    pub list-legal : question11 (stateOf vars u) ≡ yes
+    pub same : SameButScratch (stateOf vars t) (stateOf vars u)
+    pub ladders-end : LaddersEnd scans t
+
+  -- The ladder scan answers Ended with k rungs entered, and the list scan ends alike: demand 3's ended half.
+  pub record BothEnd (ladder : LadderScanCall) (list : ListScanCall) : Type 0 where
+    pub counts : LadderCounts
+    pub ladder-ended : ladder .answer ≡ ladderScanned Ended counts
+    pub list-ended : EndedAlike 2 longestFor (counts .rungs) (stateOf vars (ladder .table)) (list .answer) (stateOf vars (list .table))
+
+  -- Both scans do so every time, from the tables t and u on.
+  unfoldable pub ManyAgree : List Scan → List ℕ → List ℕ → Type 0
+  ManyAgree [] t u = Unit {0}
+  ManyAgree (scan ∷ later) t u = BothEnd (ladderWith scan t) (listWith scan u) × ManyAgree later (ladderWith scan t .table) (listWith scan u .table)

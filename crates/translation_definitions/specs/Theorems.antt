@@ -1,0 +1,83 @@
+-- What is promised of ladders and their lists, over trees and over the calls; the proofs are in Laws. Assumes nothing.
+use Prim.Native.Nat.{ℕ, _*_, _≤_}
+use mathlib.Core.Path.{_≡_}
+use mathlib.Core.Logic.{_↔_}
+use mathlib.Core.Option.{some}
+use mathlib.Core.List.{List, map}
+use lib.Dec.{T}
+use lib.ListN.{length}
+use Rattle.questions.specs.Tests.{all}
+use Rattle.questions.specs.Questions.{yes, question12, mostRungWatchdog, mostInstructionWatchdog}
+use Rattle.questions.specs.Laws.Answers.{ask-passed, passed-ask, each-passed}
+use Rattle.table.specs.State.{State, stateOf, tableSize}
+use Rattle.table.specs.Questions.{question11, Legal}
+use Rattle.table.specs.Laws.Alike.{alike-self}
+use Rattle.rungs.specs.Records.{longest}
+use Rattle.rungs.specs.Buffers.{Buffers}
+use Rattle.ladder_definitions.specs.Tree.{Ladder}
+use Rattle.ladder_definitions.specs.Kept.{Kept, encode}
+use Rattle.ladder_definitions.specs.Questions.{question6, scratchInRange, question9, rungBelow, ladderOf, ladderAnswer, Accepted}
+use Rattle.list_definitions.specs.Instruction.{instrWord, decodeCode}
+use Rattle.list_definitions.specs.Questions.{instrInRange, question10}
+use Rattle.translation_definitions.specs.Translate.{translate, codeBound}
+use Rattle.translation_definitions.specs.Agreement.{Agreement}
+use Rattle.translation_definitions.specs.Calls.{Given, ScansAgree, CallsAgree}
+use Rattle.translation_definitions.specs.Laws.Lists.{start, start-near, translated-agrees}
+use Rattle.translation_definitions.specs.Laws.Legal.{list-in-range, list-decodes, watchdog-in-range, codes-in-range, codes-short}
+use Rattle.translation_definitions.specs.Laws.Exact.{codes-within}
+use Rattle.translation_definitions.specs.BothScans.{Lent}
+use Rattle.translation_definitions.specs.BothAgree.{BothGiven, BothAgree}
+use Rattle.translation_definitions.specs.Laws.Boths.{both-alike}
+use Rattle.translation_definitions.specs.Laws.Calls.{scans-alike, calls-alike}
+use Rattle.translation_definitions.specs.ManyScans.{Scan, ManyGiven, ManyAgree}
+use Rattle.translation_definitions.specs.Laws.Many.{many-alike}
+
+-- Demand 3: for every accepted ladder of V variables, every legal table, every rung watchdog n and every instruction watchdog.
+pub agreement : (gs : Ladder) (s : State) (n : ℕ) → Accepted (s .vars) gs → Legal s → Agreement 2 gs (translate (s .vars) gs) s n
+agreement gs s n accepted legal = translated-agrees (s .vars) gs s n accepted (alike-self s legal)
+
+-- An accepted ladder's list gets a "yes" to question 10,
+pub list-accepted : (vars : ℕ) (gs : Ladder) → Accepted vars gs → question10 vars (map instrWord (translate vars gs .code)) (translate vars gs .records) ≡ yes
+list-accepted vars gs accepted = list-in-range vars gs accepted
+
+-- its words decode to its instructions,
+pub list-decoded : (vars : ℕ) (gs : Ladder) → Accepted vars gs → decodeCode (map instrWord (translate vars gs .code)) ≡ some (translate vars gs .code)
+list-decoded vars gs accepted = list-decodes vars gs accepted
+
+-- and k × L is a legal instruction watchdog for every k up to 65,535.
+pub watchdog-accepted : (vars : ℕ) (gs : Ladder) → Accepted vars gs → (k : ℕ) → k ≤ mostRungWatchdog
+    → question12 mostInstructionWatchdog (k * longest (translate vars gs .records)) ≡ yes
+watchdog-accepted vars gs accepted k h = watchdog-in-range vars gs accepted k h
+
+-- A ladder's list has at most two instructions for a kept word.
+pub few-instructions : (vars : ℕ) (gs : Ladder) → length (translate vars gs .code) ≤ codeBound (length (encode gs .words))
+unfolding translate encode
+few-instructions vars gs = codes-short vars (start vars gs) gs
+
+-- Question 9 is exact: it gets a "no" only if F and R pass t31. Whatever else stands in the list, variables and jumps, is in range.
+pub scratch-exactly : (vars : ℕ) (gs : Ladder) → question6 vars gs ≡ yes
+    → (question9 gs ≡ yes) ↔ T (all (instrInRange (tableSize vars) (length (translate vars gs .code))) (translate vars gs .code))
+unfolding question6 question9 scratchInRange translate
+scratch-exactly vars gs variables = (
+  (λ e. codes-in-range vars _ (start vars gs) (start-near vars gs) gs (each-passed 6 (rungBelow vars) gs variables) (ask-passed 9 _ e)),
+  (λ h. passed-ask 9 _ (codes-within vars _ (start vars gs) gs h)),
+)
+
+-- Demand 3 over the calls Ladder scan and List scan: for every kept ladder of V variables that is accepted, its list in words and records,
+-- every legal table and every rung watchdog n.
+pub scans-agree : (vars : ℕ) (kept : Kept) (table : List ℕ) (n : ℕ)
+    → ladderAnswer vars kept ≡ yes → question11 (stateOf vars table) ≡ yes → question12 mostRungWatchdog n ≡ yes
+    → ScansAgree vars kept (map instrWord (translate vars (ladderOf kept) .code)) (translate vars (ladderOf kept) .records) (longest (translate vars (ladderOf kept) .records)) table n
+scans-agree vars kept table n accepted legal watchdog = scans-alike vars kept table n accepted legal watchdog
+
+-- The same with the list that Translate writes into lent buffers with room enough, taken out of them again.
+pub calls-agree : (vars : ℕ) (kept : Kept) (lent : Buffers) (table : List ℕ) (n : ℕ) → Given vars kept lent table n → CallsAgree vars kept lent table n
+calls-agree vars kept lent table n given = calls-alike vars kept lent table n given
+
+-- Demand 3 over the code: what both_scans answers for all watchdogs n and w.
+pub both-agree : (vars : ℕ) (kept : Kept) (table : List ℕ) (lent : Lent) (n : ℕ) → BothGiven vars kept table lent n → (w : ℕ) → BothAgree vars kept table lent n w
+both-agree vars kept table lent n given w = both-alike vars kept table lent n given w
+
+-- Beyond demand 3: over any number of scans, an input phase before each, a ladder and its list agree after every one. Of Translate it takes scans-agree alone.
+pub many-scans : (vars : ℕ) (kept : Kept) (scans : List Scan) (t u : List ℕ) → ManyGiven vars kept scans t u → ManyAgree vars kept scans t u
+many-scans vars kept scans t u given = many-alike vars kept (λ table n. scans-agree vars kept table n (given .accepted)) scans t u given

@@ -1,9 +1,0 @@
-// Answers test requests for the five calls, one a line, until the input ends or a request is bad.
-use requests::output;
-
-fn main() {
-    let mut chunk = [0u8; 65536];
-    let mut room = [0u8; 65536];
-    let placed = answers::answer_all(&mut chunk, &mut room);
-    output::write(&room, placed);
-}
