@@ -1,65 +1,308 @@
--- Laws of both scans: Translate's refusal leaves everything, and the list that it wrote lies within the lent buffers. Assumes nothing.
+-- Laws of both scans: each way that the questions and Translate answer, and what the scans give once none refuses. Assumes nothing.
 use Prim.Native.Nat.{ℕ, _≤_}
+use native.Mathlib.Omega.{arith}
 use mathlib.Core.Path.{_≡_, refl, sym, ap, _∙_}
-use mathlib.Core.List.{List}
-use lib.ListN.{length, take}
-use Rattle.questions.specs.Refusals.{refusalOf}
+use mathlib.Core.Bool.{true, false}
+use mathlib.Core.Option.{none, some}
+use mathlib.Core.List.{List, [], _∷_, map, append-nil}
+use lib.Dec.{eqb→eq}
+use lib.ListN.{length, take, drop-of-length-le}
+use lib.Seq.{take-all}
+use Rattle.questions.specs.Questions.{Refusal, Answer, ask, firstNo, question12, question13, mostRungWatchdog, mostInstructionWatchdog}
+use Rattle.questions.specs.Refusals.{refusalOf, verdictAnswer}
+use Rattle.questions.specs.Laws.Answers.{ask-passed, first-yes, later-yes, verdict-refused, verdict-accepted, watchdog-in-range}
 use Rattle.questions.specs.declared.Refusal.{Refusal as RefusalCase}
-use Rattle.rungs.specs.Records.{rowOf}
-use Rattle.rungs.specs.Buffers.{Buffers, writtenWords, writtenRecords}
+use Rattle.questions.specs.declared.Verdict.{Verdict}
+use Rattle.questions.specs.declared.Verdict.the-variants.{Accepted, Refused}
+use Rattle.table.specs.Halt.{Halt}
+use Rattle.table.specs.State.{stateOf}
+use Rattle.table.specs.Questions.{question11}
+use Rattle.rungs.specs.Records.{RungRecord, rowOf, longest}
+use Rattle.rungs.specs.Buffers.{Buffers, needs, writtenOver, writtenWords, writtenRecords}
 use Rattle.ladder_definitions.specs.Kept.{Kept}
-use Rattle.ladder_definitions.specs.LadderScan.{callLadderScan, LadderScanDone}
+use Rattle.ladder_definitions.specs.Meaning.{scanLadder}
+use Rattle.ladder_definitions.specs.Questions.{ladderOf, ladderAnswer, mostRungWords}
+use Rattle.ladder_definitions.specs.LadderScan.{LadderCounts, LadderScanAnswer, callLadderScan, scanned as ladderScanned, refused as ladderRefused, scanEnds as ladderEnds, scanQuestions as ladderAsked, countsIn as ladderCountsIn, ladderScannedAnswer, LadderScanDone}
+use Rattle.ladder_definitions.specs.Laws.Accepting.{accepted, ladder-first}
 use Rattle.ladder_definitions.specs.declared.LadderScanned.{LadderScanned}
-use Rattle.list_definitions.specs.ListScan.{callListScan, ListScanDone}
+use Rattle.ladder_definitions.specs.declared.LadderScanned.the-variants.{Ended as LadderEnded, Stopped as LadderStopped, Refused as LadderRefused}
+use Rattle.list_definitions.specs.Instruction.{instrWord}
+use Rattle.list_definitions.specs.Machine.{Counts as ListCounts, InstructionList, scanList}
+use Rattle.list_definitions.specs.ListScan.{ListScanAnswer, callListScan, scanned as listScanned, refused as listRefused, scanEnds as listEnds, countsIn as listCountsIn, listScannedAnswer, ListScanDone}
 use Rattle.list_definitions.specs.declared.ListScanned.{ListScanned}
-use Rattle.translation_definitions.specs.TranslateKept.{translated, refused, translateKept, countsIn, TranslateDone, translatedAnswer}
-use Rattle.translation_definitions.specs.Laws.Answers.{refused-same, written-room}
-use Rattle.translation_definitions.specs.BothScans.{copied, Lent, scanBoth, bothScans, BothScansDone, bothScannedAnswer}
+use Rattle.list_definitions.specs.declared.ListScanned.the-variants.{Ended as ListEnded, Stopped as ListStopped, Refused as ListRefused}
+use Rattle.translation_definitions.specs.Translate.{translate, codeBound}
+use Rattle.translation_definitions.specs.TranslateKept.{translated, refused as translateRefused, translateKept, countsOf, countsIn, listBuffers, TranslateDone, translatedAnswer}
+use Rattle.translation_definitions.specs.Laws.Answers.{not-both, asked, call-refused, call-written, refused-same, all-yes, counts-are, written-room}
+use Rattle.translation_definitions.specs.Laws.Calls.{few-rungs, ladder-call, list-call, words-out, records-out}
+use Rattle.translation_definitions.specs.Laws.Legal.{watchdog-in-range as most-in-range}
+use Rattle.translation_definitions.specs.Laws.Boths.{both-ends, both-left, both-refused, both-scanned, paired-legal}
+use Rattle.translation_definitions.specs.BothScans.{Lent, lends, copyQuestion, bothQuestions, bothScans, pairedScans, haltOf, pairedWatchdog, instructionWatchdog, endsIn, bothScannedAnswer, BothScansDone}
+use Rattle.translation_definitions.specs.BothAgree.{BothPromise, PairedPromise}
+use Rattle.translation_definitions.specs.Theorems.{both-agree, paired-agree}
 use Rattle.translation_definitions.specs.declared.Counts.{Counts as CountsStruct}
+use Rattle.translation_definitions.specs.declared.BothEnds.{BothEnds as EndsStruct}
 use Rattle.translation_definitions.specs.declared.Translated.{Translated}
 use Rattle.translation_definitions.specs.declared.Translated.the-variants.{Written as WrittenCase, Refused as RefusedCase}
+use Rattle.translation_definitions.specs.declared.BothScanned.{BothScanned}
 use Rattle.translation_definitions.specs.declared.BothScanned.the-variants.{Scanned as BothCase, Refused as BothRefused}
+use Rattle.both_scans.specs.Parts.{copied, bothAsked, askedWatchdog, watchdogBy, chosenWatchdog, ladderEnd, listEnd, ScansRun}
+use Rattle.both_scans.specs.declared.ListWatchdog.{ListWatchdog}
+use Rattle.both_scans.specs.declared.ListWatchdog.the-variants.{Given, Paired}
+use Rattle.both_scans.specs.declared.LadderEnd.{LadderEnd}
+use Rattle.both_scans.specs.declared.ListEnd.{ListEnd}
+use Rattle.both_scans.proofs.Asking.{room, asked-all}
 
--- ---- the list that Translate wrote
+-- ---- how a scan ended, from its answer
+
+not-ladder : (h : Halt) (n : LadderCounts) (x : Refusal) → _≡_ {A = LadderScanAnswer} (ladderRefused x) (ladderScanned h n) → ⊥
+not-ladder h n x e = let z : _≡_ {A = ℕ} 0 1 = cc in omega arith
+
+not-list : (h : Halt) (n : ListCounts) (x : Refusal) → _≡_ {A = ListScanAnswer} (listRefused x) (listScanned h n) → ⊥
+not-list h n x e = let z : _≡_ {A = ℕ} 0 1 = cc in omega arith
+
+ladder-told : (a : LadderScanned) (h : Halt) (n : LadderCounts) → ladderScannedAnswer a ≡ ladderScanned h n
+    → (haltOf (ladderEnd a .ended) ≡ h) × (ladderCountsIn (ladderEnd a .counts) ≡ n)
+unfolding ladderScannedAnswer ladderEnd haltOf
+ladder-told (LadderEnded c) h n e = (cc, cc)
+ladder-told (LadderStopped c) h n e = (cc, cc)
+ladder-told (LadderRefused x) h n e = absurd (not-ladder h n (refusalOf x) e)
+
+list-told : (a : ListScanned) (h : Halt) (n : ListCounts) → listScannedAnswer a ≡ listScanned h n
+    → (haltOf (listEnd a .ended) ≡ h) × (listCountsIn (listEnd a .counts) ≡ n)
+unfolding listScannedAnswer listEnd haltOf
+list-told (ListEnded c) h n e = (cc, cc)
+list-told (ListStopped c) h n e = (cc, cc)
+list-told (ListRefused x) h n e = absurd (not-list h n (refusalOf x) e)
+
+-- ---- the rungs entered are within the rung watchdog's range
+
+module _ (vars : ℕ) (k : Kept) (t : List ℕ) (n : ℕ) where
+  scanned-few : (h : Halt) (c : LadderCounts) → callLadderScan vars k t n .answer ≡ ladderScanned h c → n ≤ mostRungWatchdog → c .rungs ≤ mostRungWatchdog
+  unfolding callLadderScan ladderEnds
+  scanned-few h c e most = go (ladderAsked vars k t n) refl
+    where
+      go : (b : Answer) → ladderAsked vars k t n ≡ b → c .rungs ≤ mostRungWatchdog
+      go (some x) q = let z : callLadderScan vars k t n .answer ≡ ladderRefused x = rw (q, callLadderScan) in absurd (not-ladder h c x (sym z ∙ e))
+      go none q =
+          let few = few-rungs (ladderOf k) n (stateOf vars t) in
+          let z : callLadderScan vars k t n .answer
+          ≡ ladderScanned (scanLadder (ladderOf k) n (stateOf vars t) .halt) (record { rungs = scanLadder (ladderOf k) n (stateOf vars t) .rungs }) = rw (q, callLadderScan) in
+          let y : record { rungs = scanLadder (ladderOf k) n (stateOf vars t) .rungs } ≡ c = cc in
+          let r : scanLadder (ladderOf k) n (stateOf vars t) .rungs ≡ c .rungs = ap (λ (d : LadderCounts). d .rungs) y in
+          omega (arith, few, r, most)
+
+  pub end-few : (a : LadderScanned) (t′ : List ℕ) → LadderScanDone (callLadderScan vars k t n) a t′ → n ≤ mostRungWatchdog → ladderEnd a .counts .rungs ≤ mostRungWatchdog
+  unfolding ladderEnd ladderScannedAnswer
+  end-few (LadderEnded c) t′ d most = scanned-few _ _ (sym (d .answer)) most
+  end-few (LadderStopped c) t′ d most = scanned-few _ _ (sym (d .answer)) most
+  end-few (LadderRefused x) t′ d most = omega arith
+
+-- ---- both scans were called
+
+module _ (vars : ℕ) (k : Kept) (code : List ℕ) (records : List RungRecord) (counts : CountsStruct) (n : ℕ) (watchdog : ListWatchdog) {t₀ u₀ : List ℕ} (t u : List ℕ) (et : t ≡ t₀) (eu : u ≡ u₀) where
+  pub scans-ran : (a : LadderScanned) (t′ : List ℕ) → LadderScanDone (callLadderScan vars k t n) a t′ → (x : LadderEnd) → x ≡ ladderEnd a
+      → (m : ℕ) → m ≡ watchdogBy watchdog (haltOf (x .ended)) (x .counts .rungs) (counts .longest) n
+      → (b : ListScanned) (u′ : List ℕ) → ListScanDone (callListScan vars code records u m) b u′ → (y : ListEnd) → y ≡ listEnd b
+      → ScansRun vars k code records counts n watchdog t₀ u₀
+      (record { counts = counts; «ladder_ended» = x .ended; ladder = x .counts; «list_ended» = y .ended; list = y .counts }) t′ u′
+  scans-ran a t′ d x ex m em b u′ e y ey =
+      record {
+        ladder = a;
+        ladder-done = rw (← et) d;
+        list = b;
+        list-done = rw (← eu, ← ex, ← em) e;
+        ends = rw (ex, ey) refl;
+      }
+
+-- ---- a table of the same length is copied whole
+
+copied-whole : (table lent : List ℕ) → length lent ≡ length table → copied table lent ≡ table
+unfolding copied
+copied-whole table lent e =
+    rw (take-all (length lent) table (omega arith), drop-of-length-le lent {i = length table} (omega arith)) (append-nil table)
+
+copy-long : (bytes lent : ℕ) → copyQuestion bytes lent ≡ none → lent ≡ bytes
+unfolding copyQuestion
+copy-long bytes lent e = eqb→eq lent bytes (ask-passed 11 _ e)
+
+-- ---- what Translate wrote
 
 module _ (vars : ℕ) (k : Kept) (lent : Buffers) (r : Translated) (after : Buffers) (done : TranslateDone (translateKept vars k lent) r after) (c : CountsStruct) (e : r ≡ WrittenCase c) where
-  answer-is : translateKept vars k lent .answer ≡ translated (countsIn c)
+  written-answer : translateKept vars k lent .answer ≡ translated (countsIn c)
   unfolding translatedAnswer
-  answer-is = sym (done .answer) ∙ ap translatedAnswer e
+  written-answer = sym (done .answer) ∙ ap translatedAnswer e
 
-  pub room : (c .instructions ≤ length (lent .words)) × (c .rungs ≤ length (lent .labels)) × (c .rungs ≤ length (lent .offsets)) × (c .rungs ≤ length (lent .lengths))
-  room = written-room vars k lent (countsIn c) answer-is
+  pub written-fits : (c .instructions ≤ length (lent .words)) × (c .rungs ≤ length (lent .labels)) × (c .rungs ≤ length (lent .offsets)) × (c .rungs ≤ length (lent .lengths))
+  written-fits = written-room vars k lent (countsIn c) written-answer
+
+  counted : countsIn c ≡ countsOf (translate vars (ladderOf k))
+  counted = counts-are vars k lent (countsIn c) written-answer
+
+  written-yes : firstNo (ladderAnswer vars k ∷ question13 (needs (listBuffers (translate vars (ladderOf k))) lent) ∷ []) ≡ none
+  written-yes = all-yes vars k lent (countsIn c) written-answer
+
+  after-is : after ≡ writtenOver (listBuffers (translate vars (ladderOf k))) lent
+  after-is = done .same-buffers ∙ ap (λ t. t .buffers) (call-written vars k lent written-yes)
+
+  pub longest-few : c .longest ≤ codeBound mostRungWords
+  unfolding countsOf
+  longest-few =
+      let a = accepted vars k (first-yes (ladderAnswer vars k) _ written-yes) .1 in
+      let l : c .longest ≡ longest (translate vars (ladderOf k) .records) = ap (λ d. d .longest) counted in
+      let m = watchdog-in-range mostInstructionWatchdog _ (most-in-range vars (ladderOf k) a 65535 (omega arith)) in
+      omega (arith, l, m)
+
+-- ---- the questions before 13
+
+-- what they told
+pub record EarlyPassed (vars : ℕ) (k : Kept) (table : List ℕ) (lb sb n m : ℕ) : Type 0 where
+  pub ladder : ladderAnswer vars k ≡ none
+  pub legal : question11 (stateOf vars table) ≡ none
+  pub ladder-copy : lb ≡ length table
+  pub list-copy : sb ≡ length table
+  pub rungs : question12 mostRungWatchdog n ≡ none
+  pub instructions : question12 mostInstructionWatchdog m ≡ none
+
+module _ (vars : ℕ) (k : Kept) (table : List ℕ) (lb sb n m : ℕ) {v : Verdict} (answer : verdictAnswer v ≡ bothAsked vars k table lb sb n m) (accepts : v ≡ Accepted) where
+  early-passed : EarlyPassed vars k table lb sb n m
+  unfolding bothAsked
+  early-passed =
+      let e = verdict-accepted answer accepts in
+      let e1 = later-yes _ _ e in
+      let e2 = later-yes _ _ e1 in
+      let e3 = later-yes _ _ e2 in
+      let e4 = later-yes _ _ e3 in
+      let e5 = later-yes _ _ e4 in
+      record {
+        ladder = first-yes _ _ e;
+        legal = first-yes _ _ e1;
+        ladder-copy = copy-long _ _ (first-yes _ _ e2);
+        list-copy = copy-long _ _ (first-yes _ _ e3);
+        rungs = first-yes _ _ e4;
+        instructions = first-yes _ _ e5;
+      }
+
+  pub rungs-few : n ≤ mostRungWatchdog
+  rungs-few = watchdog-in-range mostRungWatchdog n (early-passed .rungs)
 
 -- ---- both scans
 
-module _ (vars : ℕ) (k : Kept) (table : List ℕ) (lent : Lent) (n w : ℕ) (r : Translated) (after : Buffers)
-    (done : TranslateDone (translateKept vars k (lent .buffers)) r after) where
-  refused-answer : (x : RefusalCase) → r ≡ RefusedCase x → translateKept vars k (lent .buffers) .answer ≡ refused (refusalOf x)
-  unfolding translatedAnswer
-  refused-answer x e = sym (done .answer) ∙ ap translatedAnswer e
+module _ (vars : ℕ) (k : Kept) (table : List ℕ) (lent : Lent) (n : ℕ) (watchdog : ListWatchdog) (m : ℕ) (em : m ≡ askedWatchdog watchdog) (v : Verdict)
+    (answer : verdictAnswer v ≡ bothAsked vars k table (length (lent .ladderTable)) (length (lent .listTable)) n m) where
+  abbrev w : ℕ
+  w = chosenWatchdog watchdog vars k table n
 
-  pub both-refused : (x : RefusalCase) → r ≡ RefusedCase x
-      → BothScansDone (bothScans vars k table lent n w) (BothRefused x) (record { ladderTable = lent .ladderTable; listTable = lent .listTable; buffers = after })
-  unfolding bothScans bothScannedAnswer
-  both-refused x e =
-      let a = refused-answer x e in
-      record {
-        answer = rw (a, bothScans);
-        same-lent = rw (a, bothScans) (λ i. record { ladderTable = lent .ladderTable; listTable = lent .listTable; buffers = (done .same-buffers ∙ refused-same vars k (lent .buffers) (refusalOf x) a) i });
-      }
+  asked-then : firstNo (bothQuestions vars k table lent n w) ≡ firstNo (verdictAnswer v ∷ room vars k table lent n ∷ [])
+  asked-then = asked-all vars k table lent n watchdog ∙ rw (answer, em) refl
 
-  module _ (c : CountsStruct) (e : r ≡ WrittenCase c) where
-    written-answer : translateKept vars k (lent .buffers) .answer ≡ translated (countsIn c)
-    written-answer = answer-is vars k (lent .buffers) r after done c e
+  pub early-refused : (x : RefusalCase) → v ≡ Refused x → BothScansDone (bothScans vars k table lent n w) (BothRefused x) lent
+  unfolding firstNo bothScannedAnswer verdictAnswer
+  early-refused x e =
+      let b = both-refused vars k table lent n w (refusalOf x) (asked-then ∙ rw e refl) in
+      record { answer = rw b refl; same-lent = rw b refl }
 
-    pub both-scanned : (t u : List ℕ) → t ≡ copied table (lent .ladderTable) → u ≡ copied table (lent .listTable)
-        → (x : LadderScanned) (t′ : List ℕ) → LadderScanDone (callLadderScan vars k t n) x t′
-        → (y : ListScanned) (u′ : List ℕ)
-        → ListScanDone (callListScan vars (take (c .instructions) (after .words)) (rowOf (take (c .rungs) (after .labels)) (take (c .rungs) (after .offsets)) (take (c .rungs) (after .lengths))) u w) y u′
-        → BothScansDone (bothScans vars k table lent n w) (BothCase x y) (record { ladderTable = t′; listTable = u′; buffers = after })
-    unfolding bothScans scanBoth bothScannedAnswer writtenWords writtenRecords
-    both-scanned t u et eu x t′ dx y u′ dy =
-        record {
-          answer = rw (written-answer, bothScans, ← (done .same-buffers), ← et, ← eu, ← (dx .answer), ← (dy .answer)) refl;
-          same-lent = rw (written-answer, bothScans, ← (done .same-buffers), ← et, ← eu) (λ i. record { ladderTable = dx .same-table i; listTable = dy .same-table i; buffers = after });
-        }
+  module _ (accepts : v ≡ Accepted) where
+    abbrev p : EarlyPassed vars k table (length (lent .ladderTable)) (length (lent .listTable)) n m
+    p = early-passed vars k table (length (lent .ladderTable)) (length (lent .listTable)) n m answer accepts
+
+    -- the chosen watchdog is in range
+    chosen-legal : question12 mostInstructionWatchdog w ≡ none
+    unfolding askedWatchdog chosenWatchdog
+    chosen-legal = go watchdog (rw em at (p .instructions))
+      where
+        go : (x : ListWatchdog) → question12 mostInstructionWatchdog (askedWatchdog x) ≡ none → question12 mostInstructionWatchdog (chosenWatchdog x vars k table n) ≡ none
+        go (Given u) e = e
+        go Paired e = paired-legal vars k table n (p .ladder) (p .rungs)
+
+    module _ (r : Translated) (after : Buffers) (done : TranslateDone (translateKept vars k (lent .buffers)) r after) where
+      pub room-refused : (x : RefusalCase) → r ≡ RefusedCase x
+          → BothScansDone (bothScans vars k table lent n w) (BothRefused x) (lends (lent .ladderTable) (lent .listTable) after)
+      unfolding translatedAnswer firstNo bothScannedAnswer verdictAnswer
+      room-refused x e = go (room vars k table lent n) refl
+        where
+          refuses : translateKept vars k (lent .buffers) .answer ≡ translateRefused (refusalOf x)
+          refuses = sym (done .answer) ∙ ap translatedAnswer e
+
+          go : (a : Answer) → room vars k table lent n ≡ a
+              → BothScansDone (bothScans vars k table lent n w) (BothRefused x) (lends (lent .ladderTable) (lent .listTable) after)
+          go none q = absurd (not-both _ (refusalOf x) (sym (ap (λ c. c .answer) (call-written vars k (lent .buffers) (rw (p .ladder, q)))) ∙ refuses))
+          go (some y) q =
+              let z : translateRefused y ≡ translateRefused (refusalOf x) = sym (ap (λ c. c .answer) (call-refused vars k (lent .buffers) y (rw (p .ladder, q)))) ∙ refuses in
+              let same : y ≡ refusalOf x = cc in
+              let b = both-refused vars k table lent n w (refusalOf x) (asked-then ∙ rw (accepts, q, same) refl) in
+              let kept = done .same-buffers ∙ refused-same vars k (lent .buffers) (refusalOf x) refuses in
+              record { answer = rw b refl; same-lent = rw b (λ i. lends (lent .ladderTable) (lent .listTable) (kept i)) }
+
+      module _ (c : CountsStruct) (e : r ≡ WrittenCase c) (ends : EndsStruct) (t′ u′ : List ℕ)
+          (ran : ScansRun vars k (take (c .instructions) (after .words)) (rowOf (take (c .rungs) (after .labels)) (take (c .rungs) (after .offsets)) (take (c .rungs) (after .lengths)))
+          c n watchdog (copied table (lent .ladderTable)) (copied table (lent .listTable)) ends t′ u′) where
+        abbrev list : InstructionList
+        list = translate vars (ladderOf k)
+
+        counts : countsIn c ≡ countsOf list
+        counts = counted vars k (lent .buffers) r after done c e
+
+        wrote : after ≡ writtenOver (listBuffers list) (lent .buffers)
+        wrote = after-is vars k (lent .buffers) r after done c e
+
+        passed-all : firstNo (bothQuestions vars k table lent n w) ≡ none
+        unfolding firstNo verdictAnswer
+        passed-all = asked-then ∙ rw accepts (later-yes (ladderAnswer vars k) (room vars k table lent n ∷ []) (written-yes vars k (lent .buffers) r after done c e))
+
+        ladder-is : LadderScanDone (ladderEnds (scanLadder (ladderOf k) n (stateOf vars table))) (ran .ladder) t′
+        ladder-is =
+            rw (← (ladder-call vars k table n (p .ladder) (p .legal) (p .rungs)), ← (copied-whole table (lent .ladderTable) (p .ladder-copy))) (ran .ladder-done)
+
+        ladder-halt : (haltOf (ladderEnd (ran .ladder) .ended) ≡ scanLadder (ladderOf k) n (stateOf vars table) .halt)
+            × (ladderCountsIn (ladderEnd (ran .ladder) .counts) ≡ record { rungs = scanLadder (ladderOf k) n (stateOf vars table) .rungs })
+        unfolding ladderEnds
+        ladder-halt = ladder-told (ran .ladder) _ _ (ladder-is .answer)
+
+        same-watchdog : (x : ListWatchdog) → watchdogBy x (haltOf (ladderEnd (ran .ladder) .ended)) (ladderEnd (ran .ladder) .counts .rungs) (c .longest) n ≡ chosenWatchdog x vars k table n
+        unfolding watchdogBy chosenWatchdog pairedWatchdog countsOf
+        same-watchdog (Given u) = refl
+        same-watchdog Paired =
+            let rungs : ladderEnd (ran .ladder) .counts .rungs ≡ scanLadder (ladderOf k) n (stateOf vars table) .rungs = ap (λ (d : LadderCounts). d .rungs) (ladder-halt .1) in
+            let most : c .longest ≡ longest (list .records) = ap (λ d. d .longest) counts in
+            rw (ladder-halt .0, rungs, most) refl
+
+        -- the list that Translate wrote, taken out of the buffers
+        words-are : take (c .instructions) (after .words) ≡ map instrWord (list .code)
+        unfolding writtenWords countsOf
+        words-are = rw (wrote, ap (λ d. d .instructions) counts) (words-out list (lent .buffers))
+
+        records-are : rowOf (take (c .rungs) (after .labels)) (take (c .rungs) (after .offsets)) (take (c .rungs) (after .lengths)) ≡ list .records
+        unfolding writtenRecords countsOf
+        records-are = rw (wrote, ap (λ d. d .rungs) counts) (records-out list (lent .buffers))
+
+        list-is : ListScanDone (listEnds (scanList list w (stateOf vars table))) (ran .list) u′
+        list-is =
+            let d = rw (copied-whole table (lent .listTable) (p .list-copy), words-are, records-are, same-watchdog watchdog) at (ran .list-done) in
+            rw (← (list-call vars k table n (p .ladder) (p .legal) (p .rungs) w chosen-legal)) d
+
+        list-halt : (haltOf (listEnd (ran .list) .ended) ≡ scanList list w (stateOf vars table) .halt) × (listCountsIn (listEnd (ran .list) .counts) ≡ scanList list w (stateOf vars table) .counts)
+        unfolding listEnds
+        list-halt = list-told (ran .list) _ _ (list-is .answer)
+
+        pub both-done : BothScansDone (bothScans vars k table lent n w) (BothCase ends) (lends t′ u′ after)
+        unfolding bothScannedAnswer endsIn both-ends both-left ladderEnds listEnds
+        both-done =
+            let b = both-scanned vars k table lent n w passed-all in
+            record {
+              answer = rw (b, ran .ends, ladder-halt .0, ladder-halt .1, list-halt .0, list-halt .1, counts) refl;
+              same-lent = rw b (λ i. lends (ladder-is .same-table i) (list-is .same-table i) (wrote i));
+            }
+
+-- ---- the two calls' promises
+
+module _ (vars : ℕ) (k : Kept) (table : List ℕ) (lent : Lent) (n : ℕ) {r : BothScanned} {after : Lent} where
+  pub both-promise : (w : ℕ) → BothScansDone (bothScans vars k table lent n (chosenWatchdog (Given w) vars k table n)) r after
+      → BothScansDone (bothScans vars k table lent n w) r after × BothPromise vars k table lent n w (bothScannedAnswer r) after
+  unfolding chosenWatchdog
+  both-promise w d = (d, λ given legal. rw (d .answer, d .same-lent) (both-agree vars k table lent n w given legal))
+
+  pub paired-promise : BothScansDone (bothScans vars k table lent n (chosenWatchdog Paired vars k table n)) r after
+      → BothScansDone (pairedScans vars k table lent n) r after × PairedPromise vars k table lent n (bothScannedAnswer r) after
+  unfolding chosenWatchdog
+  paired-promise d = (d, λ given. rw (d .answer, d .same-lent) (paired-agree vars k table lent n given))

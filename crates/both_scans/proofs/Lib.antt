@@ -1,3 +1,4 @@
 -- Laws that the proofs of functions cite.
+pub mod Asking
 pub mod Boths
 pub mod Tables

@@ -6,7 +6,7 @@ use mathlib.Core.Path.{_≡_, refl, sym, ap, _∙_}
 use mathlib.Core.List.{List, [], _∷_, _++_, append-assoc}
 use lib.ListN.{length, getD, take, drop, set, drop-of-length-le}
 use lib.Seq.{take-all, take-suc, drop-cons, length-take-le, set-at}
-use Rattle.translation_definitions.specs.BothScans.{copied}
+use Rattle.both_scans.specs.Parts.{copied}
 
 -- the first i bytes are copied
 pub record Copying (t l : List ℕ) (i : ℕ) (x : List ℕ) : Type 0 where

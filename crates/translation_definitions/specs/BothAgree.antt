@@ -1,18 +1,21 @@
--- Demand 3 over the code: what `both_scans` answers, by its definition, for all watchdogs n and w. Its hypotheses are BothGiven, its conclusions BothAgree,
--- a field to a sentence; Theorems states that the first give the second. Assumes nothing.
+-- Demand 3 over the code: what the answer of both_scans and of paired_scans and the bytes that they leave tell. The hypotheses are BothGiven; the conclusions,
+-- a field to a clause, are BothAgree for both_scans and PairedAgree for paired_scans, whose second promises they are. Theorems states that the definitions
+-- have them. Assumes nothing.
 use Prim.Native.Nat.{ℕ}
 use mathlib.Core.Path.{_≡_}
 use mathlib.Core.List.{List}
 use lib.ListN.{length}
+use Rattle.questions.specs.Questions.{yes, question12, mostInstructionWatchdog}
 use Rattle.table.specs.State.{stateOf}
-use Rattle.table.specs.Halt.{Halt, Stopped}
+use Rattle.table.specs.Halt.{Ended, Stopped}
+use Rattle.rungs.specs.Buffers.{Buffers}
 use Rattle.ladder_definitions.specs.Kept.{Kept}
-use Rattle.ladder_definitions.specs.LadderScan.{LadderCounts, scanned as ladderScanned}
-use Rattle.list_definitions.specs.ListScan.{ListScanAnswer}
-use Rattle.translation_definitions.specs.TranslateKept.{Counts, translateKept, translated}
-use Rattle.translation_definitions.specs.Demand3.{ScansAlike}
+use Rattle.ladder_definitions.specs.LadderScan.{scanned as ladderScanned}
+use Rattle.list_definitions.specs.ListScan.{scanned as listScanned}
+use Rattle.translation_definitions.specs.TranslateKept.{translateKept, translated}
+use Rattle.translation_definitions.specs.Demand3.{EndedAlike, StoppedAlike, ScansAlike}
 use Rattle.translation_definitions.specs.Calls.{Given}
-use Rattle.translation_definitions.specs.BothScans.{Lent, both, bothScans}
+use Rattle.translation_definitions.specs.BothScans.{Lent, BothEnds, BothAnswer, both}
 
 -- an accepted ladder, a legal table, a rung watchdog n, room for the list; and two lent tables of the table's length
 pub record BothGiven (vars : ℕ) (kept : Kept) (table : List ℕ) (lent : Lent) (n : ℕ) : Type 0 where
@@ -20,16 +23,33 @@ pub record BothGiven (vars : ℕ) (kept : Kept) (table : List ℕ) (lent : Lent)
   pub ladder-copy : length (lent .ladderTable) ≡ length table
   pub list-copy : length (lent .listTable) ≡ length table
 
-pub record BothAgree (vars : ℕ) (kept : Kept) (table : List ℕ) (lent : Lent) (n w : ℕ) : Type 0 where
-  -- Translate wrote a list, with L
-  pub counts : Counts
-  pub translated : translateKept vars kept (lent .buffers) .answer ≡ translated counts
-  -- the ladder scan was not refused: it halted with its counts
-  pub halt : Halt
-  pub ladder : LadderCounts
-  pub list : ListScanAnswer
-  pub answered : bothScans vars kept table lent n w .answer ≡ both (ladderScanned halt ladder) list
+-- No scan was refused, and the list is Translate's.
+pub record BothTold (vars : ℕ) (kept : Kept) (lent : Buffers) (n : ℕ) (answer : BothAnswer) (after : Lent) : Type 0 where
+  pub ends : BothEnds
+  pub answered : answer ≡ both ends
+  -- "In demand 3 a ladder's list is what Translate writes for it, records included.", with its counts
+  pub translated : translateKept vars kept lent ≡ record { answer = translated (ends .counts); buffers = after .buffers }
   -- "Stopped at n rungs"
-  pub stopped-at : halt ≡ Stopped → ladder .rungs ≡ n
-  pub alike : ScansAlike 2 (counts .longest) n w (ladderScanned halt ladder) (stateOf vars (bothScans vars kept table lent n w .lent .ladderTable))
-      list (stateOf vars (bothScans vars kept table lent n w .lent .listTable))
+  pub stopped-at : ends .ladderHalt ≡ Stopped → ends .ladder .rungs ≡ n
+
+-- Demand 3 under any legal instruction watchdog w: its two halves.
+pub record BothAgree (vars : ℕ) (kept : Kept) (lent : Buffers) (n w : ℕ) (answer : BothAnswer) (after : Lent) : Type 0 where
+  pub told : BothTold vars kept lent n answer after
+  pub alike : ScansAlike 2 (told .ends .counts .longest) n w (ladderScanned (told .ends .ladderHalt) (told .ends .ladder)) (stateOf vars (after .ladderTable))
+      (listScanned (told .ends .listHalt) (told .ends .list)) (stateOf vars (after .listTable))
+
+-- Demand 3 under its own instruction watchdog, k × L or 2 × n: the two scans end alike, or both are stopped.
+pub record PairedAgree (vars : ℕ) (kept : Kept) (lent : Buffers) (n : ℕ) (answer : BothAnswer) (after : Lent) : Type 0 where
+  pub told : BothTold vars kept lent n answer after
+  pub ended : told .ends .ladderHalt ≡ Ended → EndedAlike 2 (told .ends .counts .longest) (told .ends .ladder .rungs) (stateOf vars (after .ladderTable))
+      (listScanned (told .ends .listHalt) (told .ends .list)) (stateOf vars (after .listTable))
+  pub stopped : told .ends .ladderHalt ≡ Stopped → StoppedAlike (listScanned (told .ends .listHalt) (told .ends .list))
+
+-- what both_scans promises besides: where the hypotheses hold and w is legal, demand 3
+abbrev pub BothPromise : ℕ → Kept → List ℕ → Lent → ℕ → ℕ → BothAnswer → Lent → Type 0
+BothPromise vars kept table lent n w answer after =
+    BothGiven vars kept table lent n → question12 mostInstructionWatchdog w ≡ yes → BothAgree vars kept (lent .buffers) n w answer after
+
+-- what paired_scans promises besides
+abbrev pub PairedPromise : ℕ → Kept → List ℕ → Lent → ℕ → BothAnswer → Lent → Type 0
+PairedPromise vars kept table lent n answer after = BothGiven vars kept table lent n → PairedAgree vars kept (lent .buffers) n answer after

@@ -1,24 +1,32 @@
 -- Both scans of one table: a ladder is translated, and the ladder and its list are scanned, "each" begun "on a copy of that table" (demand 3).
--- Not a call of document 01: what a fault book can cite. Assumes nothing.
-use Prim.Native.Nat.{ℕ}
+-- Not a call of document 01: what a fault book can cite. Every question is put before the first store. Assumes nothing.
+use Prim.Native.Nat.{ℕ, _*_}
 use mathlib.Core.Path.{_≡_}
-use mathlib.Core.List.{List, _++_}
-use lib.ListN.{length, take, drop}
-use Rattle.questions.specs.Questions.{Refusal}
+use mathlib.Core.Bool.{Bool, true, false}
+use mathlib.Core.Option.{none, some}
+use mathlib.Core.List.{List, [], _∷_, _++_}
+use lib.Dec.{eqb}
+use lib.ListN.{length}
+use Rattle.questions.specs.Questions.{Refusal, Answer, ask, firstNo, question1, question12, question13, mostRungWatchdog, mostInstructionWatchdog}
 use Rattle.questions.specs.Refusals.{refusalOf}
-use Rattle.rungs.specs.Buffers.{Buffers, writtenWords, writtenRecords}
+use Rattle.table.specs.Halt.{Halt, Ended, Stopped}
+use Rattle.table.specs.State.{stateOf}
+use Rattle.table.specs.Questions.{question11}
+use Rattle.rungs.specs.Buffers.{Buffers, needs, writtenOver}
+use Rattle.rungs.specs.Records.{longest}
 use Rattle.ladder_definitions.specs.Kept.{Kept}
-use Rattle.ladder_definitions.specs.LadderScan.{callLadderScan, LadderScanAnswer, ladderScannedAnswer}
-use Rattle.list_definitions.specs.ListScan.{callListScan, ListScanAnswer, listScannedAnswer}
-use Rattle.translation_definitions.specs.TranslateKept.{Counts, translateKept, translated, refused}
+use Rattle.ladder_definitions.specs.Meaning.{scanLadder}
+use Rattle.ladder_definitions.specs.Questions.{ladderOf, ladderQuestions}
+use Rattle.ladder_definitions.specs.LadderScan.{LadderCounts, countsIn as ladderCountsIn}
+use Rattle.list_definitions.specs.Machine.{Counts as ListCounts, scanList}
+use Rattle.list_definitions.specs.ListScan.{countsIn as listCountsIn}
+use Rattle.translation_definitions.specs.Translate.{translate}
+use Rattle.translation_definitions.specs.TranslateKept.{Counts, countsOf, countsIn, listBuffers}
+use Rattle.translation_definitions.specs.declared.BothEnds.{BothEnds as EndsStruct}
 use Rattle.translation_definitions.specs.declared.BothScanned.{BothScanned}
 use Rattle.translation_definitions.specs.declared.BothScanned.the-variants.{Scanned as ScannedCase, Refused as RefusedCase}
 
--- the table copied to the start of a lent one, as far as that reaches
-unfoldable pub copied : List ℕ → List ℕ → List ℕ
-copied table lent = take (length lent) table ++ drop (length table) lent
-
--- the lent tables and buffers
+-- the two lent tables, which become the copies, and the buffers for the list
 pub record Lent : Type 0 where
   pub ladderTable : List ℕ
   pub listTable : List ℕ
@@ -27,37 +35,88 @@ pub record Lent : Type 0 where
 abbrev pub lends : List ℕ → List ℕ → Buffers → Lent
 lends ladderTable listTable buffers = record { ladderTable = ladderTable; listTable = listTable; buffers = buffers }
 
--- the answers of both scans, or Translate's refusal
+-- 11, of a copy: it is lent as many bytes as the table has
+unfoldable pub copyQuestion : ℕ → ℕ → Answer
+copyQuestion bytes lent = ask 11 (eqb lent bytes)
+
+-- 1 and 4 to 9 of the ladder, 11 of the table and of each copy, 12 of the rung watchdog n and of the instruction watchdog w, 13 of the list's buffers
+unfoldable pub bothQuestions : ℕ → Kept → List ℕ → Lent → ℕ → ℕ → List Answer
+bothQuestions vars k table lent n w =
+    question1 vars ∷ ladderQuestions vars k
+    ++ question11 (stateOf vars table)
+    ∷ copyQuestion (length table) (length (lent .ladderTable))
+    ∷ copyQuestion (length table) (length (lent .listTable))
+    ∷ question12 mostRungWatchdog n
+    ∷ question12 mostInstructionWatchdog w
+    ∷ question13 (needs (listBuffers (translate vars (ladderOf k))) (lent .buffers))
+    ∷ []
+
+-- Translate's counts, and how each scan halted, with its counts
+pub record BothEnds : Type 0 where
+  pub counts : Counts
+  pub ladderHalt : Halt
+  pub ladder : LadderCounts
+  pub listHalt : Halt
+  pub list : ListCounts
+
 pub data BothAnswer : Type 0 where
-  both : LadderScanAnswer → ListScanAnswer → BothAnswer
-  refusedAs : Refusal → BothAnswer
+  both : BothEnds → BothAnswer
+  refused : Refusal → BothAnswer
 
 pub record BothCall : Type 0 where
   pub answer : BothAnswer
   pub lent : Lent
 
--- both scans, once Translate has written a list with its counts
-unfoldable pub scanBoth : ℕ → Kept → List ℕ → Lent → ℕ → ℕ → Buffers → Counts → BothCall
-scanBoth vars k table lent n w written counts =
-    let ladder = callLadderScan vars k (copied table (lent .ladderTable)) n in
-    let list = callListScan vars (writtenWords written (counts .instructions)) (writtenRecords written (counts .rungs)) (copied table (lent .listTable)) w in
-    record { answer = both (ladder .answer) (list .answer); lent = record { ladderTable = ladder .table; listTable = list .table; buffers = written } }
-
--- Translate, then Ladder scan under the rung watchdog n and List scan under the instruction watchdog w. A refusal of Translate leaves all that was lent.
+-- A refusal leaves all that was lent. Else the list stands in the buffers, and each scan's table in its copy.
 unfoldable pub bothScans : ℕ → Kept → List ℕ → Lent → ℕ → ℕ → BothCall
 bothScans vars k table lent n w =
-    let t = translateKept vars k (lent .buffers) in
-    elim (t .answer) [
-      | refused refusal ↦ record { answer = refusedAs refusal; lent = lent }
-      | translated counts ↦ scanBoth vars k table lent n w (t .buffers) counts
+    let list = translate vars (ladderOf k) in
+    let x = scanLadder (ladderOf k) n (stateOf vars table) in
+    let y = scanList list w (stateOf vars table) in
+    elim (firstNo (bothQuestions vars k table lent n w)) [
+      | some refusal ↦ record { answer = refused refusal; lent = lent }
+      | none ↦ record {
+        answer = both (record { counts = countsOf list; ladderHalt = x .halt; ladder = record { rungs = x .rungs }; listHalt = y .halt; list = y .counts });
+        lent = lends (x .state .bytes) (y .state .bytes) (writtenOver (listBuffers list) (lent .buffers));
+      }
     ]
+
+-- demand 3's instruction watchdog: k × L where the ladder scan ended with k rungs entered, 2 × n where it stopped at n
+unfoldable pub instructionWatchdog : Halt → ℕ → ℕ → ℕ → ℕ
+instructionWatchdog Ended k longest n = k * longest
+instructionWatchdog Stopped k longest n = 2 * n
+
+unfoldable pub pairedWatchdog : ℕ → Kept → List ℕ → ℕ → ℕ
+pairedWatchdog vars k table n =
+    let x = scanLadder (ladderOf k) n (stateOf vars table) in
+    instructionWatchdog (x .halt) (x .rungs) (longest (translate vars (ladderOf k) .records)) n
+
+-- Both scans, the list's under demand 3's instruction watchdog.
+abbrev pub pairedScans : ℕ → Kept → List ℕ → Lent → ℕ → BothCall
+pairedScans vars k table lent n = bothScans vars k table lent n (pairedWatchdog vars k table n)
+
+-- true where a scan ended, false where it stopped
+unfoldable pub haltOf : Bool → Halt
+haltOf true = Ended
+haltOf false = Stopped
+
+-- the values in the struct BothEnds
+unfoldable pub endsIn : EndsStruct → BothEnds
+endsIn e =
+    record {
+      counts = countsIn (e .counts);
+      ladderHalt = haltOf (e .«ladder_ended»);
+      ladder = ladderCountsIn (e .ladder);
+      listHalt = haltOf (e .«list_ended»);
+      list = listCountsIn (e .list);
+    }
 
 -- the values of each case of the enum BothScanned
 unfoldable pub bothScannedAnswer : BothScanned → BothAnswer
-bothScannedAnswer (ScannedCase ladder list) = both (ladderScannedAnswer ladder) (listScannedAnswer list)
-bothScannedAnswer (RefusedCase refusal) = refusedAs (refusalOf refusal)
+bothScannedAnswer (ScannedCase ends) = both (endsIn ends)
+bothScannedAnswer (RefusedCase refusal) = refused (refusalOf refusal)
 
--- the promise of both_scans: answer, tables and buffers are those of the definition
+-- the first promise of both_scans and paired_scans: answer, tables and buffers are those of the definition
 pub record BothScansDone (call : BothCall) (r : BothScanned) (lent : Lent) : Type 0 where
   pub answer : bothScannedAnswer r ≡ call .answer
   pub same-lent : lent ≡ call .lent

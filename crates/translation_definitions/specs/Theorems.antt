@@ -25,9 +25,9 @@ use Rattle.translation_definitions.specs.Calls.{Given, ScansAgree, Calls
 use Rattle.translation_definitions.specs.Laws.Lists.{start, start-near, translated-agrees}
 use Rattle.translation_definitions.specs.Laws.Legal.{list-in-range, list-decodes, watchdog-in-range, codes-in-range, codes-short}
 use Rattle.translation_definitions.specs.Laws.Exact.{codes-within}
-use Rattle.translation_definitions.specs.BothScans.{Lent}
-use Rattle.translation_definitions.specs.BothAgree.{BothGiven, BothAgree}
-use Rattle.translation_definitions.specs.Laws.Boths.{both-alike}
+use Rattle.translation_definitions.specs.BothScans.{Lent, bothScans, pairedScans}
+use Rattle.translation_definitions.specs.BothAgree.{BothPromise, PairedPromise}
+use Rattle.translation_definitions.specs.Laws.Boths.{both-alike, paired-alike}
 use Rattle.translation_definitions.specs.Laws.Calls.{scans-alike, calls-alike}
 use Rattle.translation_definitions.specs.ManyScans.{Scan, ManyGiven, ManyAgree}
 use Rattle.translation_definitions.specs.Laws.Many.{many-alike}
@@ -74,9 +74,15 @@ scans-agree vars kept table n accepted legal watchdog = scans-alike vars kept ta
 pub calls-agree : (vars : ℕ) (kept : Kept) (lent : Buffers) (table : List ℕ) (n : ℕ) → Given vars kept lent table n → CallsAgree vars kept lent table n
 calls-agree vars kept lent table n given = calls-alike vars kept lent table n given
 
--- Demand 3 over the code: what both_scans answers for all watchdogs n and w.
-pub both-agree : (vars : ℕ) (kept : Kept) (table : List ℕ) (lent : Lent) (n : ℕ) → BothGiven vars kept table lent n → (w : ℕ) → BothAgree vars kept table lent n w
-both-agree vars kept table lent n given w = both-alike vars kept table lent n given w
+-- Demand 3 over the code: what both_scans answers and leaves, by its definition, for all watchdogs n and w,
+pub both-agree : (vars : ℕ) (kept : Kept) (table : List ℕ) (lent : Lent) (n w : ℕ)
+    → BothPromise vars kept table lent n w (bothScans vars kept table lent n w .answer) (bothScans vars kept table lent n w .lent)
+both-agree vars kept table lent n w given legal = both-alike vars kept table lent n given w legal
+
+-- and what paired_scans does, whose instruction watchdog is k × L or 2 × n.
+pub paired-agree : (vars : ℕ) (kept : Kept) (table : List ℕ) (lent : Lent) (n : ℕ)
+    → PairedPromise vars kept table lent n (pairedScans vars kept table lent n .answer) (pairedScans vars kept table lent n .lent)
+paired-agree vars kept table lent n given = paired-alike vars kept table lent n given
 
 -- Beyond demand 3: over any number of scans, an input phase before each, a ladder and its list agree after every one. Of Translate it takes scans-agree alone.
 pub many-scans : (vars : ℕ) (kept : Kept) (scans : List Scan) (t u : List ℕ) → ManyGiven vars kept scans t u → ManyAgree vars kept scans t u

@@ -1,61 +1,144 @@
 -- Demand 3 over the code, from demand 3 over the calls' definitions. Assumes nothing.
-use Prim.Native.Nat.{ℕ}
+use Prim.Native.Nat.{ℕ, _*_, _≤_}
 use native.Mathlib.Omega.{arith}
-use mathlib.Core.Path.{_≡_, refl, ap, _∙_}
-use mathlib.Core.List.{List, append-nil}
-use lib.ListN.{length, drop-of-length-le}
-use lib.Seq.{take-all}
-use Rattle.rungs.specs.Buffers.{writtenWords, writtenRecords}
+use mathlib.Core.Path.{_≡_, refl, sym, ap, _∙_}
+use mathlib.Core.Option.{none, some}
+use mathlib.Core.List.{List, [], _∷_}
+use borrow.Author.Tests.{eq-eqb}
+use lib.ListN.{length}
+use Rattle.questions.specs.Questions.{Refusal, Answer, firstNo, ask, question12, question13, mostRungWatchdog, mostInstructionWatchdog}
+use Rattle.questions.specs.Laws.Answers.{watchdog-in-range, in-range-watchdog}
+use Rattle.table.specs.Halt.{Halt, Ended, Stopped}
+use Rattle.table.specs.State.{State, stateOf}
+use Rattle.table.specs.Questions.{question11}
+use Rattle.rungs.specs.Records.{longest}
+use Rattle.rungs.specs.Buffers.{needs, writtenOver}
 use Rattle.ladder_definitions.specs.Kept.{Kept}
-use Rattle.ladder_definitions.specs.LadderScan.{callLadderScan}
-use Rattle.list_definitions.specs.ListScan.{ListScanCall, callListScan}
-use Rattle.translation_definitions.specs.TranslateKept.{translateKept}
-use Rattle.translation_definitions.specs.Calls.{CallsAlike, CallsAgree}
-use Rattle.translation_definitions.specs.BothScans.{copied, Lent, BothCall, both, scanBoth, bothScans}
-use Rattle.translation_definitions.specs.BothAgree.{BothGiven, BothAgree}
-use Rattle.translation_definitions.specs.Laws.Calls.{calls-alike}
+use Rattle.ladder_definitions.specs.Meaning.{LadderResult, scanLadder}
+use Rattle.ladder_definitions.specs.Questions.{ladderOf, ladderAnswer}
+use Rattle.ladder_definitions.specs.LadderScan.{LadderCounts, scanned as ladderScanned, scanEnds as ladderEnds}
+use Rattle.ladder_definitions.specs.Laws.Accepting.{accepted, ladder-first}
+use Rattle.list_definitions.specs.Machine.{InstructionList, ListResult, scanList}
+use Rattle.list_definitions.specs.ListScan.{scanned as listScanned, scanEnds as listEnds}
+use Rattle.translation_definitions.specs.Translate.{translate}
+use Rattle.translation_definitions.specs.TranslateKept.{countsOf, listBuffers}
+use Rattle.translation_definitions.specs.Demand3.{ScansAlike}
+use Rattle.translation_definitions.specs.Calls.{CallsAlike}
+use Rattle.translation_definitions.specs.BothScans.{Lent, lends, BothEnds, BothCall, both, refused, copyQuestion, bothQuestions, bothScans, instructionWatchdog, pairedWatchdog}
+use Rattle.translation_definitions.specs.BothAgree.{BothGiven, BothTold, BothAgree, PairedAgree}
+use Rattle.translation_definitions.specs.Laws.Calls.{few-rungs, stopped-rungs, ladder-call, list-call, translate-call, scans-alike}
+use Rattle.translation_definitions.specs.Laws.Legal.{watchdog-in-range as most-in-range}
 
--- a table of the same length is copied whole
-copied-whole : (table lent : List ℕ) → length lent ≡ length table → copied table lent ≡ table
-unfolding copied
-copied-whole table lent e =
-    rw (take-all (length lent) table (omega arith), drop-of-length-le lent {i = length table} (omega arith)) (append-nil table)
+-- ---- the questions
 
-module _ (vars : ℕ) (kept : Kept) (table : List ℕ) (lent : Lent) (n : ℕ) (given : BothGiven vars kept table lent n) (w : ℕ) where
-  agree : CallsAgree vars kept (lent .buffers) table n
-  agree = calls-alike vars kept (lent .buffers) table n (given .given)
+module _ (vars : ℕ) (kept : Kept) (table : List ℕ) (lent : Lent) (n : ℕ) where
+  -- 11 of the table and its copies, and what follows
+  abbrev pub laterQuestions : ℕ → List Answer
+  laterQuestions w =
+      question11 (stateOf vars table) ∷ copyQuestion (length table) (length (lent .ladderTable)) ∷ copyQuestion (length table) (length (lent .listTable))
+      ∷ question12 mostRungWatchdog n ∷ question12 mostInstructionWatchdog w ∷ question13 (needs (listBuffers (translate vars (ladderOf kept))) (lent .buffers)) ∷ []
 
-  abbrev words : List ℕ
-  words = writtenWords (translateKept vars kept (lent .buffers) .buffers) (agree .counts .instructions)
+  pub ladder-before : (w : ℕ) → firstNo (bothQuestions vars kept table lent n w) ≡ firstNo (ladderAnswer vars kept ∷ laterQuestions w)
+  unfolding bothQuestions
+  ladder-before w = ladder-first vars kept (laterQuestions w)
 
-  abbrev call : BothCall
-  call =
-      let ladder = callLadderScan vars kept table n in
-      let list = callListScan vars words (writtenRecords (translateKept vars kept (lent .buffers) .buffers) (agree .counts .rungs)) table w in
+  -- what both scans do once every question got a "yes"
+  unfoldable pub both-ends : ℕ → BothEnds
+  both-ends w =
+      let x = scanLadder (ladderOf kept) n (stateOf vars table) in
+      let y = scanList (translate vars (ladderOf kept)) w (stateOf vars table) in
       record {
-        answer = both (ladder .answer) (list .answer);
-        lent = record { ladderTable = ladder .table; listTable = list .table; buffers = translateKept vars kept (lent .buffers) .buffers };
+        counts = countsOf (translate vars (ladderOf kept));
+        ladderHalt = x .halt;
+        ladder = record { rungs = x .rungs };
+        listHalt = y .halt;
+        list = y .counts;
       }
 
-  both-is : bothScans vars kept table lent n w ≡ call
-  unfolding bothScans scanBoth
-  both-is =
-      rw (agree .translated, bothScans, copied-whole table (lent .ladderTable) (given .ladder-copy), copied-whole table (lent .listTable) (given .list-copy)) refl
+  unfoldable pub both-left : ℕ → Lent
+  both-left w =
+      lends (scanLadder (ladderOf kept) n (stateOf vars table) .state .bytes) (scanList (translate vars (ladderOf kept)) w (stateOf vars table) .state .bytes)
+      (writtenOver (listBuffers (translate vars (ladderOf kept))) (lent .buffers))
 
-  abbrev listCall : ListScanCall
-  listCall = callListScan vars words (writtenRecords (translateKept vars kept (lent .buffers) .buffers) (agree .counts .rungs)) table w
+  pub both-refused : (w : ℕ) (r : Refusal) → firstNo (bothQuestions vars kept table lent n w) ≡ some r → bothScans vars kept table lent n w ≡ record { answer = refused r; lent = lent }
+  unfolding bothScans
+  both-refused w r e = rw (e, bothScans)
 
-  pub both-alike : BothAgree vars kept table lent n w
-  unfolding CallsAlike
-  both-alike =
-      let s = agree .scans in
+  pub both-scanned : (w : ℕ) → firstNo (bothQuestions vars kept table lent n w) ≡ none
+      → bothScans vars kept table lent n w ≡ record { answer = both (both-ends w); lent = both-left w }
+  unfolding bothScans both-ends both-left
+  both-scanned w e = rw (e, bothScans)
+
+-- ---- k × L and 2 × n are legal
+
+module _ (vars : ℕ) (kept : Kept) (table : List ℕ) (n : ℕ) (ok : ladderAnswer vars kept ≡ none) (watchdog : question12 mostRungWatchdog n ≡ none) where
+  abbrev x : LadderResult
+  x = scanLadder (ladderOf kept) n (stateOf vars table)
+
+  abbrev most : ℕ
+  most = longest (translate vars (ladderOf kept) .records)
+
+  halt-legal : (h : Halt) → question12 mostInstructionWatchdog (instructionWatchdog h (x .rungs) most n) ≡ none
+  unfolding instructionWatchdog
+  halt-legal Ended =
+      let few = few-rungs (ladderOf kept) n (stateOf vars table) in
+      let within = watchdog-in-range mostRungWatchdog n watchdog in
+      most-in-range vars (ladderOf kept) (accepted vars kept ok .1) (x .rungs) (omega arith)
+  halt-legal Stopped =
+      let within = watchdog-in-range mostRungWatchdog n watchdog in
+      in-range-watchdog mostInstructionWatchdog (2 * n) (omega arith)
+
+  pub paired-legal : question12 mostInstructionWatchdog (pairedWatchdog vars kept table n) ≡ none
+  unfolding pairedWatchdog
+  paired-legal = halt-legal (x .halt)
+
+-- ---- demand 3
+
+module _ (vars : ℕ) (kept : Kept) (table : List ℕ) (lent : Lent) (n : ℕ) (given : BothGiven vars kept table lent n) where
+  same-length : {bytes m : ℕ} → m ≡ bytes → copyQuestion bytes m ≡ none
+  unfolding copyQuestion ask
+  same-length {bytes} {m} e = rw (eq-eqb m bytes e)
+
+  pub asked-yes : (w : ℕ) → question12 mostInstructionWatchdog w ≡ none → firstNo (bothQuestions vars kept table lent n w) ≡ none
+  unfolding firstNo
+  asked-yes w h =
+      ladder-before vars kept table lent n w
+      ∙ rw (given .given .accepted, given .given .legal, same-length (given .ladder-copy), same-length (given .list-copy), given .given .watchdog, h, given .given .room)
+
+  module _ (w : ℕ) (h : question12 mostInstructionWatchdog w ≡ none) where
+    is : bothScans vars kept table lent n w ≡ record { answer = both (both-ends vars kept table lent n w); lent = both-left vars kept table lent n w }
+    is = both-scanned vars kept table lent n w (asked-yes w h)
+
+    told : BothTold vars kept (lent .buffers) n (bothScans vars kept table lent n w .answer) (bothScans vars kept table lent n w .lent)
+    unfolding both-ends both-left
+    told =
+        record {
+          ends = both-ends vars kept table lent n w;
+          answered = ap (λ c. c .answer) is;
+          translated = translate-call vars kept (lent .buffers) (given .given .accepted) (given .given .room) ∙ rw is refl;
+          stopped-at = stopped-rungs (ladderOf kept) n (stateOf vars table);
+        }
+
+    pub both-alike : BothAgree vars kept (lent .buffers) n w (bothScans vars kept table lent n w .answer) (bothScans vars kept table lent n w .lent)
+    unfolding told both-ends both-left CallsAlike ladderEnds listEnds countsOf
+    both-alike =
+        let s = scans-alike vars kept table n (given .given .accepted) (given .given .legal) (given .given .watchdog) in
+        let a = s .alike w in
+        let b = rw (
+          ladder-call vars kept table n (given .given .accepted) (given .given .legal) (given .given .watchdog),
+          list-call vars kept table n (given .given .accepted) (given .given .legal) (given .given .watchdog) w h,
+        ) at a in
+        record { told = told; alike = rw is b }
+
+  pub paired-alike : PairedAgree vars kept (lent .buffers) n (bothScans vars kept table lent n (pairedWatchdog vars kept table n) .answer)
+      (bothScans vars kept table lent n (pairedWatchdog vars kept table n) .lent)
+  unfolding told both-alike both-ends pairedWatchdog instructionWatchdog
+  paired-alike =
+      let h = paired-legal vars kept table n (given .given .accepted) (given .given .watchdog) in
+      let a = both-alike (pairedWatchdog vars kept table n) h in
+      let c : LadderCounts = record { rungs = scanLadder (ladderOf kept) n (stateOf vars table) .rungs } in
       record {
-        counts = agree .counts;
-        translated = agree .translated;
-        halt = s .halt;
-        ladder = s .counts;
-        list = listCall .answer;
-        answered = ap (λ c. c .answer) both-is ∙ ap (λ a. both a (listCall .answer)) (s .scanned);
-        stopped-at = s .stopped-at;
-        alike = rw (both-is, ← (s .scanned)) (s .alike w);
+        told = a .told;
+        ended = λ e. a .alike .ended c (ap (λ g. ladderScanned g c) e) h (rw e (omega arith));
+        stopped = λ e. a .alike .stopped c (ap (λ g. ladderScanned g c) e) (rw e (omega arith));
       }

@@ -82,10 +82,10 @@ module _ (gs : Ladder) (n : ℕ) (s : State) where
   abbrev x : LadderResult
   x = scanLadder gs n s
 
-  stopped-rungs : x .halt ≡ Stopped → x .rungs ≡ n
+  pub stopped-rungs : x .halt ≡ Stopped → x .rungs ≡ n
   stopped-rungs e = stopped-stands gs s n (x .rungs) (x .state) (λ i. record { halt = e i; rungs = x .rungs; state = x .state }) .0
 
-  few-rungs : x .rungs ≤ n
+  pub few-rungs : x .rungs ≤ n
   few-rungs = go (x .halt) refl
     where
       go : (h : Halt) → x .halt ≡ h → x .rungs ≤ n
@@ -111,13 +111,13 @@ module _ (vars : ℕ) (kept : Kept) (table : List ℕ) (n : ℕ)
   abbrev most : ℕ
   most = longest (list .records)
 
-  taken : Accepted vars gs
+  pub taken : Accepted vars gs
   taken = accepted vars kept ok .1
 
   agrees : Agreement 2 gs list s n
   agrees = translated-agrees vars gs s n taken (alike-self s (record { table = legal }))
 
-  ladder-call : callLadderScan vars kept table n ≡ ladderEnds (scanLadder gs n s)
+  pub ladder-call : callLadderScan vars kept table n ≡ ladderEnds (scanLadder gs n s)
   unfolding callLadderScan ladderScanQuestions firstNo
   ladder-call =
       let later : firstNo (ladderAnswer vars kept ∷ question11 s ∷ question12 mostRungWatchdog n ∷ []) ≡ none = rw (ok, legal, watchdog) in
@@ -129,7 +129,7 @@ module _ (vars : ℕ) (kept : Kept) (table : List ℕ) (n : ℕ)
       let e : codeOf words ≡ list .code = rw (list-decodes vars gs taken, codeOf) in
       λ i. record { code = e i; records = list .records }
 
-  list-call : (w : ℕ) → question12 mostInstructionWatchdog w ≡ none → callListScan vars words (list .records) table w ≡ listEnds (scanList list w s)
+  pub list-call : (w : ℕ) → question12 mostInstructionWatchdog w ≡ none → callListScan vars words (list .records) table w ≡ listEnds (scanList list w s)
   unfolding callListScan scanQuestions firstNo
   list-call w h =
       let q : firstNo (question1 vars ∷ question10 vars words (list .records) ∷ question11 s ∷ question12 mostInstructionWatchdog w ∷ []) ≡ none
@@ -192,11 +192,11 @@ module _ (list : InstructionList) (lent : Buffers) where
   abbrev wrote : List ℕ
   wrote = map instrWord (list .code)
 
-  words-out : writtenWords (writtenOver (listBuffers list) lent) (countsOf list .instructions) ≡ map instrWord (list .code)
+  pub words-out : writtenWords (writtenOver (listBuffers list) lent) (countsOf list .instructions) ≡ map instrWord (list .code)
   unfolding writtenWords writtenOver countsOf asBuffers
   words-out = rw (← (length-map (list .code) instrWord)) (written-first wrote (lent .words))
 
-  records-out : writtenRecords (writtenOver (listBuffers list) lent) (countsOf list .rungs) ≡ list .records
+  pub records-out : writtenRecords (writtenOver (listBuffers list) lent) (countsOf list .rungs) ≡ list .records
   unfolding writtenRecords writtenOver countsOf
   records-out =
       let ls : take (length (list .records)) (written (new .labels) (lent .labels)) ≡ new .labels
@@ -207,7 +207,7 @@ module _ (list : InstructionList) (lent : Buffers) where
       = rw (← (lengths-count wrote (list .records))) (written-first (new .lengths) (lent .lengths)) in
       rw (ls, os, ns) (row-of-buffers wrote (list .records))
 
-translate-call : (vars : ℕ) (k : Kept) (lent : Buffers) → ladderAnswer vars k ≡ none → question13 (needs (listBuffers (translate vars (ladderOf k))) lent) ≡ none
+pub translate-call : (vars : ℕ) (k : Kept) (lent : Buffers) → ladderAnswer vars k ≡ none → question13 (needs (listBuffers (translate vars (ladderOf k))) lent) ≡ none
     → translateKept vars k lent ≡ record { answer = translated (countsOf (translate vars (ladderOf k))); buffers = writtenOver (listBuffers (translate vars (ladderOf k))) lent }
 unfolding firstNo
 translate-call vars k lent ok room = call-written vars k lent (rw (ok, room))

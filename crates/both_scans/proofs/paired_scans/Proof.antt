@@ -1,0 +1,42 @@
+-- `both_scans::paired_scans` meets its contract: the definition's equation, and demand 3 from its theorem. Assumes nothing.
+use Rattle.both_scans.proofs.Boths.{paired-promise}
+use borrow.Author.Needs.{needs}
+use Rattle.both_scans.proofs.paired_scans.Statement.{statement}
+use Rattle.both_scans.proofs.paired_scans.Tie as tie
+
+scan-both-requires : tie.Need-scan-both-requires
+scan-both-requires c κs = search needs
+
+same-length : tie.Need-same-length
+same-length c = search needs
+
+same-length-2 : tie.Need-same-length-2
+same-length-2 c = search needs
+
+same-length-3 : tie.Need-same-length-3
+same-length-3 c = search needs
+
+same-length-4 : tie.Need-same-length-4
+same-length-4 c = search needs
+
+same-length-5 : tie.Need-same-length-5
+same-length-5 c = search needs
+
+same-length-6 : tie.Need-same-length-6
+same-length-6 c = search needs
+
+returns : tie.Need-returns
+returns c = paired-promise _ _ _ _ _ (c .before .before .before .before .before .before .before .before .before .before .before .before .scan-both .ensures)
+
+pub paired-scans-spec : {M : Type 1} → statement M
+paired-scans-spec =
+    tie.close
+    (tie.spec
+    scan-both-requires
+    same-length
+    same-length-2
+    same-length-3
+    same-length-4
+    same-length-5
+    same-length-6
+    returns)

@@ -1,0 +1,96 @@
+-- What the program ladder-scan prints, from the whole input: both scans of a ladder and its list side by side. README, "ladder-scan". Assumes nothing.
+use Prim.Native.Nat.{ℕ, suc}
+use mathlib.Core.Bool.{Bool, true, false, _&&_}
+use mathlib.Core.List.{List, [], _∷_, _++_}
+use lib.Dec.{eqb}
+use lib.ListN.{take}
+use Rattle.questions.specs.Bytes.{bytes, decimal}
+use Rattle.table.specs.Halt.{Halt, Ended, Stopped}
+use Rattle.rungs.specs.Records.{mostRecords}
+use Rattle.ladder_definitions.specs.Kept.{Kept}
+use Rattle.ladder_definitions.specs.Questions.{mostRungs, mostWords}
+use Rattle.text_definitions.specs.Read.{readText, kept, writtenKept, refused as readRefused}
+use Rattle.list_definitions.specs.Questions.{mostInstructions}
+use Rattle.translation_definitions.specs.BothScans.{BothEnds, Lent, lends, both, pairedScans, refused as scansRefused}
+use Rattle.program_definitions.specs.Lines.{firstLine, textAfter, variablesOf, watchdogOf, tableOf, mostKept}
+use Rattle.program_definitions.specs.Outcome.{Outcome, printed, refused, outputOf}
+use Rattle.program_definitions.specs.Printout.{blank}
+
+unfoldable pub endWord : Halt → List ℕ
+endWord Ended = bytes "Ended"
+endWord Stopped = bytes "Stopped"
+
+-- for ladder and list side by side how each ended, the rungs entered, and the instructions carried out
+unfoldable pub endLines : BothEnds → List ℕ
+endLines e =
+    bytes "scan ladder list\nend " ++ (endWord (e .ladderHalt) ++ (bytes " " ++ (endWord (e .listHalt) ++ (bytes "\nrungs " ++ (decimal (e .ladder .rungs)
+    ++ (bytes " " ++ (decimal (e .list .rungs) ++ (bytes "\ninstructions - " ++ (decimal (e .list .instructions) ++ bytes "\n")))))))))
+
+-- a variable's value before and after in the ladder's table, and before and after in the list's
+unfoldable pub changedLine : ℕ → ℕ → ℕ → ℕ → List ℕ
+changedLine v b l t =
+    bytes "v" ++ (decimal v ++ (bytes " " ++ (decimal b ++ (bytes ">" ++ (decimal l ++ (bytes " " ++ (decimal b ++ (bytes ">" ++ (decimal t ++ bytes "\n")))))))))
+
+-- a line for each variable that changed in either
+unfoldable pub changedLines : ℕ → List ℕ → List ℕ → List ℕ → List ℕ
+changedLines v [] ls ts = []
+changedLines v (b ∷ bs) [] ts = []
+changedLines v (b ∷ bs) (l ∷ ls) [] = []
+changedLines v (b ∷ bs) (l ∷ ls) (t ∷ ts) = elim (eqb l b && eqb t b) [ true ↦ [] | false ↦ changedLine v b l t ] ++ changedLines (suc v) bs ls ts
+
+unfoldable pub sameBytes : List ℕ → List ℕ → Bool
+sameBytes [] [] = true
+sameBytes [] (y ∷ ys) = false
+sameBytes (x ∷ xs) [] = false
+sameBytes (x ∷ xs) (y ∷ ys) = eqb x y && sameBytes xs ys
+
+-- what the two scans came to
+pub data Verdict : Type 0 where
+  alike bothStopped notAlike : Verdict
+
+unfoldable pub alikeIf : Bool → Verdict
+alikeIf true = alike
+alikeIf false = notAlike
+
+-- Demand 3, of these two scans: both Ended with the same rungs entered and the same variables, or both Stopped, when the variables may differ.
+unfoldable pub verdict : BothEnds → List ℕ → List ℕ → Verdict
+verdict e l t = elim (e .ladderHalt) [
+  | Ended ↦ elim (e .listHalt) [ Ended ↦ alikeIf (eqb (e .ladder .rungs) (e .list .rungs) && sameBytes l t) | Stopped ↦ notAlike ]
+  | Stopped ↦ elim (e .listHalt) [ Ended ↦ notAlike | Stopped ↦ bothStopped ]
+]
+
+unfoldable pub verdictLine : Verdict → List ℕ
+verdictLine alike = bytes "alike\n"
+verdictLine bothStopped = bytes "both stopped\n"
+verdictLine notAlike = bytes "not alike\n"
+
+-- the report: `table` is the table before, `lent` has the two tables after
+unfoldable pub reportLines : ℕ → List ℕ → BothEnds → List ℕ → List ℕ → List ℕ
+reportLines vars table e ladderTable listTable =
+    endLines e ++ (changedLines 0 (take vars table) (take vars ladderTable) (take vars listTable) ++ verdictLine (verdict e (take vars ladderTable) (take vars listTable)))
+
+-- two tables and buffers for the list, "of the largest size allowed"
+abbrev pub lentFor : List ℕ → Lent
+lentFor table = lends table table (blank mostInstructions mostRecords)
+
+-- a kept ladder is translated, and it and its list are scanned under demand 3's watchdogs
+unfoldable pub keptScanned : ℕ → Kept → List ℕ → ℕ → Outcome
+keptScanned vars k table n =
+    let c = pairedScans vars k table (lentFor table) n in
+    elim (c .answer) [ scansRefused refusal ↦ refused refusal | both e ↦ printed (reportLines vars table e (c .lent .ladderTable) (c .lent .listTable)) ]
+
+-- V, a rung watchdog, a table and a text
+unfoldable pub textScanned : ℕ → ℕ → List ℕ → List ℕ → Outcome
+textScanned vars n table text =
+    let r = readText vars text (blank mostWords mostRungs) in
+    elim (r .answer) [ readRefused refusal ↦ refused refusal | kept words rungs ↦ keptScanned vars (writtenKept (r .buffers) words rungs) table n ]
+
+-- the whole input
+unfoldable pub outcome : List ℕ → Outcome
+outcome input =
+    let rest = textAfter input in
+    let vars = variablesOf (firstLine input) in
+    textScanned vars (watchdogOf (firstLine rest)) (tableOf vars (firstLine (textAfter rest))) (take mostKept (textAfter (textAfter rest)))
+
+unfoldable pub output : List ℕ → List ℕ
+output input = outputOf (outcome input)
