@@ -35,10 +35,18 @@ record Scan : Type 0 where
   rungs : ℕ
   variables : List ℕ
 
+-- what document 01 prints of a list, "Listing": its instructions, the records whose labels stand before them, and the count line, which has Translate's counts;
+-- and the instructions that its scan carries out
+record Printed : Type 0 where
+  instructions : List ℕ
+  records : List RungRecord
+  counts : Counts
+  carriedOut : ℕ
+
 -- a refusal's number and place; or both scans of the text's ladder, and its list where document 01 prints one
 data Outcome : Type 0 where
   refusedAt : ℕ → ℕ → Outcome
-  scans : Scan → Scan → Option (List ℕ) → Outcome
+  scans : Scan → Scan → Option Printed → Outcome
 
 -- V and the variables before, a text, the rung watchdog, and what document 01 says of them
 record Row : Type 0 where
@@ -53,9 +61,14 @@ alike halt rungs variables =
     let x : Scan = record { halt = halt; rungs = rungs; variables = variables } in
     scans x x none
 
--- document 01, "Listing"
-listA : List ℕ
-listA = map instrWord (LD 0 ∷ ST 5 ∷ LD 1 ∷ ANDN 2 ∷ OR 5 ∷ ST 5 ∷ ST 1 ∷ LD 5 ∷ AND 3 ∷ JMPC 10 ∷ LDN 3 ∷ ST 4 ∷ [])
+-- document 01, "Listing", with its "rungs 2 instructions 12 longest 10"; and row A's "12 instructions"
+listA : Printed
+listA = record {
+  instructions = map instrWord (LD 0 ∷ ST 5 ∷ LD 1 ∷ ANDN 2 ∷ OR 5 ∷ ST 5 ∷ ST 1 ∷ LD 5 ∷ AND 3 ∷ JMPC 10 ∷ LDN 3 ∷ ST 4 ∷ []);
+  records = record { label = 10; offset = 0; length = 10 } ∷ record { label = 20; offset = 10; length = 2 } ∷ [];
+  counts = record { rungs = 2; instructions = 12; longest = 10 };
+  carriedOut = 12;
+}
 
 outcomeA : Outcome
 outcomeA =
@@ -105,7 +118,8 @@ byListScan r x counts words records =
     let c = callListScan (length (r .before)) words records (start r) (watchdog (x .halt) (x .rungs) (counts .longest)) in
     elim (c .answer) [
       | listRefused refusal ↦ refusedAt (refusal .number) (refusal .place)
-      | listScanned halt n ↦ scans x (record { halt = halt; rungs = n .rungs; variables = variablesOf r (c .table) }) (some words)
+      | listScanned halt n ↦ scans x (record { halt = halt; rungs = n .rungs; variables = variablesOf r (c .table) })
+          (some (record { instructions = words; records = records; counts = counts; carriedOut = n .instructions }))
     ]
 
 -- Translate, after Ladder scan gave x
