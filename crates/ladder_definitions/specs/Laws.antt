@@ -5,3 +5,4 @@ pub mod Scratch
 pub mod Accepting
 pub mod Held
 pub mod Trees
+pub mod Calls

@@ -3,22 +3,24 @@ use Prim.Native.Nat.{ℕ, _≤_}
 use mathlib.Core.Path.{_≡_, refl, _∙_}
 use mathlib.Core.Logic.{_↔_}
 use mathlib.Core.Option.{some}
-use mathlib.Core.List.{[], _∷_}
+use mathlib.Core.List.{List, [], _∷_}
 use lib.Dec.{T}
 use Rattle.questions.specs.Tests.{all}
 use Rattle.questions.specs.Questions.{yes}
 use Rattle.questions.specs.Laws.Answers.{each-passed}
-use Rattle.table.specs.State.{State, beyondVariables, SameButScratch}
+use Rattle.table.specs.State.{State, stateOf, beyondVariables, SameButScratch}
 use Rattle.table.specs.Halt.{Ended, Stopped}
-use Rattle.table.specs.Questions.{Legal}
+use Rattle.table.specs.Questions.{question11, Legal}
 use Rattle.table.specs.Laws.Alike.{alike-legal, alike-same}
 use Rattle.ladder_definitions.specs.Tree.{Input, contact, contactn, Output, coil, coiln, jump, jumpn, Rung, Ladder, rungAll, outputNames}
 use Rattle.ladder_definitions.specs.Meaning.{LadderResult, scanLadder}
 use Rattle.ladder_definitions.specs.Standing.{Stands}
 use Rattle.ladder_definitions.specs.Kept.{Kept, encode, decode, inputFits, outputFits, inputKind, outputKind, contactSort, outputSort, kindSorts, kindSort, variableName, nameSorts, nameSort, namedSort}
 use Rattle.ladder_definitions.specs.Questions.{question6, rungBelow, ladderOf, ladderAnswer, Accepted}
+use Rattle.ladder_definitions.specs.LadderScan.{LadderScanCall, callLadderScan}
 use Rattle.ladder_definitions.specs.Laws.Watchdog.{stopped-stands, stands-stopped, ended-stands, stands-ended}
 use Rattle.ladder_definitions.specs.Laws.Scratch.{scan-alike, scan-stays}
+use Rattle.ladder_definitions.specs.Laws.Calls.{call-alike, call-stays}
 use Rattle.ladder_definitions.specs.Laws.Accepting.{decode-encode, encode-decode, ladder-is, accepted, accepting}
 
 -- words and records are those of a ladder, whose operands all have 16 bits
@@ -87,3 +89,18 @@ scratch-not-read gs watchdog s t q6 hs ht e =
 pub scratch-not-written : (gs : Ladder) (watchdog : ℕ) (s : State) → question6 (s .vars) gs ≡ yes → beyondVariables (scanLadder gs watchdog s .state) ≡ beyondVariables s
 unfolding question6
 scratch-not-written gs watchdog s q6 = scan-stays gs watchdog s (each-passed 6 (rungBelow (s .vars)) gs q6) .same-beyond
+
+-- The same of the call Ladder scan: "scratch t0 to t31, which a ladder scan, once past question 11, neither reads nor writes". Two tables that both get a "yes"
+-- to question 11 and have the same variables get the same answer, a refusal too, and are left with the same variables.
+pub record CallsSame (vars : ℕ) (x y : LadderScanCall) : Type 0 where
+  pub answer : x .answer ≡ y .answer
+  pub same : SameButScratch (stateOf vars (x .table)) (stateOf vars (y .table))
+
+pub call-reads-no-scratch : (vars : ℕ) (kept : Kept) (watchdog : ℕ) (t u : List ℕ) → question11 (stateOf vars t) ≡ yes → question11 (stateOf vars u) ≡ yes
+    → SameButScratch (stateOf vars t) (stateOf vars u) → CallsSame vars (callLadderScan vars kept t watchdog) (callLadderScan vars kept u watchdog)
+call-reads-no-scratch vars kept watchdog t u ht hu e = let x = call-alike vars kept watchdog t u ht hu e in record { answer = x .0; same = x .1 }
+
+-- Every call, refused or not, leaves the bytes from V on.
+pub call-writes-no-scratch : (vars : ℕ) (kept : Kept) (watchdog : ℕ) (table : List ℕ)
+    → beyondVariables (stateOf vars (callLadderScan vars kept table watchdog .table)) ≡ beyondVariables (stateOf vars table)
+call-writes-no-scratch vars kept watchdog table = call-stays vars kept watchdog table
