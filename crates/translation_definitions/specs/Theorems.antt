@@ -1,9 +1,9 @@
 -- What is promised of ladders and their lists, over trees and over the calls; the proofs are in Laws. Assumes nothing.
 use Prim.Native.Nat.{ℕ, _*_, _≤_}
-use mathlib.Core.Path.{_≡_}
+use mathlib.Core.Path.{_≡_, refl}
 use mathlib.Core.Logic.{_↔_}
 use mathlib.Core.Option.{some}
-use mathlib.Core.List.{List, map}
+use mathlib.Core.List.{List, map, flatMap}
 use lib.Dec.{T}
 use lib.ListN.{length}
 use Rattle.questions.specs.Tests.{all}
@@ -12,17 +12,18 @@ use Rattle.questions.specs.Laws.Answers.{ask-passed, passed-ask, each-passed}
 use Rattle.table.specs.State.{State, stateOf, tableSize}
 use Rattle.table.specs.Questions.{question11, Legal}
 use Rattle.table.specs.Laws.Alike.{alike-self}
-use Rattle.rungs.specs.Records.{longest}
+use Rattle.rungs.specs.Records.{lay, startOf, longest}
 use Rattle.rungs.specs.Buffers.{Buffers}
 use Rattle.ladder_definitions.specs.Tree.{Ladder}
 use Rattle.ladder_definitions.specs.Kept.{Kept, encode}
 use Rattle.ladder_definitions.specs.Questions.{question6, scratchInRange, question9, rungBelow, ladderOf, ladderAnswer, Accepted}
 use Rattle.list_definitions.specs.Instruction.{instrWord, decodeCode}
+use Rattle.list_definitions.specs.Machine.{InstructionList}
 use Rattle.list_definitions.specs.Questions.{instrInRange, question10}
-use Rattle.translation_definitions.specs.Translate.{translate, codeBound}
+use Rattle.translation_definitions.specs.Translate.{rungCode, translate, codeBound}
 use Rattle.translation_definitions.specs.Agreement.{Agreement}
 use Rattle.translation_definitions.specs.Calls.{Given, ScansAgree, CallsAgree}
-use Rattle.translation_definitions.specs.Laws.Lists.{start, start-near, translated-agrees}
+use Rattle.translation_definitions.specs.Laws.Lists.{start, records-are, start-near, translated-agrees}
 use Rattle.translation_definitions.specs.Laws.Legal.{list-in-range, list-decodes, watchdog-in-range, codes-in-range, codes-short}
 use Rattle.translation_definitions.specs.Laws.Exact.{codes-within}
 use Rattle.translation_definitions.specs.BothScans.{Lent, bothScans, pairedScans}
@@ -48,6 +49,16 @@ list-decoded vars gs accepted = list-decodes vars gs accepted
 pub watchdog-accepted : (vars : ℕ) (gs : Ladder) → Accepted vars gs → (k : ℕ) → k ≤ mostRungWatchdog
     → question12 mostInstructionWatchdog (k * longest (translate vars gs .records)) ≡ yes
 watchdog-accepted vars gs accepted k h = watchdog-in-range vars gs accepted k h
+
+-- How a ladder's list stands: its instructions are the code of its rungs, one after the other, with every jump "to the first instruction of the target rung",
+-- where that rung's record begins; and the record of each rung has its label, and as its length the length of that code.
+pub record ListStands (vars : ℕ) (gs : Ladder) (list : InstructionList) : Type 0 where
+  pub code : list .code ≡ flatMap (rungCode vars (startOf (list .records))) gs
+  pub records : list .records ≡ lay (λ g. g .label) (λ g. length (rungCode vars (startOf (list .records)) g)) 0 gs
+
+pub list-stands : (vars : ℕ) (gs : Ladder) → ListStands vars gs (translate vars gs)
+unfolding translate
+list-stands vars gs = record { code = refl; records = records-are vars gs }
 
 -- A ladder's list has at most two instructions for a kept word.
 pub few-instructions : (vars : ℕ) (gs : Ladder) → length (translate vars gs .code) ≤ codeBound (length (encode gs .words))

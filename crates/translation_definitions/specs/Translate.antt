@@ -40,7 +40,7 @@ R vars start (rearOr a b) d = ST (scratchIndex vars d) ∷ R vars start a (d + 1
 unfoldable pub rungCode : ℕ → (ℕ → ℕ) → Rung → List Instr
 rungCode vars start g = F vars (g .front) 0 ++ R vars start (g .rear) 0
 
--- the records, laid as a ladder's and counting instructions; a rung's length does not depend on where its jumps lead
+-- the records, laid as a ladder's and counting instructions; a rung's length does not depend on where its jumps lead (Theorems, list-stands)
 unfoldable pub listRecords : ℕ → Ladder → List RungRecord
 listRecords vars gs = lay (λ g. g .label) (λ g. length (rungCode vars (λ l. 0) g)) 0 gs
 
