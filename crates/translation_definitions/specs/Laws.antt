@@ -10,4 +10,5 @@ pub mod Many
 pub mod Operands
 pub mod Parts
 pub mod Places
+pub mod Rows
 pub mod Scans

@@ -13,7 +13,9 @@ use Rattle.table.specs.State.{State, stateOf, tableSize}
 use Rattle.table.specs.Questions.{question11, Legal}
 use Rattle.table.specs.Laws.Alike.{alike-self}
 use Rattle.rungs.specs.Records.{lay, startOf, longest}
-use Rattle.rungs.specs.Buffers.{Buffers}
+use Rattle.rungs.specs.Buffers.{Buffers, asBuffers}
+use Rattle.rows.specs.declared.Rung.{Rung}
+use Rattle.rows.specs.Rows.{recordsOf}
 use Rattle.ladder_definitions.specs.Tree.{Ladder}
 use Rattle.ladder_definitions.specs.Kept.{Kept, encode}
 use Rattle.ladder_definitions.specs.Questions.{question6, scratchInRange, question9, rungBelow, ladderOf, ladderAnswer, Accepted}
@@ -21,8 +23,11 @@ use Rattle.list_definitions.specs.Instruction.{instrWord, decodeCode}
 use Rattle.list_definitions.specs.Machine.{InstructionList}
 use Rattle.list_definitions.specs.Questions.{instrInRange, question10}
 use Rattle.translation_definitions.specs.Translate.{rungCode, translate, codeBound}
+use Rattle.translation_definitions.specs.declared.Translated.{Translated}
+use Rattle.translation_definitions.specs.TranslateKept.{translateKept, TranslateDone}
 use Rattle.translation_definitions.specs.Agreement.{Agreement}
 use Rattle.translation_definitions.specs.Calls.{Given, ScansAgree, CallsAgree}
+use Rattle.translation_definitions.specs.RowsAgree.{keptIn, RowsAgree}
 use Rattle.translation_definitions.specs.Laws.Lists.{start, records-are, start-near, translated-agrees}
 use Rattle.translation_definitions.specs.Laws.Legal.{list-in-range, list-decodes, watchdog-in-range, codes-in-range, codes-short}
 use Rattle.translation_definitions.specs.Laws.Exact.{codes-within}
@@ -32,6 +37,7 @@ use Rattle.translation_definitions.specs.Laws.Boths.{both-alike, paired-
 use Rattle.translation_definitions.specs.Laws.Calls.{scans-alike, calls-alike}
 use Rattle.translation_definitions.specs.ManyScans.{Scan, ManyGiven, ManyAgree}
 use Rattle.translation_definitions.specs.Laws.Many.{many-alike}
+use Rattle.translation_definitions.specs.Laws.Rows.{rows-alike}
 
 -- Demand 3: for every accepted ladder of V variables, every legal table, every rung watchdog n and every instruction watchdog.
 pub agreement : (gs : Ladder) (s : State) (n : ℕ) → Accepted (s .vars) gs → Legal s → Agreement 2 gs (translate (s .vars) gs) s n
@@ -98,3 +104,12 @@ paired-agree vars kept table lent n given = paired-alike vars kept table lent n 
 -- Beyond demand 3: over any number of scans, an input phase before each, a ladder and its list agree after every one. Of Translate it takes scans-agree alone.
 pub many-scans : (vars : ℕ) (kept : Kept) (scans : List Scan) (t u : List ℕ) → ManyGiven vars kept scans t u → ManyAgree vars kept scans t u
 many-scans vars kept scans t u given = many-alike vars kept (λ table n. scans-agree vars kept table n (given .accepted)) scans t u given
+
+-- Demand 3 over rows of rung records: for every answer, and all code words and records, that Translate over rows may leave by its promise.
+pub rows-agree : (vars : ℕ) (words : List ℕ) (row : List Rung) (code : List ℕ) (codeRow : List Rung) (table : List ℕ) (n : ℕ)
+    → Given vars (keptIn words row) (asBuffers code (recordsOf codeRow)) table n
+    → (answer : Translated) (code′ : List ℕ) (codeRow′ : List Rung)
+    → TranslateDone (translateKept vars (keptIn words row) (asBuffers code (recordsOf codeRow))) answer (asBuffers code′ (recordsOf codeRow′))
+    → RowsAgree vars (keptIn words row) answer code′ codeRow′ table n
+rows-agree vars words row code codeRow table n given answer code′ codeRow′ done =
+    rows-alike vars (keptIn words row) (asBuffers code (recordsOf codeRow)) table n given code′ codeRow′ answer done
