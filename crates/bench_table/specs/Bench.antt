@@ -1,10 +1,10 @@
 -- Document 01, "Bench ladders": the rows A to I in one table, with one theorem: texts through the definitions of Read, Translate, Ladder scan and List scan.
 -- The list scan has the watchdog of demand 3: k × L where the ladder scan ends with k rungs, 2 × n where it stops at n. A to D say no rung watchdog;
--- theirs is the number of rungs that they enter, so that a watchdog asked before the end would show. Assumes nothing.
+-- theirs is the number of rungs that they enter, so that a watchdog asked before the end would show. J stands below the table. Assumes nothing.
 use mathlib.Core.Path.{_≡_, refl}
 use mathlib.Core.Option.{Option, none, some}
 use mathlib.Core.List.{List, [], _∷_, _++_, map, zipWith, flatMap}
-use Prim.Native.Nat.{ℕ, _*_}
+use Prim.Native.Nat.{ℕ, _*_, _-_}
 use lib.ListN.{length, replicate, take}
 use Rattle.questions.specs.Tests.{all, firstFailed}
 use Rattle.questions.specs.Bytes.{bytes}
@@ -167,3 +167,22 @@ unfolding table listA outcomeA run asFar start room watchdog variablesOf byListS
     readText writtenKept textLadder operand opOf operandNumber onlyNot ops instrWord decodeInstr decodeCode codeOf scanList scanMachine begin fresh step count does halted
     operandInRange wordInRange recordsLaid listInRange listOf callListScan listScanQuestions listScanEnds F R join outputCode rungCode listRecords translate countsOf translateKept
 bench = refl
+
+-- J, of so many contacts: 0:c0&c0& .. &c0>o0
+textJ : ℕ → List ℕ
+textJ contacts = bytes "0:c0" ++ flatMap (λ more. more) (replicate (contacts - 1) (bytes "&c0")) ++ bytes ">o0\n"
+
+-- room for 128 words and a record
+roomJ : Buffers
+roomJ = buffers (replicate 128 0) (replicate 1 0) (replicate 1 0) (replicate 1 0)
+
+-- "J 64 contacts joined by & and a coil: 128 words, taken; 65: refused 5.", by Read
+J-worked : map (λ contacts. readText 1 (textJ contacts) roomJ .answer) (64 ∷ 65 ∷ []) ≡ kept 128 1 ∷ readRefused (record { number = 5; place = 0 }) ∷ []
+unfolding textJ roomJ bytes
+    all firstFailed ask askEach firstNo varsInRange question1 question2 question3 question5 question6 question7 question8 question13 longEnough
+    lay search present asBuffers needs written writtenOver flatMap
+    frontAll rearAll rungAll inputKind inputVariable inputWord outputKind outputNames number outputWord frontWords rearWords rungWords encode
+    sizesInRange inputBelow namedBelow outputBelow newLabels namedLeads outputLeads
+    mapP bind followed digitOf digitsFrom numeralOf chain termBy frontBy factorBy factorOf termOf frontOf opensFactor branchBy rearBy endBy endOf rearOf
+    lineOf linesOf textOf readText textLadder
+J-worked = refl

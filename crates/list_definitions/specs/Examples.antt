@@ -1,13 +1,13 @@
 -- Worked lists: case A of document 01, and a list for each rule of "What a list does" that it leaves untried; and worked question 10. Assumes nothing.
 use mathlib.Core.Path.{_≡_, refl}
-use mathlib.Core.Option.{none, some}
+use mathlib.Core.Option.{some}
 use mathlib.Core.List.{List, [], _∷_, _++_, map, flatMap}
 use mathlib.Core.Bool.{xor}
 use Prim.Native.Nat.{ℕ}
 use lib.ListN.{replicate, length}
 use Rattle.questions.specs.Bytes.{bytes, decimal, digits}
 use Rattle.questions.specs.Tests.{all}
-use Rattle.questions.specs.Questions.{Answer, ask, varsInRange, question1, firstNo}
+use Rattle.questions.specs.Questions.{Answer, yes, ask, varsInRange, question1, firstNo}
 use Rattle.table.specs.State.{stateOf, scratchBytes, variables, valueAt, value, writtenAt, write}
 use Rattle.table.specs.Halt.{Halt, Ended, Stopped}
 use Rattle.rungs.specs.Records.{RungRecord, isStart, laid}
@@ -110,7 +110,7 @@ answers =
     ∷ question10 5 (words (LD 0 ∷ LD 1 ∷ [])) (at 0 0 1 ∷ at 1 2 1 ∷ [])
     ∷ []
 
-answers-worked : answers ≡ none ∷ no-place ∷ no-place ∷ none ∷ no-place ∷ none ∷ no-place ∷ none ∷ no-place ∷ no-place ∷ none ∷ no-place ∷ no-place ∷ []
+answers-worked : answers ≡ yes ∷ no-place ∷ no-place ∷ yes ∷ no-place ∷ yes ∷ no-place ∷ yes ∷ no-place ∷ no-place ∷ yes ∷ no-place ∷ no-place ∷ []
 unfolding answers no-place words listAnswer firstNo question1 varsInRange question10 listInRange ask all laid recordsLaid wordInRange operandInRange operand decodeInstr ops onlyNot instrWord opOf operandNumber
 answers-worked = refl
 
