@@ -1,5 +1,6 @@
 // Runs document 01's case A through the calls over rows: this program owns two rows of rung records, the ladder's and the list's, and
-// lends them. It prints what each call answered, the variables that each scan left, and the listing.
+// lends them. It prints what each call answered, the variables that each scan left, and the listing. Then it lends rows of 300 records,
+// which the calls refuse: 5, or 4 where the last record does not fit; List scan and Listing 10.
 use ladder_definitions::LadderScanned;
 use libc::STDOUT_FILENO;
 use list_definitions::ListScanned;
@@ -25,9 +26,27 @@ const RUNG_WATCHDOG: u32 = 2;
 
 const INSTRUCTION_WATCHDOG: u32 = 20;
 
+// A row of more records than questions 5 and 10 take, and its words, two to a record.
+const LONG_RUNGS: usize = 300;
+
+const LONG_WORDS: usize = 600;
+
+// As kept words a contact v0 and a coil v1, as instructions LD v0 and AND v1.
+const CONTACT: u32 = 65536;
+
+const COIL: u32 = 327681;
+
 // What the five calls answered.
 struct Answers {
     read: TextRead,
+    translated: Translated,
+    ladder: LadderScanned,
+    list: ListScanned,
+    listed: Listed,
+}
+
+// What four of them answered to a row of 300 records.
+struct LongAnswers {
     translated: Translated,
     ladder: LadderScanned,
     list: ListScanned,
@@ -79,6 +98,60 @@ fn run_rows(
     let list = list_rows::list_scan(VARS, &code, &code_row, list_table, INSTRUCTION_WATCHDOG);
     let listed = list_rows::listing(VARS, &code, &code_row, lines);
     answers_of(read, translated, ladder, list, listed)
+}
+
+fn long_words() -> [u32; LONG_WORDS] {
+    let mut words = [CONTACT; LONG_WORDS];
+    for i in 0..LONG_RUNGS {
+        words[2 * i + 1] = COIL;
+    }
+    words
+}
+
+// 300 records of two words each, but for the last, which has the length `last`.
+fn long_row(last: u32) -> [Rung; LONG_RUNGS] {
+    let mut row = [Rung {
+        label: 0,
+        offset: 0,
+        length: 2,
+    }; LONG_RUNGS];
+    for i in 0..LONG_RUNGS {
+        row[i].label = i as u16;
+        row[i].offset = 2 * i as u32;
+    }
+    row[LONG_RUNGS - 1].length = last;
+    row
+}
+
+fn long_answers_of(
+    translated: Translated,
+    ladder: LadderScanned,
+    list: ListScanned,
+    listed: Listed,
+) -> LongAnswers {
+    LongAnswers {
+        translated,
+        ladder,
+        list,
+        listed,
+    }
+}
+
+// Four of the calls, over one row of records: the words are a ladder, and a list. Translate writes into a copy of the row.
+fn run_long(
+    row: [Rung; LONG_RUNGS],
+    words: &[u32],
+    code: &mut [u32],
+    ladder_table: &mut [u8],
+    list_table: &mut [u8],
+    lines: &mut [u8],
+) -> LongAnswers {
+    let mut code_row = row;
+    let translated = translation_rows::translate(VARS, words, &row, code, &mut code_row);
+    let ladder = ladder_rows::ladder_scan(VARS, words, &row, ladder_table, RUNG_WATCHDOG);
+    let list = list_rows::list_scan(VARS, words, &row, list_table, INSTRUCTION_WATCHDOG);
+    let listed = list_rows::listing(VARS, words, &row, lines);
+    long_answers_of(translated, ladder, list, listed)
 }
 
 // A text and a number after it.
@@ -188,12 +261,11 @@ fn put_listed(room: &mut [u8], placed: usize, answer: Listed, listing: &[u8]) ->
 fn put_scans(
     room: &mut [u8],
     placed: usize,
-    answers: Answers,
+    ladder: LadderScanned,
+    list: ListScanned,
     ladder_table: &[u8],
     list_table: &[u8],
 ) -> usize {
-    let ladder = answers.ladder;
-    let list = answers.list;
     let after_ladder = put_ladder(room, placed, ladder);
     let ladder_left = put_variables(room, after_ladder, ladder_table);
     let after_list = put_list(room, ladder_left, list);
@@ -201,7 +273,7 @@ fn put_scans(
 }
 
 // Runs the five calls, and puts what they answered.
-fn put_all(room: &mut [u8]) -> usize {
+fn put_case_a(room: &mut [u8]) -> usize {
     let mut ladder_table = [0u8; TABLE_BYTES];
     let mut list_table = [0u8; TABLE_BYTES];
     let mut lines = [0u8; LISTING_BYTES];
@@ -215,11 +287,65 @@ fn put_all(room: &mut [u8]) -> usize {
     );
     let read = answers.read;
     let translated = answers.translated;
+    let ladder = answers.ladder;
+    let list = answers.list;
     let listed = answers.listed;
     let after_read = put_read(room, 0, read);
     let after_translated = put_translated(room, after_read, translated);
-    let scanned = put_scans(room, after_translated, answers, &ladder_table, &list_table);
+    let scanned = put_scans(
+        room,
+        after_translated,
+        ladder,
+        list,
+        &ladder_table,
+        &list_table,
+    );
     put_listed(room, scanned, listed, &lines)
+}
+
+// Runs the four calls over a row of 300 records, and puts what they answered.
+fn put_long(room: &mut [u8], placed: usize, last: u32) -> usize {
+    let words = long_words();
+    let mut code = no_words();
+    let mut ladder_table = [0u8; TABLE_BYTES];
+    let mut list_table = [0u8; TABLE_BYTES];
+    let mut lines = [0u8; LISTING_BYTES];
+    ladder_table[0] = 1;
+    list_table[0] = 1;
+    let answers = run_long(
+        long_row(last),
+        &words,
+        &mut code,
+        &mut ladder_table,
+        &mut list_table,
+        &mut lines,
+    );
+    let translated = answers.translated;
+    let ladder = answers.ladder;
+    let list = answers.list;
+    let listed = answers.listed;
+    let head = put_count(
+        room,
+        placed,
+        b"300 records, the last of length",
+        last as u64,
+    );
+    let after_translated = put_translated(room, head, translated);
+    let scanned = put_scans(
+        room,
+        after_translated,
+        ladder,
+        list,
+        &ladder_table,
+        &list_table,
+    );
+    put_listed(room, scanned, listed, &lines)
+}
+
+fn put_all(room: &mut [u8]) -> usize {
+    let case_a = put_case_a(room);
+    let laid = put_long(room, case_a, 2);
+    put_long(room, laid, 1)
 }
 
 fn main() {
