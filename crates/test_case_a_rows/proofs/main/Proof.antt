@@ -1,4 +1,4 @@
--- `case_a_rows::main` is safe and ends. Assumes nothing.
+-- `test_case_a_rows::main` is safe and ends. Assumes nothing.
 use mathlib.Core.Path.{sym}
 use lib.Seq.{length-take-le}
 use borrow.Author.Needs.{needs}

@@ -1,4 +1,4 @@
--- `case_a_rows::run_rows` meets its contract. A walk of its MIR, by hand: the words, the code and their two rows are arrays of its own, which it lends to each call as slices, for a lifetime of that call. Assumes nothing.
+-- `test_case_a_rows::run_rows` meets its contract. A walk of its MIR, by hand: the words, the code and their two rows are arrays of its own, which it lends to each call as slices, for a lifetime of that call. Assumes nothing.
 use mathlib.Core.Path.{_≡_, refl}
 use Prim.Native.Nat.{ℕ}
 use mathlib.Core.List.{[], _∷_, List}
