@@ -5,12 +5,11 @@ use mathlib.Core.Path.{_≡_, refl, sym, ap, _∙_}
 use mathlib.Core.Bool.{true, false}
 use mathlib.Core.Option.{none, some}
 use mathlib.Core.List.{List, [], _∷_, map, append-nil}
-use lib.Dec.{eqb→eq}
 use lib.ListN.{length, take, drop-of-length-le}
 use lib.Seq.{take-all}
 use Rattle.questions.specs.Questions.{Refusal, Answer, ask, firstNo, question12, question13, mostRungWatchdog, mostInstructionWatchdog}
 use Rattle.questions.specs.Refusals.{refusalOf, verdictAnswer}
-use Rattle.questions.specs.Laws.Answers.{ask-passed, first-yes, later-yes, verdict-refused, verdict-accepted, watchdog-in-range}
+use Rattle.questions.specs.Laws.Answers.{first-yes, later-yes, verdict-refused, verdict-accepted, watchdog-in-range}
 use Rattle.questions.specs.declared.Refusal.{Refusal as RefusalCase}
 use Rattle.questions.specs.declared.Verdict.{Verdict}
 use Rattle.questions.specs.declared.Verdict.the-variants.{Accepted, Refused}
@@ -36,8 +35,8 @@ use Rattle.translation_definitions.specs.TranslateKept.{translated, refused as 
 use Rattle.translation_definitions.specs.Laws.Answers.{not-both, asked, call-refused, call-written, refused-same, all-yes, counts-are, written-room}
 use Rattle.translation_definitions.specs.Laws.Calls.{few-rungs, ladder-call, list-call, words-out, records-out}
 use Rattle.translation_definitions.specs.Laws.Legal.{watchdog-in-range as most-in-range}
-use Rattle.translation_definitions.specs.Laws.Boths.{both-ends, both-left, both-refused, both-scanned, paired-legal}
-use Rattle.translation_definitions.specs.BothScans.{Lent, lends, copyQuestion, bothQuestions, bothScans, pairedScans, haltOf, pairedWatchdog, instructionWatchdog, endsIn, bothScannedAnswer, BothScansDone}
+use Rattle.translation_definitions.specs.Laws.Boths.{copy-long, both-ends, both-left, both-refused, both-scanned, paired-legal}
+use Rattle.translation_definitions.specs.BothScans.{Lent, lends, bothQuestions, bothScans, pairedScans, haltOf, pairedWatchdog, instructionWatchdog, endsIn, bothScannedAnswer, BothScansDone}
 use Rattle.translation_definitions.specs.BothAgree.{BothPromise, PairedPromise}
 use Rattle.translation_definitions.specs.Theorems.{both-agree, paired-agree}
 use Rattle.translation_definitions.specs.declared.Counts.{Counts as CountsStruct}
@@ -121,10 +120,6 @@ copied-whole : (table lent : List ℕ) → length lent ≡ length table → copi
 unfolding copied
 copied-whole table lent e =
     rw (take-all (length lent) table (omega arith), drop-of-length-le lent {i = length table} (omega arith)) (append-nil table)
-
-copy-long : (bytes lent : ℕ) → copyQuestion bytes lent ≡ none → lent ≡ bytes
-unfolding copyQuestion
-copy-long bytes lent e = eqb→eq lent bytes (ask-passed 11 _ e)
 
 -- ---- what Translate wrote
 

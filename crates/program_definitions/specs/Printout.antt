@@ -1,5 +1,5 @@
 -- What the program ladder-list prints, from the whole input. Document 01, "Listing". Assumes nothing.
-use Prim.Native.Nat.{ℕ}
+use Prim.Native.Nat.{ℕ, _+_}
 use mathlib.Core.List.{List, _++_}
 use lib.ListN.{take, replicate}
 use Rattle.questions.specs.Bytes.{bytes, decimal}
@@ -26,6 +26,10 @@ blank words rungs = buffers (replicate words 0) (replicate rungs 0) (replicate r
 -- "lends Listing 65,536 bytes"
 abbrev pub mostListing : ℕ
 mostListing = 65536
+
+-- a listing and a count line, of 64 bytes at most: the buffer that the program writes from
+abbrev pub mostOutput : ℕ
+mostOutput = mostListing + 64
 
 -- "lends Listing 65,536 bytes; a longer listing is refused 13"
 unfoldable pub listPrinted : ℕ → List ℕ → List RungRecord → Counts → Outcome

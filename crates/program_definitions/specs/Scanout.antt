@@ -1,10 +1,11 @@
 -- What the program ladder-scan prints, from the whole input: both scans of a ladder and its list side by side. README, "ladder-scan". Assumes nothing.
-use Prim.Native.Nat.{ℕ, suc}
+use Prim.Native.Nat.{ℕ, suc, _+_, _*_}
 use mathlib.Core.Bool.{Bool, true, false, _&&_}
 use mathlib.Core.List.{List, [], _∷_, _++_}
 use lib.Dec.{eqb}
 use lib.ListN.{take}
 use Rattle.questions.specs.Bytes.{bytes, decimal}
+use Rattle.questions.specs.Questions.{mostVariables}
 use Rattle.table.specs.Halt.{Halt, Ended, Stopped}
 use Rattle.rungs.specs.Records.{mostRecords}
 use Rattle.ladder_definitions.specs.Kept.{Kept}
@@ -64,10 +65,14 @@ verdictLine alike = bytes "alike\n"
 verdictLine bothStopped = bytes "both stopped\n"
 verdictLine notAlike = bytes "not alike\n"
 
--- the report: `table` is the table before, `lent` has the two tables after
+-- the report, from the table before and the two tables after
 unfoldable pub reportLines : ℕ → List ℕ → BothEnds → List ℕ → List ℕ → List ℕ
 reportLines vars table e ladderTable listTable =
     endLines e ++ (changedLines 0 (take vars table) (take vars ladderTable) (take vars listTable) ++ verdictLine (verdict e (take vars ladderTable) (take vars listTable)))
+
+-- lines of 64 bytes at most, one for each variable and 512 besides: the buffer that the program writes from
+abbrev pub mostReport : ℕ
+mostReport = 64 * (mostVariables + 512)
 
 -- two tables and buffers for the list, "of the largest size allowed"
 abbrev pub lentFor : List ℕ → Lent

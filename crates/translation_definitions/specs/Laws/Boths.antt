@@ -5,9 +5,10 @@ use mathlib.Core.Path.{_≡_, refl, sym, ap, _∙_}
 use mathlib.Core.Option.{none, some}
 use mathlib.Core.List.{List, [], _∷_}
 use borrow.Author.Tests.{eq-eqb}
+use lib.Dec.{eqb→eq}
 use lib.ListN.{length}
 use Rattle.questions.specs.Questions.{Refusal, Answer, firstNo, ask, question12, question13, mostRungWatchdog, mostInstructionWatchdog}
-use Rattle.questions.specs.Laws.Answers.{watchdog-in-range, in-range-watchdog}
+use Rattle.questions.specs.Laws.Answers.{ask-passed, first-yes, later-yes, watchdog-in-range, in-range-watchdog}
 use Rattle.table.specs.Halt.{Halt, Ended, Stopped}
 use Rattle.table.specs.State.{State, stateOf}
 use Rattle.table.specs.Questions.{question11}
@@ -24,12 +25,16 @@ use Rattle.translation_definitions.specs.Translate.{translate}
 use Rattle.translation_definitions.specs.TranslateKept.{countsOf, listBuffers}
 use Rattle.translation_definitions.specs.Demand3.{ScansAlike}
 use Rattle.translation_definitions.specs.Calls.{CallsAlike}
-use Rattle.translation_definitions.specs.BothScans.{Lent, lends, BothEnds, BothCall, both, refused, copyQuestion, bothQuestions, bothScans, instructionWatchdog, pairedWatchdog}
+use Rattle.translation_definitions.specs.BothScans.{Lent, lends, BothEnds, BothAnswer, BothCall, both, refused, copyQuestion, bothQuestions, bothScans, instructionWatchdog, pairedWatchdog}
 use Rattle.translation_definitions.specs.BothAgree.{BothGiven, BothTold, BothAgree, PairedAgree}
 use Rattle.translation_definitions.specs.Laws.Calls.{few-rungs, stopped-rungs, ladder-call, list-call, translate-call, scans-alike}
 use Rattle.translation_definitions.specs.Laws.Legal.{watchdog-in-range as most-in-range}
 
 -- ---- the questions
+
+pub copy-long : (bytes lent : ℕ) → copyQuestion bytes lent ≡ none → lent ≡ bytes
+unfolding copyQuestion
+copy-long bytes lent e = eqb→eq lent bytes (ask-passed 11 _ e)
 
 module _ (vars : ℕ) (kept : Kept) (table : List ℕ) (lent : Lent) (n : ℕ) where
   -- 11 of the table and its copies, and what follows
@@ -68,6 +73,28 @@ module _ (vars : ℕ) (kept : Kept) (table : List ℕ) (lent : Lent) (n : ℕ) w
       → bothScans vars kept table lent n w ≡ record { answer = both (both-ends w); lent = both-left w }
   unfolding bothScans both-ends both-left
   both-scanned w e = rw (e, bothScans)
+
+  -- both scans ran: every question got a "yes"
+  pub both-given : (w : ℕ) (e : BothEnds) → bothScans vars kept table lent n w .answer ≡ both e → BothGiven vars kept table lent n
+  both-given w e q = go (firstNo (bothQuestions vars kept table lent n w)) refl
+    where
+      no-refusal : (r : Refusal) → _≡_ {A = BothAnswer} (refused r) (both e) → ⊥
+      no-refusal r z = let x : _≡_ {A = ℕ} 0 1 = cc in omega arith
+
+      go : (a : Answer) → firstNo (bothQuestions vars kept table lent n w) ≡ a → BothGiven vars kept table lent n
+      go (some r) a = absurd (no-refusal r (sym (ap (λ c. c .answer) (both-refused w r a)) ∙ q))
+      go none a =
+          let e4 = sym (ladder-before w) ∙ a in
+          let e11 = later-yes _ _ e4 in
+          let first = later-yes _ _ e11 in
+          let second = later-yes _ _ first in
+          let e12 = later-yes _ _ second in
+          let e13 = later-yes _ _ (later-yes _ _ e12) in
+          record {
+            given = record { accepted = first-yes _ _ e4; room = first-yes _ _ e13; legal = first-yes _ _ e11; watchdog = first-yes _ _ e12 };
+            ladder-copy = copy-long _ _ (first-yes _ _ first);
+            list-copy = copy-long _ _ (first-yes _ _ second);
+          }
 
 -- ---- k × L and 2 × n are legal
 

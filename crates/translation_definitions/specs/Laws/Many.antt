@@ -37,7 +37,7 @@ use Rattle.translation_definitions.specs.Laws.Lists.{below-all}
 -- ---- a write leaves a legal table legal
 
 -- a table that question 11 takes
-abbrev LegalTable : ℕ → List ℕ → Type 0
+abbrev pub LegalTable : ℕ → List ℕ → Type 0
 LegalTable vars table = question11 (stateOf vars table) ≡ none
 
 bit-fits : (b : Bool) → T (isBit (bit b))
@@ -50,7 +50,7 @@ bits-written (x ∷ xs) zero b h = all-cons isBit (bit b) xs (bit-fits b) (all-t
 bits-written (x ∷ xs) (suc i) b h = all-cons isBit x (set xs i (bit b)) (all-head isBit x xs h) (bits-written xs i b (all-tail isBit x xs h))
 
 module _ (vars : ℕ) where
-  written-legal : (table : List ℕ) (i : ℕ) (b : Bool) → LegalTable vars table → LegalTable vars (writtenAt table i b)
+  pub written-legal : (table : List ℕ) (i : ℕ) (b : Bool) → LegalTable vars table → LegalTable vars (writtenAt table i b)
   unfolding question11 tableInRange writtenAt
   written-legal table i b h =
       let p = and-yes (eqb (length table) (tableSize vars)) (all isBit table) (ask-passed 11 _ h) in
@@ -79,7 +79,7 @@ module _ (vars : ℕ) where
   does-legal (JMPC j) v e pc h = h
   does-legal (JMPCN j) v e pc h = h
 
-  machine-legal : (l : InstructionList) (n : ℕ) (m : Machine) (t : State) → LegalTable vars (t .bytes) → LegalTable vars (scanMachine l n m t .state .bytes)
+  pub machine-legal : (l : InstructionList) (n : ℕ) (m : Machine) (t : State) → LegalTable vars (t .bytes) → LegalTable vars (scanMachine l n m t .state .bytes)
   unfolding halted step
   machine-legal l zero m t h = go (getElem? (l .code) (m .index)) refl
     where

@@ -1,0 +1,57 @@
+-- Worked lines of the programs: numbers, tables, refusals, verdicts, and document 01's case A through ladder-list's and ladder-scan's own definitions.
+-- Assumes nothing.
+use mathlib.Core.Path.{_≡_, refl}
+use mathlib.Core.Bool.{true, false}
+use mathlib.Core.List.{[], _∷_, _++_}
+use lib.ListN.{replicate}
+use Rattle.questions.specs.Bytes.{bytes, decimal, digits}
+use Rattle.questions.specs.Tests.{all}
+use Rattle.table.specs.Halt.{Halt, Ended, Stopped}
+use Rattle.text_grammar.specs.Reader.{digitOf, digitsFrom, numeralOf}
+use Rattle.translation_definitions.specs.BothScans.{BothEnds}
+use Prim.Native.Nat.{ℕ}
+use Rattle.program_definitions.specs.Lines.{lineNumber, watchdogOf, isDigit01, tableOf}
+use Rattle.program_definitions.specs.Refusals.{refusalLine, explanations, explanation, lineEndsText, errorLines}
+use Rattle.program_definitions.specs.Scanout.{endWord, endLines, changedLine, changedLines, sameBytes, Verdict, alike, bothStopped, notAlike, alikeIf, verdict, verdictLine, reportLines}
+
+pub watchdogs-worked :
+    (watchdogOf (bytes "2") ≡ 2) × (watchdogOf (bytes "65535") ≡ 65535) × (watchdogOf (bytes "65536") ≡ 65536) × (watchdogOf (bytes "02") ≡ 65536) × (watchdogOf [] ≡ 65536)
+unfolding lineNumber numeralOf digitsFrom digitOf bytes
+watchdogs-worked = (refl, refl, refl, refl, refl)
+
+pub tables-worked :
+    (tableOf 5 (bytes "10010") ≡ 1 ∷ 0 ∷ 0 ∷ 1 ∷ 0 ∷ replicate 32 0) × (tableOf 5 (bytes "1001") ≡ []) × (tableOf 5 (bytes "100100") ≡ []) × (tableOf 5 (bytes "10012") ≡ [])
+unfolding tableOf isDigit01 all bytes
+tables-worked = (refl, refl, refl, refl)
+
+pub refusals-worked :
+    (refusalLine (record { number = 6; place = 3 }) ≡ bytes "refused 6 place 3\n")
+    × (errorLines (bytes "ladder-list") false (record { number = 6; place = 3 }) ≡ bytes "ladder-list: rung 3, counting from 0, names a variable that is not below V\n")
+    × (errorLines (bytes "ladder-scan") true (record { number = 1; place = 0 })
+    ≡ bytes "ladder-scan: V is not a number from 1 to 1,024\nladder-scan: the input has CR LF line ends: a line ends with LF alone\n")
+unfolding refusalLine errorLines explanation explanations lineEndsText decimal digits bytes
+refusals-worked = (refl, refl, refl)
+
+pub ends : Halt → ℕ → Halt → ℕ → BothEnds
+ends h k g m =
+    record {
+      counts = record { instructions = 12; rungs = 2; longest = 10 };
+      ladderHalt = h;
+      ladder = record { rungs = k };
+      listHalt = g;
+      list = record { instructions = 12; rungs = m };
+    }
+
+-- other variables, other rungs, or another end are not alike; two scans that stopped are both stopped, whatever their variables are
+pub verdicts-worked :
+    (verdict (ends Ended 2 Ended 2) (1 ∷ 0 ∷ []) (1 ∷ 0 ∷ []) ≡ alike) × (verdict (ends Ended 2 Ended 2) (1 ∷ 0 ∷ []) (1 ∷ 1 ∷ []) ≡ notAlike)
+    × (verdict (ends Ended 2 Ended 3) (1 ∷ []) (1 ∷ []) ≡ notAlike) × (verdict (ends Ended 2 Stopped 2) (1 ∷ []) (1 ∷ []) ≡ notAlike)
+    × (verdict (ends Stopped 1 Stopped 1) (1 ∷ []) (0 ∷ []) ≡ bothStopped)
+unfolding ends verdict alikeIf sameBytes
+verdicts-worked = (refl, refl, refl, refl, refl)
+
+-- README's report
+pub report-worked : reportLines 5 (1 ∷ 0 ∷ 0 ∷ 0 ∷ 0 ∷ []) (ends Ended 2 Ended 2) (1 ∷ 1 ∷ 0 ∷ 0 ∷ 1 ∷ []) (1 ∷ 1 ∷ 0 ∷ 0 ∷ 1 ∷ [])
+    ≡ bytes "scan ladder list\nend Ended Ended\nrungs 2 2\ninstructions - 12\nv1 0>1 0>1\nv4 0>1 0>1\nalike\n"
+unfolding ends reportLines endLines endWord changedLines changedLine verdict alikeIf sameBytes verdictLine decimal digits bytes
+report-worked = refl

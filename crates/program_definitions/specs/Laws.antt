@@ -1,0 +1,4 @@
+-- Laws of the definitions. No contract cites these modules.
+pub mod Alike
+pub mod Bounds
+pub mod Scans

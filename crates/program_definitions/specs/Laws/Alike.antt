@@ -1,0 +1,181 @@
+-- Every report of ladder-scan ends in `alike` or in `both stopped`, by demand 3 over the code's definition: case by case along the definitions of the output.
+-- Assumes nothing.
+use Prim.Native.Nat.{ℕ, suc}
+use native.Mathlib.Omega.{arith}
+use mathlib.Core.Path.{_≡_, refl, sym, ap, _∙_}
+use mathlib.Core.Bool.{Bool, true, false, _&&_}
+use mathlib.Core.List.{List, [], _∷_, _++_, append-assoc, append-nil}
+use borrow.Author.Tests.{eq-eqb}
+use lib.Dec.{eqb}
+use lib.ListN.{take}
+use Rattle.questions.specs.Bytes.{bytes, decimal}
+use Rattle.questions.specs.Questions.{Refusal}
+use Rattle.table.specs.Halt.{Halt, Ended, Stopped}
+use Rattle.table.specs.State.{variables}
+use Rattle.ladder_definitions.specs.Kept.{Kept}
+use Rattle.ladder_definitions.specs.Questions.{mostRungs, mostWords}
+use Rattle.text_definitions.specs.Read.{ReadAnswer, readText, kept, refused as readRefused}
+use Rattle.list_definitions.specs.ListScan.{ListScanAnswer, scanned as listScanned}
+use Rattle.list_definitions.specs.Machine.{Counts as ListCounts}
+use Rattle.translation_definitions.specs.BothScans.{BothEnds, BothAnswer, both, pairedScans, refused as scansRefused}
+use Rattle.translation_definitions.specs.BothAgree.{PairedAgree}
+use Rattle.translation_definitions.specs.Laws.Boths.{both-given}
+use Rattle.translation_definitions.specs.Theorems.{paired-agree}
+use Rattle.program_definitions.specs.Refusals.{refusalLine}
+use Rattle.program_definitions.specs.Outcome.{Outcome, printed, refused, outputOf}
+use Rattle.program_definitions.specs.Printout.{blank}
+use Rattle.program_definitions.specs.Scanout.{endWord, endLines, changedLine, changedLines, sameBytes, Verdict, alike, bothStopped, alikeIf, verdict, verdictLine, reportLines, lentFor, keptScanned, textScanned, outcome, output}
+
+-- ---- the verdict
+
+same-self : (xs : List ℕ) → sameBytes xs xs ≡ true
+unfolding sameBytes
+same-self [] = refl
+same-self (x ∷ xs) = rw (eq-eqb x x refl) (same-self xs)
+
+same-scan : {h g : Halt} {c d : ListCounts} → _≡_ {A = ListScanAnswer} (listScanned h c) (listScanned g d) → (h ≡ g) × (c ≡ d)
+same-scan e = (cc, cc)
+
+-- how both halted, and the verdict
+pub data Verdicts (e : BothEnds) (l t : List ℕ) : Type 0 where
+  bothEnded : e .ladderHalt ≡ Ended → e .listHalt ≡ Ended → verdict e l t ≡ alike → Verdicts e l t
+  stoppedBoth : e .ladderHalt ≡ Stopped → e .listHalt ≡ Stopped → verdict e l t ≡ bothStopped → Verdicts e l t
+
+module _ (vars : ℕ) (k : Kept) (table : List ℕ) (n : ℕ) (e : BothEnds) (q : pairedScans vars k table (lentFor table) n .answer ≡ both e) where
+  agree : PairedAgree vars k (lentFor table .buffers) n (pairedScans vars k table (lentFor table) n .answer) (pairedScans vars k table (lentFor table) n .lent)
+  agree = paired-agree vars k table (lentFor table) n (both-given vars k table (lentFor table) n _ e q)
+
+  told : agree .told .ends ≡ e
+  told = let z : both (agree .told .ends) ≡ both e = sym (agree .told .answered) ∙ q in cc
+
+  abbrev l : List ℕ
+  l = take vars (pairedScans vars k table (lentFor table) n .lent .ladderTable)
+
+  abbrev t : List ℕ
+  t = take vars (pairedScans vars k table (lentFor table) n .lent .listTable)
+
+  pub verdicts : Verdicts e l t
+  unfolding verdict alikeIf variables
+  verdicts = go (e .ladderHalt) refl
+    where
+      go : (h : Halt) → e .ladderHalt ≡ h → Verdicts e l t
+      go Ended p =
+          let x = agree .ended (ap (λ (d : BothEnds). d .ladderHalt) told ∙ p) in
+          let y = same-scan (x .ended) in
+          let halt : e .listHalt ≡ Ended = sym (ap (λ (d : BothEnds). d .listHalt) told) ∙ y .0 in
+          let rungs : e .list .rungs ≡ e .ladder .rungs =
+          sym (ap (λ (d : BothEnds). d .list .rungs) told) ∙ ap (λ (c : ListCounts). c .rungs) (y .1) ∙ x .rungs ∙ ap (λ (d : BothEnds). d .ladder .rungs) told in
+          bothEnded p halt (rw (p, halt, eq-eqb (e .ladder .rungs) (e .list .rungs) (sym rungs), x .same .same-variables, same-self t) refl)
+      go Stopped p =
+          let x = agree .stopped (ap (λ (d : BothEnds). d .ladderHalt) told ∙ p) in
+          let halt : e .listHalt ≡ Stopped = sym (ap (λ (d : BothEnds). d .listHalt) told) ∙ same-scan (x .stopped) .0 in
+          stoppedBoth p halt (rw (p, halt) refl)
+
+-- ---- lines end in LF
+
+pub record EndsLine (xs : List ℕ) : Type 0 where
+  pub before : List ℕ
+  pub is : xs ≡ before ++ bytes "\n"
+
+ends-self : EndsLine (bytes "\n")
+ends-self = record { before = []; is = refl }
+
+ends-after : (xs : List ℕ) {ys : List ℕ} → EndsLine ys → EndsLine (xs ++ ys)
+ends-after xs e = record { before = xs ++ e .before; is = ap (λ z. xs ++ z) (e .is) ∙ sym (append-assoc xs (e .before) (bytes "\n")) }
+
+changed-ends : (v b l t : ℕ) → EndsLine (changedLine v b l t)
+unfolding changedLine
+changed-ends v b l t =
+    ends-after (bytes "v") (ends-after (decimal v) (ends-after (bytes " ") (ends-after (decimal b) (ends-after (bytes ">") (ends-after (decimal l)
+    (ends-after (bytes " ") (ends-after (decimal b) (ends-after (bytes ">") (ends-after (decimal t) ends-self)))))))))
+
+maybe-ends : (xs : List ℕ) → EndsLine xs → (v b l t : ℕ) (same : Bool) → EndsLine (xs ++ elim same [ true ↦ [] | false ↦ changedLine v b l t ])
+maybe-ends xs e v b l t true = rw (append-nil xs) e
+maybe-ends xs e v b l t false = ends-after xs (changed-ends v b l t)
+
+lines-end : (v : ℕ) (bs ls ts xs : List ℕ) → EndsLine xs → EndsLine (xs ++ changedLines v bs ls ts)
+unfolding changedLines
+lines-end v [] ls ts xs e = rw (append-nil xs) e
+lines-end v (b ∷ bs) [] ts xs e = rw (append-nil xs) e
+lines-end v (b ∷ bs) (l ∷ ls) [] xs e = rw (append-nil xs) e
+lines-end v (b ∷ bs) (l ∷ ls) (t ∷ ts) xs e =
+    let line : List ℕ = elim (eqb l b && eqb t b) [ true ↦ [] | false ↦ changedLine v b l t ] in
+    rw (← (append-assoc xs line (changedLines (suc v) bs ls ts))) (lines-end (suc v) bs ls ts (xs ++ line) (maybe-ends xs e v b l t (eqb l b && eqb t b)))
+
+-- ---- the report in literal bytes
+
+module _ (vars : ℕ) (table : List ℕ) (e : BothEnds) (l t : List ℕ) where
+  abbrev counts : List ℕ
+  counts = bytes "rungs " ++ (decimal (e .ladder .rungs) ++ (bytes " " ++ (decimal (e .list .rungs) ++ (bytes "\ninstructions - " ++ (decimal (e .list .instructions) ++ bytes "\n")))))
+
+  counts-end : EndsLine counts
+  counts-end =
+      ends-after (bytes "rungs ") (ends-after (decimal (e .ladder .rungs)) (ends-after (bytes " ") (ends-after (decimal (e .list .rungs))
+      (ends-after (bytes "\ninstructions - ") (ends-after (decimal (e .list .instructions)) ends-self)))))
+
+  abbrev changed : List ℕ
+  changed = changedLines 0 (take vars table) (take vars l) (take vars t)
+
+  -- what stands between the line of ends and the verdict
+  pub middle : List ℕ
+  middle = lines-end 0 (take vars table) (take vars l) (take vars t) counts counts-end .before
+
+  joined : (head last : List ℕ) → head ++ (counts ++ (changed ++ last)) ≡ head ++ (middle ++ (bytes "\n" ++ last))
+  unfolding middle
+  joined head last =
+      let x = lines-end 0 (take vars table) (take vars l) (take vars t) counts counts-end in
+      ap (λ z. head ++ z) (sym (append-assoc counts changed last) ∙ ap (λ z. z ++ last) (x .is) ∙ append-assoc (x .before) (bytes "\n") last)
+
+  ended-lines : e .ladderHalt ≡ Ended → e .listHalt ≡ Ended → endLines e ≡ bytes "scan ladder list\nend Ended Ended\n" ++ counts
+  unfolding endLines endWord bytes
+  ended-lines p q = rw (p, q) refl
+
+  stopped-lines : e .ladderHalt ≡ Stopped → e .listHalt ≡ Stopped → endLines e ≡ bytes "scan ladder list\nend Stopped Stopped\n" ++ counts
+  unfolding endLines endWord bytes
+  stopped-lines p q = rw (p, q) refl
+
+  report-is : (head : List ℕ) (x : Verdict) → endLines e ≡ head ++ counts → verdict e (take vars l) (take vars t) ≡ x
+      → reportLines vars table e l t ≡ head ++ (middle ++ (bytes "\n" ++ verdictLine x))
+  unfolding reportLines
+  report-is head x p v =
+      ap (λ z. z ++ (changed ++ verdictLine (verdict e (take vars l) (take vars t)))) p ∙ ap (λ y. (head ++ counts) ++ (changed ++ verdictLine y)) v
+      ∙ append-assoc head counts (changed ++ verdictLine x) ∙ joined head (verdictLine x)
+
+  pub ended-report : e .ladderHalt ≡ Ended → e .listHalt ≡ Ended → verdict e (take vars l) (take vars t) ≡ alike
+      → reportLines vars table e l t ≡ bytes "scan ladder list\nend Ended Ended\n" ++ (middle ++ bytes "\nalike\n")
+  unfolding verdictLine bytes
+  ended-report p q v = report-is (bytes "scan ladder list\nend Ended Ended\n") alike (ended-lines p q) v
+
+  pub stopped-report : e .ladderHalt ≡ Stopped → e .listHalt ≡ Stopped → verdict e (take vars l) (take vars t) ≡ bothStopped
+      → reportLines vars table e l t ≡ bytes "scan ladder list\nend Stopped Stopped\n" ++ (middle ++ bytes "\nboth stopped\n")
+  unfolding verdictLine bytes
+  stopped-report p q v = report-is (bytes "scan ladder list\nend Stopped Stopped\n") bothStopped (stopped-lines p q) v
+
+-- ---- the whole
+
+module _ (P : List ℕ → Type 0) (refusals : (r : Refusal) → P (refusalLine r))
+    (ends : (middle : List ℕ) → P (bytes "scan ladder list\nend Ended Ended\n" ++ (middle ++ bytes "\nalike\n")))
+    (stops : (middle : List ℕ) → P (bytes "scan ladder list\nend Stopped Stopped\n" ++ (middle ++ bytes "\nboth stopped\n"))) where
+  report-shown : (vars : ℕ) (table : List ℕ) (e : BothEnds) (l t : List ℕ) → Verdicts e (take vars l) (take vars t) → P (reportLines vars table e l t)
+  report-shown vars table e l t (bothEnded p q v) = rw (ended-report vars table e l t p q v) (ends (middle vars table e l t))
+  report-shown vars table e l t (stoppedBoth p q v) = rw (stopped-report vars table e l t p q v) (stops (middle vars table e l t))
+
+  kept-shown : (vars : ℕ) (k : Kept) (table : List ℕ) (n : ℕ) → P (outputOf (keptScanned vars k table n))
+  unfolding keptScanned outputOf
+  kept-shown vars k table n = go (pairedScans vars k table (lentFor table) n .answer) refl
+    where
+      go : (a : BothAnswer) → pairedScans vars k table (lentFor table) n .answer ≡ a → P (outputOf (keptScanned vars k table n))
+      go (scansRefused refusal) e = rw (e, keptScanned) (refusals refusal)
+      go (both ends) e = rw (e, keptScanned) (report-shown vars table ends _ _ (verdicts vars k table n ends e))
+
+  text-shown : (vars n : ℕ) (table text : List ℕ) → P (outputOf (textScanned vars n table text))
+  unfolding textScanned outputOf
+  text-shown vars n table text = go (readText vars text (blank mostWords mostRungs) .answer) refl
+    where
+      go : (a : ReadAnswer) → readText vars text (blank mostWords mostRungs) .answer ≡ a → P (outputOf (textScanned vars n table text))
+      go (readRefused refusal) e = rw (e, textScanned) (refusals refusal)
+      go (kept words rungs) e = rw (e, textScanned) (kept-shown vars _ table n)
+
+  pub output-shown : (input : List ℕ) → P (output input)
+  unfolding output outcome
+  output-shown input = text-shown _ _ _ _

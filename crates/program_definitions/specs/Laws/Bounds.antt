@@ -1,0 +1,285 @@
+-- How long an output is: a listing and its count line, a report. Assumes nothing.
+use Prim.Native.Nat.{ℕ, zero, suc, _+_, _*_, _^_, _≤_, _<_}
+use native.Mathlib.Omega.{arith}
+use mathlib.Core.Path.{_≡_, refl, sym, ap, _∙_}
+use mathlib.Core.Bool.{Bool, true, false, _&&_}
+use mathlib.Core.Option.{none, some}
+use mathlib.Core.List.{List, [], _∷_, _++_}
+use lib.Dec.{T, eqb, leb→le}
+use lib.ListN.{length, take, drop, replicate, length-append, length-replicate, take-append-drop}
+use lib.Seq.{length-take-le}
+use mir.Facts.{and-yes}
+use Rattle.questions.specs.Bytes.{bytes, decimal}
+use Rattle.questions.specs.Tests.{all}
+use Rattle.questions.specs.Questions.{Refusal, Answer, firstNo, question1, question12, question13, longEnough, mostVariables, mostRungWatchdog, mostInstructionWatchdog}
+use Rattle.questions.specs.Laws.Answers.{ask-passed, first-yes, later-yes, vars-in-range, watchdog-in-range}
+use Rattle.questions.specs.Laws.Tests.{all-head, all-tail, all-first}
+use Rattle.printing.specs.Laws.Puts.{decimal-long, decimal-most}
+use Rattle.table.specs.Halt.{Halt, Ended, Stopped}
+use Rattle.table.specs.State.{stateOf, tableSize}
+use Rattle.table.specs.Questions.{isBit, tableInRange, question11}
+use Rattle.table.specs.Laws.Alike.{table-room}
+use Rattle.rungs.specs.Records.{RungRecord, longest, mostRecords}
+use Rattle.rungs.specs.Buffers.{Buffers, written as writtenFrom, writtenWords, writtenRecords}
+use Rattle.rungs.specs.Laws.Filling.{written-first}
+use Rattle.ladder_definitions.specs.Kept.{Kept}
+use Rattle.ladder_definitions.specs.Meaning.{scanLadder}
+use Rattle.ladder_definitions.specs.Questions.{ladderOf, ladderAnswer, mostRungs, mostWords}
+use Rattle.ladder_definitions.specs.Laws.Accepting.{accepted}
+use Rattle.text_definitions.specs.Read.{ReadAnswer, readText, kept, writtenKept, refused as readRefused}
+use Rattle.list_definitions.specs.Machine.{scanList}
+use Rattle.list_definitions.specs.ListScan.{listOf}
+use Rattle.list_definitions.specs.Questions.{mostInstructions, question10}
+use Rattle.list_definitions.specs.Listing.{fixedNames, ListingCall, listing, written, refused as listingRefused, listingText}
+use Rattle.translation_definitions.specs.Translate.{translate}
+use Rattle.translation_definitions.specs.TranslateKept.{Counts, countsOf, translateKept, TranslateAnswer, translated, refused as translateRefused}
+use Rattle.translation_definitions.specs.BothScans.{BothEnds, BothAnswer, BothCall, both, pairedScans, pairedWatchdog, refused as scansRefused}
+use Rattle.translation_definitions.specs.BothAgree.{BothGiven}
+use Rattle.translation_definitions.specs.Laws.Answers.{all-yes, counts-are, written-room}
+use Rattle.translation_definitions.specs.Laws.Calls.{few-rungs}
+use Rattle.translation_definitions.specs.Laws.Many.{LegalTable}
+use Rattle.translation_definitions.specs.Laws.Legal.{watchdog-in-range as most-in-range}
+use Rattle.translation_definitions.specs.Laws.Boths.{both-ends, both-left, both-given, asked-yes, both-scanned, paired-legal}
+use Rattle.program_definitions.specs.Refusals.{refusalLine}
+use Rattle.program_definitions.specs.Outcome.{Outcome, printed, refused}
+use Rattle.program_definitions.specs.Printout.{countLine, blank, mostListing, listPrinted, keptPrinted, textPrinted}
+use Rattle.program_definitions.specs.Scanout.{endWord, endLines, changedLine, changedLines, Verdict, alike, bothStopped, notAlike, verdict, verdictLine, reportLines, lentFor, keptScanned, textScanned}
+use Rattle.program_definitions.specs.Laws.Scans.{ladder-legal, list-legal, Within, list-within}
+
+-- ---- texts one after the other
+
+then : (xs ys : List ℕ) {a : ℕ} {b : ℕ} → length xs ≤ a → length ys ≤ b → length (xs ++ ys) ≤ a + b
+then xs ys h k = rw (length-append xs ys) (omega arith)
+
+-- a number below 65,536, and what follows
+number-then : (n : ℕ) (ys : List ℕ) (b : ℕ) → n < 65536 → length ys ≤ b → length (decimal n ++ ys) ≤ 5 + b
+number-then n ys b h k = then (decimal n) ys (decimal-long n h) k
+
+-- a number of 64 bits, and what follows
+long-then : (n : ℕ) (ys : List ℕ) (b : ℕ) → n < 2 ^ 64 → length ys ≤ b → length (decimal n ++ ys) ≤ 20 + b
+long-then n ys b h k = then (decimal n) ys (decimal-most n h) k
+
+same-text : {s t : List ℕ} → _≡_ {A = Outcome} (printed s) (printed t) → s ≡ t
+same-text e = cc
+
+no-text : (r : Refusal) (t : List ℕ) → _≡_ {A = Outcome} (refused r) (printed t) → ⊥
+no-text r t e = let z : _≡_ {A = ℕ} 0 1 = cc in omega arith
+
+pub refusal-short : (r : Refusal) → r .number < 2 ^ 64 → r .place < 2 ^ 64 → length (refusalLine r) ≤ 60
+unfolding refusalLine bytes
+refusal-short r n p =
+    let x : length (decimal (r .place) ++ bytes "\n") ≤ 20 + 1 = long-then (r .place) (bytes "\n") 1 p (omega arith) in
+    let y : length (decimal (r .number) ++ (bytes " place " ++ (decimal (r .place) ++ bytes "\n"))) ≤ 20 + 28
+    = long-then (r .number) _ 28 n (omega (arith, x)) in
+    omega (arith, y)
+
+-- ---- ladder-list
+
+record Small (c : Counts) : Type 0 where
+  rungs : c .rungs < 65536
+  instructions : c .instructions < 65536
+  longest : c .longest < 65536
+
+counts-short : (c : Counts) → Small c → length (countLine c) ≤ 45
+unfolding countLine bytes
+counts-short c s =
+    let x : length (decimal (c .longest) ++ bytes "\n") ≤ 5 + 1 = number-then (c .longest) (bytes "\n") 1 (s .longest) (omega arith) in
+    let y : length (decimal (c .instructions) ++ (bytes " longest " ++ (decimal (c .longest) ++ bytes "\n"))) ≤ 5 + 15
+    = number-then (c .instructions) _ 15 (s .instructions) (omega (arith, x)) in
+    let z : length (decimal (c .rungs) ++ (bytes " instructions " ++ (decimal (c .instructions) ++ (bytes " longest " ++ (decimal (c .longest) ++ bytes "\n"))))) ≤ 5 + 34
+    = number-then (c .rungs) _ 34 (s .rungs) (omega (arith, y)) in
+    omega (arith, z)
+
+module _ (vars : ℕ) (words : List ℕ) (records : List RungRecord) (counts : Counts) (s : Small counts) where
+  abbrev text : List ℕ
+  text = listingText fixedNames vars (listOf words records)
+
+  abbrev lent : List ℕ
+  lent = replicate mostListing 0
+
+  abbrev asked : Answer
+  asked = firstNo (question1 vars ∷ question10 vars words records ∷ question13 (record { needed = length text; lent = length lent } ∷ []) ∷ [])
+
+  room : asked ≡ none → length text ≤ 65536
+  unfolding question13 longEnough
+  room q =
+      let r = ask-passed 13 _ (first-yes _ _ (later-yes _ _ (later-yes _ _ q))) in
+      let m = leb→le (length text) (length lent) (all-head longEnough (record { needed = length text; lent = length lent }) [] r) in
+      omega (arith, m, length-replicate {A = ℕ} mostListing 0)
+
+  abbrev printedBy : ListingCall → Outcome
+  printedBy c = elim (c .answer) [ listingRefused refusal ↦ refused refusal | written n ↦ printed (take n (c .buffer) ++ countLine counts) ]
+
+  list-short : (t : List ℕ) → listPrinted vars words records counts ≡ printed t → length t ≤ 65600
+  unfolding listPrinted listing writtenFrom
+  list-short t e = go asked refl
+    where
+      go : (a : Answer) → asked ≡ a → length t ≤ 65600
+      go none q =
+          let call : listing fixedNames vars words records lent ≡ record { answer = written (length text); buffer = writtenFrom text lent } = rw (q, listing) in
+          let w : take (length text) (writtenFrom text lent) ++ countLine counts ≡ t = same-text (sym (ap printedBy call) ∙ e) in
+          let f = written-first text lent in
+          let l = then text (countLine counts) (room q) (counts-short counts s) in
+          rw (← w, f) (omega (arith, l))
+      go (some r) q =
+          let call : listing fixedNames vars words records lent ≡ record { answer = listingRefused r; buffer = lent } = rw (q, listing) in
+          absurd (no-text r t (sym (ap printedBy call) ∙ e))
+
+module _ (vars : ℕ) (k : Kept) where
+  abbrev room-for : Buffers
+  room-for = blank mostInstructions mostRecords
+
+  counts-small : (c : Counts) → translateKept vars k room-for .answer ≡ translated c → Small c
+  unfolding countsOf
+  counts-small c e =
+      let r = written-room vars k room-for c e in
+      let a = accepted vars k (first-yes (ladderAnswer vars k) _ (all-yes vars k room-for c e)) .1 in
+      let l : c .longest ≡ longest (translate vars (ladderOf k) .records) = ap (λ (d : Counts). d .longest) (counts-are vars k room-for c e) in
+      let m = watchdog-in-range mostInstructionWatchdog _ (most-in-range vars (ladderOf k) a 65535 (omega arith)) in
+      record {
+        rungs = omega (arith, r .1, length-replicate {A = ℕ} mostRecords 0);
+        instructions = omega (arith, r .0, length-replicate {A = ℕ} mostInstructions 0);
+        longest = omega (arith, l, m);
+      }
+
+  kept-short : (t : List ℕ) → keptPrinted vars k ≡ printed t → length t ≤ 65600
+  unfolding keptPrinted
+  kept-short t e = go (translateKept vars k room-for .answer) refl
+    where
+      go : (a : TranslateAnswer) → translateKept vars k room-for .answer ≡ a → length t ≤ 65600
+      go (translated c) q =
+          let z : keptPrinted vars k ≡ listPrinted vars (writtenWords (translateKept vars k room-for .buffers) (c .instructions)) (writtenRecords (translateKept vars k room-for .buffers) (c .rungs)) c
+          = rw (q, keptPrinted) refl in
+          list-short vars _ _ c (counts-small c q) t (sym z ∙ e)
+      go (translateRefused r) q = let z : keptPrinted vars k ≡ refused r = rw (q, keptPrinted) refl in absurd (no-text r t (sym z ∙ e))
+
+pub text-short : (vars : ℕ) (text t : List ℕ) → textPrinted vars text ≡ printed t → length t ≤ 65600
+unfolding textPrinted
+text-short vars text t e = go (readText vars text (blank mostWords mostRungs) .answer) refl
+  where
+    go : (a : ReadAnswer) → readText vars text (blank mostWords mostRungs) .answer ≡ a → length t ≤ 65600
+    go (kept words rungs) q =
+        let z : textPrinted vars text ≡ keptPrinted vars (writtenKept (readText vars text (blank mostWords mostRungs) .buffers) words rungs) = rw (q, textPrinted) refl in
+        kept-short vars _ t (sym z ∙ e)
+    go (readRefused r) q = let z : textPrinted vars text ≡ refused r = rw (q, textPrinted) refl in absurd (no-text r t (sym z ∙ e))
+
+-- ---- ladder-scan
+
+-- a line of a variable has at most 32 bytes
+line-short : (v b l t : ℕ) → v < 65536 → b < 65536 → l < 65536 → t < 65536 → length (changedLine v b l t) ≤ 32
+unfolding changedLine bytes
+line-short v b l t hv hb hl ht =
+    let x1 : length (decimal t ++ bytes "\n") ≤ 5 + 1 = number-then t (bytes "\n") 1 ht (omega arith) in
+    let x2 : length (decimal b ++ (bytes ">" ++ (decimal t ++ bytes "\n"))) ≤ 5 + 7 = number-then b _ 7 hb (omega (arith, x1)) in
+    let x3 : length (decimal l ++ (bytes " " ++ (decimal b ++ (bytes ">" ++ (decimal t ++ bytes "\n"))))) ≤ 5 + 13 = number-then l _ 13 hl (omega (arith, x2)) in
+    let x4 : length (decimal b ++ (bytes ">" ++ (decimal l ++ (bytes " " ++ (decimal b ++ (bytes ">" ++ (decimal t ++ bytes "\n"))))))) ≤ 5 + 19 = number-then b _ 19 hb (omega (arith, x3)) in
+    let x5 : length (decimal v ++ (bytes " " ++ (decimal b ++ (bytes ">" ++ (decimal l ++ (bytes " " ++ (decimal b ++ (bytes ">" ++ (decimal t ++ bytes "\n"))))))))) ≤ 5 + 25
+    = number-then v _ 25 hv (omega (arith, x4)) in
+    omega (arith, x5)
+
+one-line : (same : Bool) (line : List ℕ) → length line ≤ 32 → length {A = ℕ} (elim same as (λ _. List ℕ) [ true ↦ [] | false ↦ line ]) ≤ 32
+one-line true line h = omega arith
+one-line false line h = h
+
+bit-few : (b : ℕ) → T (isBit b) → b < 65536
+bit-few b h = let x = leb→le b 1 h in omega (arith, x)
+
+lines-short : (v : ℕ) (bs ls ts : List ℕ) → v + length bs ≤ 65536 → T (all isBit bs) → T (all isBit ls) → T (all isBit ts) → length (changedLines v bs ls ts) ≤ 32 * length bs
+unfolding changedLines
+lines-short v [] ls ts h p q r = omega arith
+lines-short v (b ∷ bs) [] ts h p q r = omega arith
+lines-short v (b ∷ bs) (l ∷ ls) [] h p q r = omega arith
+lines-short v (b ∷ bs) (l ∷ ls) (t ∷ ts) h p q r =
+    let line = one-line (eqb l b && eqb t b) (changedLine v b l t) (line-short v b l t (omega arith) (bit-few b (all-head isBit b bs p)) (bit-few l (all-head isBit l ls q)) (bit-few t (all-head isBit t ts r))) in
+    let rest = lines-short (suc v) bs ls ts (omega arith) (all-tail isBit b bs p) (all-tail isBit l ls q) (all-tail isBit t ts r) in
+    let x = then (elim (eqb l b && eqb t b) as (λ _. List ℕ) [ true ↦ [] | false ↦ changedLine v b l t ]) (changedLines (suc v) bs ls ts) line rest in
+    omega (arith, x)
+
+word-short : (h : Halt) → length (endWord h) ≤ 7
+unfolding endWord bytes
+word-short Ended = omega arith
+word-short Stopped = omega arith
+
+ends-short : (e : BothEnds) → e .ladder .rungs < 65536 → e .list .rungs < 2 ^ 64 → e .list .instructions < 2 ^ 64 → length (endLines e) ≤ 200
+unfolding endLines bytes
+ends-short e hk hr hi =
+    let x1 : length (decimal (e .list .instructions) ++ bytes "\n") ≤ 20 + 1 = long-then (e .list .instructions) (bytes "\n") 1 hi (omega arith) in
+    let x2 : length (decimal (e .list .rungs) ++ (bytes "\ninstructions - " ++ (decimal (e .list .instructions) ++ bytes "\n"))) ≤ 20 + 37
+    = long-then (e .list .rungs) _ 37 hr (omega (arith, x1)) in
+    let x3 : length (decimal (e .ladder .rungs) ++ (bytes " " ++ (decimal (e .list .rungs) ++ (bytes "\ninstructions - " ++ (decimal (e .list .instructions) ++ bytes "\n"))))) ≤ 5 + 58
+    = number-then (e .ladder .rungs) _ 58 hk (omega (arith, x2)) in
+    let x4 : length (endWord (e .listHalt) ++ (bytes "\nrungs " ++ (decimal (e .ladder .rungs) ++ (bytes " " ++ (decimal (e .list .rungs) ++ (bytes "\ninstructions - "
+    ++ (decimal (e .list .instructions) ++ bytes "\n"))))))) ≤ 7 + 70
+    = then (endWord (e .listHalt)) _ {b = 70} (word-short (e .listHalt)) (omega (arith, x3)) in
+    let x5 : length (endWord (e .ladderHalt) ++ (bytes " " ++ (endWord (e .listHalt) ++ (bytes "\nrungs " ++ (decimal (e .ladder .rungs) ++ (bytes " " ++ (decimal (e .list .rungs)
+    ++ (bytes "\ninstructions - " ++ (decimal (e .list .instructions) ++ bytes "\n"))))))))) ≤ 7 + 78
+    = then (endWord (e .ladderHalt)) _ {b = 78} (word-short (e .ladderHalt)) (omega (arith, x4)) in
+    omega (arith, x5)
+
+verdict-short : (x : Verdict) → length (verdictLine x) ≤ 13
+unfolding verdictLine bytes
+verdict-short alike = omega arith
+verdict-short bothStopped = omega arith
+verdict-short notAlike = omega arith
+
+-- the V variables of a legal table
+module _ (vars : ℕ) (table : List ℕ) (legal : LegalTable vars table) where
+  bits : T (all isBit (take vars table))
+  unfolding question11 tableInRange
+  bits = all-first isBit (take vars table) (drop vars table)
+      (rw (take-append-drop vars table) (and-yes (eqb (length table) (tableSize vars)) (all isBit table) (ask-passed 11 _ legal) .1))
+
+  as-many : length (take vars table) ≡ vars
+  as-many = let m = table-room (stateOf vars table) legal in length-take-le vars table (omega (arith, m))
+
+module _ (vars : ℕ) (k : Kept) (table : List ℕ) (n : ℕ) where
+  abbrev w : ℕ
+  w = pairedWatchdog vars k table n
+
+  report-short : (given : BothGiven vars k table (lentFor table) n)
+      → length (reportLines vars table (both-ends vars k table (lentFor table) n w) (both-left vars k table (lentFor table) n w .ladderTable) (both-left vars k table (lentFor table) n w .listTable)) ≤ 98304
+  unfolding reportLines both-ends both-left
+  report-short given =
+      let s = stateOf vars table in
+      let e = both-ends vars k table (lentFor table) n w in
+      let range = vars-in-range vars (accepted vars k (given .given .accepted) .1 .range) in
+      let most = watchdog-in-range mostRungWatchdog n (given .given .watchdog) in
+      let few = few-rungs (ladderOf k) n s in
+      let top = watchdog-in-range mostInstructionWatchdog w (paired-legal vars k table n (given .given .accepted) (given .given .watchdog)) in
+      let c = list-within (translate vars (ladderOf k)) w s in
+      let l = scanLadder (ladderOf k) n s .state .bytes in
+      let t = scanList (translate vars (ladderOf k)) w s .state .bytes in
+      let lb = bits vars l (ladder-legal vars (ladderOf k) n s (given .given .legal)) in
+      let tb = bits vars t (list-legal vars (translate vars (ladderOf k)) w s (given .given .legal)) in
+      let m = as-many vars table (given .given .legal) in
+      let head = ends-short e (omega (arith, most, few)) (omega (arith, c .rungs, top)) (omega (arith, c .instructions, top)) in
+      let changed = lines-short 0 (take vars table) (take vars l) (take vars t) (omega (arith, m, range .1)) (bits vars table (given .given .legal)) lb tb in
+      let last = verdict-short (verdict e (take vars l) (take vars t)) in
+      let x = then (endLines e) (changedLines 0 (take vars table) (take vars l) (take vars t) ++ verdictLine (verdict e (take vars l) (take vars t))) head
+      (then (changedLines 0 (take vars table) (take vars l) (take vars t)) (verdictLine (verdict e (take vars l) (take vars t))) changed last) in
+      omega (arith, x, m, range .1)
+
+  abbrev scannedBy : BothCall → Outcome
+  scannedBy c = elim (c .answer) [ scansRefused refusal ↦ refused refusal | both e ↦ printed (reportLines vars table e (c .lent .ladderTable) (c .lent .listTable)) ]
+
+  scanned-short : (t : List ℕ) → keptScanned vars k table n ≡ printed t → length t ≤ 98304
+  unfolding keptScanned
+  scanned-short t q = go (pairedScans vars k table (lentFor table) n .answer) refl
+    where
+      go : (a : BothAnswer) → pairedScans vars k table (lentFor table) n .answer ≡ a → length t ≤ 98304
+      go (scansRefused r) a = let z : keptScanned vars k table n ≡ refused r = rw (a, keptScanned) refl in absurd (no-text r t (sym z ∙ q))
+      go (both e) a =
+          let given = both-given vars k table (lentFor table) n w e a in
+          let is = both-scanned vars k table (lentFor table) n w
+          (asked-yes vars k table (lentFor table) n given w (paired-legal vars k table n (given .given .accepted) (given .given .watchdog))) in
+          rw (← (same-text (sym (ap scannedBy is) ∙ q))) (report-short given)
+
+pub report-text-short : (vars n : ℕ) (table text t : List ℕ) → textScanned vars n table text ≡ printed t → length t ≤ 98304
+unfolding textScanned
+report-text-short vars n table text t e = go (readText vars text (blank mostWords mostRungs) .answer) refl
+  where
+    go : (a : ReadAnswer) → readText vars text (blank mostWords mostRungs) .answer ≡ a → length t ≤ 98304
+    go (kept words rungs) q =
+        let z : textScanned vars n table text ≡ keptScanned vars (writtenKept (readText vars text (blank mostWords mostRungs) .buffers) words rungs) table n = rw (q, textScanned) refl in
+        scanned-short vars _ table n t (sym z ∙ e)
+    go (readRefused r) q = let z : textScanned vars n table text ≡ refused r = rw (q, textScanned) refl in absurd (no-text r t (sym z ∙ e))
