@@ -1,4 +1,4 @@
--- Laws of the scan's loop over a row's records: it goes on only where no question got a "no", and then it is list's. Assumes nothing.
+-- Laws of the scan's loop over a row's records: it goes on only where no question got a "no", and then it is list_machine's. Assumes nothing.
 use Prim.Native.Nat.{ℕ, _+_, _-_, _≤_, _<_, _^_}
 use native.Mathlib.Omega.{arith}
 use mathlib.Core.Path.{_≡_, refl, sym, ap, _∙_}

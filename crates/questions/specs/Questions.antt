@@ -1,6 +1,6 @@
 -- Questions before work. Document 01, "Questions before work": what a refusal is, the order of the questions, and questions 1, 2, 12 and 13.
--- Questions 4 to 9 stand in the crate ladder, 10 in list, 11 in table. An answer is no refusal, a "yes", or the refusal of a "no".
--- Assumes nothing.
+-- Question 3 stands in the crate text_grammar, 4 to 9 in ladder_definitions, 10 in list_definitions, 11 in table. An answer is no refusal, a "yes", or the
+-- refusal of a "no". Assumes nothing.
 use Prim.Native.Nat.{ℕ}
 use mathlib.Core.Bool.{Bool, true, false, _&&_}
 use mathlib.Core.Option.{Option, none, some, Option·map}

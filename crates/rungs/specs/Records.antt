@@ -11,7 +11,7 @@ pub record RungRecord : Type 0 where
   pub offset : ℕ
   pub length : ℕ
 
--- 01, Questions before work: at most 256 rungs; 1 to 256 records
+-- Document 01, "Questions before work": "At most 256 rungs", "1 to 256 records"
 abbrev pub mostRecords : ℕ
 mostRecords = 256
 
@@ -49,7 +49,7 @@ unfoldable pub isStart : List RungRecord → ℕ → Bool
 isStart [] i = false
 isStart (r ∷ rs) i = eqb (r .offset) i || isStart rs i
 
--- L, "the length of the list's longest rung"
+-- "L, the longest rung's length in instructions"
 unfoldable pub longest : List RungRecord → ℕ
 longest [] = 0
 longest (r ∷ rs) = max (r .length) (longest rs)
