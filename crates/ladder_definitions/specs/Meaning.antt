@@ -56,7 +56,7 @@ unfoldable pub unlessJumped : Run → (State → Run) → Run
 unlessJumped (onward s) next = next s
 unlessJumped (jumped l s) next = jumped l s
 
--- "Rear-and (f, r): r gets p and f; f is worked and r is run for either p. Rear-or (a, b): a gets p": figure 6, rear-and
+-- "Rear-and (f, r): r gets p and f; f is worked and r is run for either p."; "Rear-or (a, b): a gets p": figure 6, rear-and
 unfoldable pub runRear : Rear → Bool → State → Run
 runRear (output o) p s = runOutput o p s
 runRear (rearAnd f r) p s = let w = workFront f s in runRear r (p && w .power) (w .state)

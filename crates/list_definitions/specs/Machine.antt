@@ -73,7 +73,7 @@ pub record ListResult : Type 0 where
 unfoldable pub halted : Halt → Machine → State → ListResult
 halted h m s = record { halt = h; counts = m .counts; state = s }
 
--- "Before each instruction: at the end, Ended; else if the instructions carried out equal the watchdog, Stopped. Index = length is the end.":
+-- "Before each instruction: at the end, Ended; else if the instructions carried out equal the watchdog, Stopped."; "Index = length is the end.":
 -- the scan from the machine m and the state s on, with n more instructions before the watchdog
 unfoldable pub scanMachine : InstructionList → ℕ → Machine → State → ListResult
 scanMachine l zero m s = elim (getElem? (l .code) (m .index)) [ none ↦ halted Ended m s | some i ↦ halted Stopped m s ]

@@ -8,14 +8,15 @@ use Rattle.ladder_definitions.specs.Tree.{contact, contactn, Front, input, fron
 use Rattle.list_definitions.specs.Instruction.{Instr, LD, LDN, ST, STN, AND, ANDN, OR, ORN, JMPC, JMPCN}
 use Rattle.list_definitions.specs.Machine.{InstructionList}
 
--- "if g is a contact, AND v (negated: ANDN v); else ST td + F(g, d+1) + AND td. OR likewise, with OR and ORN": `code` is F(g, d+1), `td` the index of td
+-- what follows F(f, d) in "F(f AND g, d): if g is a contact, F(f, d) + AND v (negated: ANDN v); else F(f, d) + ST td + F(g, d+1) + AND td. OR likewise, with
+-- OR and ORN.": `code` is F(g, d+1), `td` the index of td
 unfoldable pub join : (ℕ → Instr) → (ℕ → Instr) → Front → List Instr → ℕ → List Instr
 join op opn (input (contact v)) code td = op v ∷ []
 join op opn (input (contactn v)) code td = opn v ∷ []
 join op opn (frontAnd f g) code td = ST td ∷ code ++ op td ∷ []
 join op opn (frontOr f g) code td = ST td ∷ code ++ op td ∷ []
 
--- F(front, d): "contact v is LD v, negated LDN v"; "F(f AND g, d): F(f, d)", then g joined
+-- F(front, d): "contact v is LD v, negated LDN v"; of f AND g and f OR g it is F(f, d), then g joined
 unfoldable pub F : ℕ → Front → ℕ → List Instr
 F vars (input (contact v)) d = LD v ∷ []
 F vars (input (contactn v)) d = LDN v ∷ []

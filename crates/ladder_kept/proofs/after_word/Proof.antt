@@ -1,4 +1,4 @@
--- `ladder::holds::after_word` meets its contract: what is pending first tells which words may follow. Assumes nothing.
+-- `ladder_kept::after_word` meets its contract: what is pending first tells which words may follow. Assumes nothing.
 use borrow.Author.Needs.{needs}
 use Rattle.ladder_kept.proofs.Holding.{no-front-pending, nothing-pending}
 use Rattle.ladder_kept.proofs.after_word.Statement.{statement}

@@ -1,4 +1,4 @@
--- `ladder::holds::holds_ladder` meets its contract. The loop's invariant: the records from `i` on and the words from `start` on hold rungs just when all do.
+-- `ladder_kept::holds_ladder` meets its contract. The loop's invariant: the records from `i` on and the words from `start` on hold rungs just when all do.
 -- The measure is what is left of the records. A length is at most what is left of the words, so no sum wraps. Assumes nothing.
 use Prim.Native.Nat.{_-_}
 use native.Mathlib.Omega.{arith}

@@ -1,4 +1,4 @@
--- `ladder::holds::holds_rung` meets its contract. The loop's invariant: the words from `i` on are what is pending just when the rung's words are a front and a rear.
+-- `ladder_kept::holds_rung` meets its contract. The loop's invariant: the words from `i` on are what is pending just when the rung's words are a front and a rear.
 -- The measure is what is left of the rung. Assumes nothing.
 use Prim.Native.Nat.{_-_}
 use native.Mathlib.Omega.{arith}

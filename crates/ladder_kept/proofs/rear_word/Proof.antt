@@ -1,4 +1,4 @@
--- `ladder::holds::rear_word` meets its contract: a law for each sort of word, and one for the words that begin no rear. Assumes nothing.
+-- `ladder_kept::rear_word` meets its contract: a law for each sort of word, and one for the words that begin no rear. Assumes nothing.
 use borrow.Author.Needs.{needs}
 use Rattle.ladder_kinds.specs.Kinds.{sortIn}
 use Rattle.ladder_kinds.proofs.Arms.{told, not-rear}

@@ -1,4 +1,4 @@
--- `kinds::names_label` meets its contract: its tests are the sort's. Assumes nothing.
+-- `ladder_kinds::names_label` meets its contract: its tests are the sort's. Assumes nothing.
 use Rattle.ladder_kinds.specs.Laws.Sorts.{label-tests}
 use Rattle.ladder_kinds.proofs.names_label.Statement.{statement}
 use Rattle.ladder_kinds.proofs.names_label.Tie as tie

@@ -1,4 +1,4 @@
--- `kinds::names_variable` meets its contract: its tests are the sort's. Assumes nothing.
+-- `ladder_kinds::names_variable` meets its contract: its tests are the sort's. Assumes nothing.
 use Rattle.ladder_kinds.specs.Laws.Sorts.{variable-tests}
 use Rattle.ladder_kinds.proofs.names_variable.Statement.{statement}
 use Rattle.ladder_kinds.proofs.names_variable.Tie as tie

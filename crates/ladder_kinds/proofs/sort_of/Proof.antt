@@ -1,4 +1,4 @@
--- `kinds::sort_of` meets its contract: each kind has its arm's sort, and no other kind has one. Assumes nothing.
+-- `ladder_kinds::sort_of` meets its contract: each kind has its arm's sort, and no other kind has one. Assumes nothing.
 use Prim.Native.Nat.{ℕ, zero, suc}
 use mathlib.Core.Path.{_≡_, refl}
 use Rattle.ladder_definitions.specs.Kept.{noSort, kindSorts, kindSort}

@@ -1,4 +1,4 @@
--- `ladder::question::first_repeated` meets its contract. The outer loop's invariant: the labels before `j` are new; the inner one's: none of those
+-- `ladder_names::first_repeated` meets its contract. The outer loop's invariant: the labels before `j` are new; the inner one's: none of those
 -- before `i` is the one at `j`. Assumes nothing.
 use Prim.Native.Nat.{_-_}
 use native.Mathlib.Omega.{arith}

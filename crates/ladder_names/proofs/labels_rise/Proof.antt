@@ -1,4 +1,4 @@
--- `ladder::question::labels_rise` meets its contract. The loop's invariant: the labels before `i` are new, and none of them is above the last.
+-- `ladder_names::labels_rise` meets its contract. The loop's invariant: the labels before `i` are new, and none of them is above the last.
 -- Assumes nothing.
 use Prim.Native.Nat.{_-_}
 use native.Mathlib.Omega.{arith}

@@ -1,4 +1,4 @@
--- `ladder::question::lengths_in_range` meets its contract. The loop's invariant: the lengths from `i` on are in range just when all are. Assumes nothing.
+-- `ladder_names::lengths_in_range` meets its contract. The loop's invariant: the lengths from `i` on are in range just when all are. Assumes nothing.
 use mathlib.Core.Path.{_≡_, refl, sym, _∙_}
 use Prim.Native.Nat.{_≤_, _-_}
 use native.Mathlib.Omega.{arith}

@@ -1,4 +1,4 @@
--- `ladder::question::repeated_label` meets its contract: labels that rise are new, others are searched. Assumes nothing.
+-- `ladder_names::repeated_label` meets its contract: labels that rise are new, others are searched. Assumes nothing.
 use borrow.Author.Needs.{needs}
 use Rattle.ladder_names.proofs.Asked.{risen}
 use Rattle.ladder_names.proofs.repeated_label.Statement.{statement}

@@ -1,4 +1,4 @@
--- `ladder::question::rung_leads` meets its contract. The loop's invariant: the words from `i` on pass just when all do. Assumes nothing.
+-- `ladder_names::rung_leads` meets its contract. The loop's invariant: the words from `i` on pass just when all do. Assumes nothing.
 use mathlib.Core.Path.{_≡_, refl, sym, _∙_}
 use Prim.Native.Nat.{_≤_, _-_}
 use native.Mathlib.Omega.{arith}

@@ -1,4 +1,4 @@
--- `ladder::question::sizes_in_range` meets its contract: the three tests of question 5 one after the other, a law for each. Assumes nothing.
+-- `ladder_names::sizes_in_range` meets its contract: the three tests of question 5 one after the other, a law for each. Assumes nothing.
 use mathlib.Core.Path.{sym, _∙_}
 use borrow.Author.Needs.{needs}
 use borrow.Author.Tests.{not-true, not-false}

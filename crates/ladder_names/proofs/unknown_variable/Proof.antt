@@ -1,4 +1,4 @@
--- `ladder::question::unknown_variable` meets its contract. The loop's invariant: the words from `from` on are those of the rungs from `k` on,
+-- `ladder_names::unknown_variable` meets its contract. The loop's invariant: the words from `from` on are those of the rungs from `k` on,
 -- and the rungs before passed. Assumes nothing.
 use mathlib.Core.Path.{sym, _∙_}
 use Prim.Native.Nat.{_-_}

@@ -1,4 +1,4 @@
--- `ladder::question::without_jump` meets its contract. The loop's invariant: the answer so far and that of the words from `i` on make the whole.
+-- `ladder_names::without_jump` meets its contract. The loop's invariant: the answer so far and that of the words from `i` on make the whole.
 -- Assumes nothing.
 use mathlib.Core.Path.{ap}
 use mathlib.Core.Bool.{not}

@@ -1,4 +1,4 @@
--- `ladder::question::word_below` meets its contract: the kind has no variable, or the operand is below. Assumes nothing.
+-- `ladder_names::word_below` meets its contract: the kind has no variable, or the operand is below. Assumes nothing.
 use borrow.Author.Needs.{needs}
 use Rattle.ladder_names.proofs.Asked.{below-operand}
 use Rattle.ladder_names.proofs.word_below.Statement.{statement}

@@ -1,4 +1,4 @@
--- `ladder::question::word_leads` meets its contract: the operand is searched where the kind has a label. Assumes nothing.
+-- `ladder_names::word_leads` meets its contract: the operand is searched where the kind has a label. Assumes nothing.
 use mathlib.Core.Path.{sym, _∙_}
 use borrow.Author.Needs.{needs}
 use Rattle.ladder_names.proofs.Asked.{leads-label, leads-other}

@@ -1,4 +1,4 @@
--- `ladder::question::words_below` meets its contract. The loop's invariant: the answer so far and that of the words from `i` on make the whole.
+-- `ladder_names::words_below` meets its contract. The loop's invariant: the answer so far and that of the words from `i` on make the whole.
 -- Assumes nothing.
 use Prim.Native.Nat.{_-_}
 use native.Mathlib.Omega.{arith}

@@ -1,4 +1,4 @@
--- `ladder::measure::front_scratch` meets its contract: the sort of the word's kind forces the tree's root, and the parts are measured by the same function, from later words.
+-- `ladder_scratch::front_scratch` meets its contract: the sort of the word's kind forces the tree's root, and the parts are measured by the same function, from later words.
 -- The measure is what is left of the words. Assumes nothing.
 use Prim.Native.Nat.{ℕ, _-_, _<_}
 use native.Mathlib.Omega.{arith}

@@ -1,4 +1,4 @@
--- `ladder::measure::few_scratch` meets its contract. Few words take few scratch bytes, and more words are measured. Assumes nothing.
+-- `ladder_scratch::few_scratch` meets its contract. Few words take few scratch bytes, and more words are measured. Assumes nothing.
 use borrow.Author.Needs.{needs}
 use Rattle.ladder_scratch.proofs.FewWords.{few-words, many-words}
 use Rattle.ladder_scratch.proofs.few_scratch.Statement.{statement}

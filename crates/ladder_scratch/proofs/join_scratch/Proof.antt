@@ -1,4 +1,4 @@
--- `ladder::measure::join_scratch` meets its contract: the sort of the word's kind tells a contact from a front of two parts. Assumes nothing.
+-- `ladder_scratch::join_scratch` meets its contract: the sort of the word's kind tells a contact from a front of two parts. Assumes nothing.
 use borrow.Author.Needs.{needs}
 use Rattle.ladder_kinds.specs.Kinds.{sortIn}
 use Rattle.ladder_kinds.proofs.Arms.{told, not-contact}

@@ -1,4 +1,4 @@
--- `ladder::measure::rung_scratch` meets its contract: the larger of what the front and the rear take. Assumes nothing.
+-- `ladder_scratch::rung_scratch` meets its contract: the larger of what the front and the rear take. Assumes nothing.
 use borrow.Author.Needs.{needs}
 use Rattle.ladder_scratch.proofs.Measures.{measured-rung}
 use Rattle.ladder_scratch.proofs.rung_scratch.Statement.{statement}

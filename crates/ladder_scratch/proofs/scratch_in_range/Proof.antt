@@ -1,4 +1,4 @@
--- `ladder::measure::scratch_in_range` meets its contract. The loop's invariant: what is left decides for all. Assumes nothing.
+-- `ladder_scratch::scratch_in_range` meets its contract. The loop's invariant: what is left decides for all. Assumes nothing.
 use Prim.Native.Nat.{_-_}
 use native.Mathlib.Omega.{arith}
 use mathlib.Core.Path.{refl}

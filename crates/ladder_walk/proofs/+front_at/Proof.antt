@@ -1,4 +1,4 @@
--- `ladder::walk::front_at` meets its contract. The loop's invariant: what stands from `at` on is worked, and roots only are left before it. A second part
+-- `ladder_walk::front_at` meets its contract. The loop's invariant: what stands from `at` on is worked, and roots only are left before it. A second part
 -- that is no contact is worked by the same function, from later words: the measure is what is left of the words. Assumes nothing.
 use Prim.Native.Nat.{ℕ, _-_, _<_}
 use native.Mathlib.Omega.{arith}

@@ -1,4 +1,4 @@
--- `ladder::walk::rear_at` meets its contract: the word's kind forces the tree's root, and the parts are worked and run from later words.
+-- `ladder_walk::rear_at` meets its contract: the word's kind forces the tree's root, and the parts are worked and run from later words.
 -- The measure is what is left of the words. Assumes nothing.
 use Prim.Native.Nat.{ℕ, _-_, _<_}
 use native.Mathlib.Omega.{arith}

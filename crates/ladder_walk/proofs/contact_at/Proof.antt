@@ -1,4 +1,4 @@
--- `ladder::walk::contact_at` meets its contract: where the position went on, the word is a contact. Assumes nothing.
+-- `ladder_walk::contact_at` meets its contract: where the position went on, the word is a contact. Assumes nothing.
 use native.Mathlib.Omega.{arith}
 use Rattle.ladder_definitions.specs.Kept.{inputKind}
 use Rattle.ladder_definitions.specs.Laws.Trees.{inside}

@@ -1,4 +1,4 @@
--- `ladder::walk::first_contact` meets its contract. The loop's invariant: roots only were passed. Assumes nothing.
+-- `ladder_walk::first_contact` meets its contract. The loop's invariant: roots only were passed. Assumes nothing.
 use Prim.Native.Nat.{_-_}
 use native.Mathlib.Omega.{arith}
 use lib.ListN.{length}

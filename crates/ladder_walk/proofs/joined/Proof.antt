@@ -1,4 +1,4 @@
--- `ladder::walk::joined` meets its contract. Assumes nothing.
+-- `ladder_walk::joined` meets its contract. Assumes nothing.
 use native.Mathlib.Omega.{arith}
 use mathlib.Core.Path.{refl}
 use Rattle.ladder_walk.proofs.joined.Statement.{statement}

@@ -1,4 +1,4 @@
--- `ladder::walk::run_rung` meets its contract: the front, and then the rear with the front's value as power. Assumes nothing.
+-- `ladder_walk::run_rung` meets its contract: the front, and then the rear with the front's value as power. Assumes nothing.
 use borrow.Author.Needs.{needs}
 use Rattle.ladder_walk.proofs.Walks.{ran-rung}
 use Rattle.ladder_walk.proofs.run_rung.Statement.{statement}

@@ -1,4 +1,4 @@
--- `list::scan::carry_out` meets its contract: an arm for each op, and the last for JMPCN, the one op that is left. Assumes nothing.
+-- `list_machine::carry_out` meets its contract: an arm for each op, and the last for JMPCN, the one op that is left. Assumes nothing.
 use mathlib.Core.Path.{refl}
 use mathlib.Core.Bool.{xor}
 use Rattle.table.specs.State.{valueAt, value, writtenAt, write}

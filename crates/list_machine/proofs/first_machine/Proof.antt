@@ -1,4 +1,4 @@
--- `list::scan::first_machine` meets its contract by computation. Assumes nothing.
+-- `list_machine::first_machine` meets its contract by computation. Assumes nothing.
 use mathlib.Core.Path.{refl}
 use Rattle.list_machine.specs.Parts.{firstMachine}
 use Rattle.list_machine.proofs.first_machine.Statement.{statement}

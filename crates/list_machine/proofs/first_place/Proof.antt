@@ -1,4 +1,4 @@
--- `list::scan::first_place` meets its contract: whether the first record begins at index 0. Assumes nothing.
+-- `list_machine::first_place` meets its contract: whether the first record begins at index 0. Assumes nothing.
 use borrow.Author.Needs.{needs}
 use Rattle.list_machine.specs.Parts.{firstPlace}
 use Rattle.list_machine.proofs.first_place.Statement.{statement}

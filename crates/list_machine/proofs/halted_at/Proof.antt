@@ -1,4 +1,4 @@
--- `list::scan::halted_at` meets its contract: the one test. Assumes nothing.
+-- `list_machine::halted_at` meets its contract: the one test. Assumes nothing.
 use borrow.Author.Tests.{le-leb, lt-leb}
 use Rattle.list_machine.specs.Parts.{haltedAt}
 use Rattle.list_machine.proofs.halted_at.Statement.{statement}

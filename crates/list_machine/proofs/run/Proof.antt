@@ -1,4 +1,4 @@
--- `list::scan::run` meets its contract. In each turn the local that holds the machine is lent for a lifetime ν, and the table's borrow is lent again for a lifetime μ; `step` is called, and both come back at the last values that its contract says; then `follow` is called on the offsets, which are Copy. Assumes nothing.
+-- `list_machine::run` meets its contract. In each turn the local that holds the machine is lent for a lifetime ν, and the table's borrow is lent again for a lifetime μ; `step` is called, and both come back at the last values that its contract says; then `follow` is called on the offsets, which are Copy. Assumes nothing.
 use mathlib.Core.Path.{_≡_, refl, sym, ap, subst}
 use Prim.Native.Nat.{ℕ, _-_, _<_, _^_}
 use native.Mathlib.Omega.{arith}

@@ -1,4 +1,4 @@
--- `list::scan::runs_on` meets its contract: the two tests, one after the other. Assumes nothing.
+-- `list_machine::runs_on` meets its contract: the two tests, one after the other. Assumes nothing.
 use borrow.Author.Tests.{le-leb, lt-leb}
 use Rattle.list_machine.specs.Parts.{runsOn}
 use Rattle.list_machine.proofs.runs_on.Statement.{statement}

@@ -1,4 +1,4 @@
--- `list::scan::seek` meets its contract. The loop's invariant: the place lies between `low` and `high`, which come nearer by halves. Assumes nothing.
+-- `list_machine::seek` meets its contract. The loop's invariant: the place lies between `low` and `high`, which come nearer by halves. Assumes nothing.
 use Prim.Native.Nat.{_+_, _-_, _/_}
 use native.Mathlib.Omega.{arith}
 use Rattle.list_machine.specs.Laws.Seeks.{Between, between-all, go-up, go-down, sought}

@@ -1,4 +1,4 @@
--- `list::scan::starts_here` meets its contract: the two tests, one after the other. Assumes nothing.
+-- `list_machine::starts_here` meets its contract: the two tests, one after the other. Assumes nothing.
 use native.Mathlib.Omega.{arith}
 use borrow.Author.Needs.{needs}
 use borrow.Author.Tests.{lt-ltb, le-ltb, eq-eqb, ne-eqb}

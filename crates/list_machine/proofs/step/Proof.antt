@@ -1,4 +1,4 @@
--- `list::scan::step` meets its contract. The machine is copied out of its borrow, which stays open over the call of `stepped`, and what that returns is stored in its place; the table's borrow is given to the callee. Assumes nothing.
+-- `list_machine::step` meets its contract. The machine is copied out of its borrow, which stays open over the call of `stepped`, and what that returns is stored in its place; the table's borrow is given to the callee. Assumes nothing.
 use mathlib.Core.Path.{_≡_, refl}
 use Prim.Native.Nat.{ℕ, _+_, _<_, _^_}
 use mathlib.Core.List.{[], _∷_, List}

@@ -1,4 +1,4 @@
--- `list::scan::stepped` meets its contract: what the instruction does, and the two counts. Assumes nothing.
+-- `list_machine::stepped` meets its contract: what the instruction does, and the two counts. Assumes nothing.
 use Rattle.list_machine.proofs.Steps.{stepped}
 use borrow.Author.Needs.{needs}
 use Rattle.list_machine.proofs.stepped.Statement.{statement}

@@ -1,4 +1,4 @@
--- `list::ops::operand_sort` meets its contract: each arm's ops take operands of its sort, and no other op takes any. Assumes nothing.
+-- `list_ops::operand_sort` meets its contract: each arm's ops take operands of its sort, and no other op takes any. Assumes nothing.
 use native.Mathlib.Omega.{arith}
 use mathlib.Core.Path.{refl}
 use Rattle.list_definitions.specs.Instruction.{onlyNot, ops, operand, sortOf, operandSort}

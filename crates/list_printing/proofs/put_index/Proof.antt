@@ -1,4 +1,4 @@
--- `list::print::put_index` meets its contract: the space, the letter and the number are written one after the other. Assumes nothing.
+-- `list_printing::put_index` meets its contract: the space, the letter and the number are written one after the other. Assumes nothing.
 use Rattle.printing.specs.Laws.Puts.{put-then}
 use borrow.Author.Needs.{needs}
 use Rattle.list_printing.proofs.put_index.Statement.{statement}

@@ -1,4 +1,4 @@
--- `list::print::put_instruction` meets its contract: the name, the operand and the line's end are written one after the other, by the word's parts.
+-- `list_printing::put_instruction` meets its contract: the name, the operand and the line's end are written one after the other, by the word's parts.
 -- Assumes nothing.
 use native.Mathlib.Omega.{arith}
 use Rattle.rungs.specs.Words.{numberOf, operandOf}

@@ -1,4 +1,4 @@
--- `list::print::put_label` meets its contract: the letter, the number, the colon and the line's end are written one after the other. Assumes nothing.
+-- `list_printing::put_label` meets its contract: the letter, the number, the colon and the line's end are written one after the other. Assumes nothing.
 use native.Mathlib.Omega.{arith}
 use Rattle.list_definitions.specs.Listing.{labelLine, ended}
 use Rattle.printing.specs.Laws.Puts.{put-then, decimal-long}

@@ -1,4 +1,4 @@
--- `list::print::put_list` meets its contract. The loop's invariant: the text of the records from `k` on, over what is written, is the whole text,
+-- `list_printing::put_list` meets its contract. The loop's invariant: the text of the records from `k` on, over what is written, is the whole text,
 -- and they are laid from `start` on. Assumes nothing.
 use Prim.Native.Nat.{_-_}
 use native.Mathlib.Omega.{arith}

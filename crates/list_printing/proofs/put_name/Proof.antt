@@ -1,4 +1,4 @@
--- `list::print::put_name` meets its contract. The loop's invariant: what is left of the name, over what is written, is the whole name. Assumes nothing.
+-- `list_printing::put_name` meets its contract. The loop's invariant: what is left of the name, over what is written, is the whole name. Assumes nothing.
 use Prim.Native.Nat.{_-_}
 use native.Mathlib.Omega.{arith}
 use Rattle.questions.specs.Bytes.{bytes}

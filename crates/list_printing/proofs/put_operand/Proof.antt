@@ -1,4 +1,4 @@
--- `list::print::put_operand` meets its contract: the sort of the op says what is written. Assumes nothing.
+-- `list_printing::put_operand` meets its contract: the sort of the op says what is written. Assumes nothing.
 use Rattle.printing.specs.Laws.Puts.{put-none, put-as}
 use Rattle.list_ops.specs.Sorts.{sortIn}
 use Rattle.list_ops.specs.Laws.Sorts.{sort-told}

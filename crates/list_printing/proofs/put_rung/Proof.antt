@@ -1,4 +1,4 @@
--- `list::print::put_rung` meets its contract. The loop's invariant: the lines of the words from `i` on, over what is written, are all of them.
+-- `list_printing::put_rung` meets its contract. The loop's invariant: the lines of the words from `i` on, over what is written, are all of them.
 -- Assumes nothing.
 use Prim.Native.Nat.{_-_}
 use native.Mathlib.Omega.{arith}

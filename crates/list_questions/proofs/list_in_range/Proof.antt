@@ -1,4 +1,4 @@
--- `list::question::list_in_range` meets its contract: the tests of question 10 one after the other, a law for each. Assumes nothing.
+-- `list_questions::list_in_range` meets its contract: the tests of question 10 one after the other, a law for each. Assumes nothing.
 use mathlib.Core.Path.{sym, _∙_}
 use borrow.Author.Needs.{needs}
 use borrow.Author.Tests.{not-true, not-false}

@@ -1,4 +1,4 @@
--- `list::question::records_laid` meets its contract. The loop's invariant: the records from `i` on are laid from `start` just when all are laid.
+-- `list_questions::records_laid` meets its contract. The loop's invariant: the records from `i` on are laid from `start` just when all are laid.
 -- A record's offset is below 2^32, and so is `start` once the two are equal, so no sum wraps. Assumes nothing.
 use mathlib.Core.Path.{refl, sym, _∙_}
 use Prim.Native.Nat.{_-_}

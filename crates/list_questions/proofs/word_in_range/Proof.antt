@@ -1,4 +1,4 @@
--- `list::question::word_in_range` meets its contract: the sort of the op says what its operand is asked. Assumes nothing.
+-- `list_questions::word_in_range` meets its contract: the sort of the op says what its operand is asked. Assumes nothing.
 use Rattle.list_ops.specs.Sorts.{sortIn}
 use Rattle.list_ops.specs.Laws.Sorts.{sortInRange, word-told}
 use borrow.Author.Needs.{needs}

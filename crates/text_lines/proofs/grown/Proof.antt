@@ -1,4 +1,4 @@
--- `text::lines::grown` meets its contract. Assumes nothing.
+-- `text_lines::grown` meets its contract. Assumes nothing.
 use Rattle.text_lines.proofs.Keeping.{grown-by}
 use borrow.Author.Needs.{needs}
 use Rattle.text_lines.proofs.grown.Statement.{statement}

@@ -1,4 +1,4 @@
--- `text::lines::keep` meets its contract. Assumes nothing.
+-- `text_lines::keep` meets its contract. Assumes nothing.
 use Rattle.text_lines.proofs.Keeping.{stored}
 use borrow.Author.Needs.{needs}
 use Rattle.text_lines.proofs.keep.Statement.{statement}

@@ -1,4 +1,4 @@
--- `text::lines::keep_line` meets its contract. Assumes nothing.
+-- `text_lines::keep_line` meets its contract. Assumes nothing.
 use mathlib.Core.Path.{refl}
 use Rattle.text_lines.proofs.Keeping.{wider, one-less, line-not-kept, line-room, line-kept}
 use borrow.Author.Needs.{needs}

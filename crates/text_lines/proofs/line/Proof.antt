@@ -1,4 +1,4 @@
--- `text::lines::line` meets its contract. Assumes nothing.
+-- `text_lines::line` meets its contract. Assumes nothing.
 use native.Mathlib.Omega.{arith}
 use Rattle.text_lines.proofs.OneLine.{byte-within, no-number, label-small, no-colon, rung-bad, whole-line}
 use borrow.Author.Needs.{needs}

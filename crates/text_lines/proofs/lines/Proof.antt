@@ -1,4 +1,4 @@
--- `text::lines::lines` meets its contract. Assumes nothing.
+-- `text_lines::lines` meets its contract. Assumes nothing.
 use mathlib.Core.Path.{_∙_}
 use Prim.Native.Nat.{_-_}
 use native.Mathlib.Omega.{arith}

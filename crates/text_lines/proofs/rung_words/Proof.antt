@@ -1,4 +1,4 @@
--- `text::lines::rung_words` meets its contract. Assumes nothing.
+-- `text_lines::rung_words` meets its contract. Assumes nothing.
 use native.Mathlib.Omega.{arith}
 use Rattle.text_lines.proofs.OneLine.{byte-within, front-bad, no-arrow, rear-room, rear-bad, no-end, rung-few, whole-rung}
 use borrow.Author.Needs.{needs}

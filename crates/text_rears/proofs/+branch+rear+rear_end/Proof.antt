@@ -1,4 +1,4 @@
--- `text::rear::rear`, `branch` and `rear_end` meet their contracts: each loop has read a prefix, whose words stand before the rest's.
+-- `text_rears::rear`, `branch` and `rear_end` meet their contracts: each loop has read a prefix, whose words stand before the rest's.
 -- The measures name the brackets that may still open and the bytes that remain. Assumes nothing.
 use mathlib.Core.Path.{sym, _∙_}
 use borrow.Author.Needs.{needs}

@@ -1,4 +1,4 @@
--- `text::rear::opens` meets its contract: each byte that a factor may begin with is one case. Assumes nothing.
+-- `text_rears::opens` meets its contract: each byte that a factor may begin with is one case. Assumes nothing.
 use mathlib.Core.Path.{refl}
 use borrow.Author.Tests.{ne-eqb}
 use Rattle.text_grammar.specs.Reader.{opensFactor}

@@ -1,4 +1,4 @@
--- `translation::code::front_code` and `join_code` meet their contracts: the word's kind forces the tree's root, and the parts' code is put by the same functions,
+-- `translation_code::front_code` and `join_code` meet their contracts: the word's kind forces the tree's root, and the parts' code is put by the same functions,
 -- from later words. The measure is twice what is left of the words, and one more where a front is joined. Assumes nothing.
 use Prim.Native.Nat.{ℕ, _+_, _-_, _*_, _<_}
 use native.Mathlib.Omega.{arith}

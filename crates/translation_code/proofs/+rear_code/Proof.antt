@@ -1,4 +1,4 @@
--- `translation::code::rear_code` meets its contract: the word's kind forces the tree's root, and the parts' instructions are put from later words.
+-- `translation_code::rear_code` meets its contract: the word's kind forces the tree's root, and the parts' instructions are put from later words.
 -- The measure is what is left of the words. Assumes nothing.
 use Prim.Native.Nat.{ℕ, _-_, _<_}
 use native.Mathlib.Omega.{arith}

@@ -1,4 +1,4 @@
--- `translation::code::rung_code` meets its contract: the instructions of the front, and then those of the rear. Assumes nothing.
+-- `translation_code::rung_code` meets its contract: the instructions of the front, and then those of the rear. Assumes nothing.
 use borrow.Author.Needs.{needs}
 use Rattle.translation_code.proofs.Rears.{rung-put}
 use Rattle.translation_code.proofs.rung_code.Statement.{statement}

@@ -1,4 +1,4 @@
--- `translation::code::start_of` meets its contract. Assumes nothing.
+-- `translation_code::start_of` meets its contract. Assumes nothing.
 use native.Mathlib.Omega.{arith}
 use Rattle.translation_code.proofs.Fronts.{start-read, start-none}
 use Rattle.translation_code.proofs.start_of.Statement.{statement}

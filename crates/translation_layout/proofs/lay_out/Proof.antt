@@ -1,4 +1,4 @@
--- `translation::write::lay_out` meets its contract. The loop's invariant: the rungs before are laid out. Assumes nothing.
+-- `translation_layout::lay_out` meets its contract. The loop's invariant: the rungs before are laid out. Assumes nothing.
 use Prim.Native.Nat.{_-_}
 use native.Mathlib.Omega.{arith}
 use mathlib.Core.Path.{refl, sym}

@@ -1,4 +1,4 @@
--- `translation::write::write_list` meets its contract. The loop's invariant: the rungs before are written. Assumes nothing.
+-- `translation_layout::write_list` meets its contract. The loop's invariant: the rungs before are written. Assumes nothing.
 use Prim.Native.Nat.{_-_}
 use native.Mathlib.Omega.{arith}
 use mathlib.Core.Path.{refl}
