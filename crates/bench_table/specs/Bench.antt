@@ -27,6 +27,7 @@ use Rattle.list_definitions.specs.Machine.{scanList, scanMachine, begin, fresh,
 use Rattle.list_definitions.specs.Questions.{operandInRange, wordInRange, recordsLaid, listInRange, question10}
 use Rattle.list_definitions.specs.ListScan.{listOf, callListScan, scanned as listScanned, refused as listRefused, scanEnds as listScanEnds, scanQuestions as listScanQuestions}
 use Rattle.translation_definitions.specs.Translate.{F, R, join, outputCode, rungCode, listRecords, translate}
+use Rattle.translation_definitions.specs.BothScans.{instructionWatchdog}
 use Rattle.translation_definitions.specs.TranslateKept.{Counts, countsOf, translateKept, translated, refused as translateRefused}
 
 -- how a scan halted, its rungs entered and the variables that it left
@@ -104,18 +105,13 @@ start r = r .before ++ replicate scratchBytes 0
 room : Buffers
 room = buffers (replicate 20 0) (replicate 3 0) (replicate 3 0) (replicate 3 0)
 
--- the instruction watchdog of demand 3
-watchdog : Halt → ℕ → ℕ → ℕ
-watchdog Ended rungs most = rungs * most
-watchdog Stopped rungs most = 2 * rungs
-
 variablesOf : Row → List ℕ → List ℕ
 variablesOf r bytes = take (length (r .before)) bytes
 
 -- List scan, after Ladder scan gave x and Translate wrote a list with its counts
 byListScan : Row → Scan → Counts → List ℕ → List RungRecord → Outcome
 byListScan r x counts words records =
-    let c = callListScan (length (r .before)) words records (start r) (watchdog (x .halt) (x .rungs) (counts .longest)) in
+    let c = callListScan (length (r .before)) words records (start r) (instructionWatchdog (x .halt) (x .rungs) (counts .longest) (r .watchdog)) in
     elim (c .answer) [
       | listRefused refusal ↦ refusedAt (refusal .number) (refusal .place)
       | listScanned halt n ↦ scans x (record { halt = halt; rungs = n .rungs; variables = variablesOf r (c .table) })
@@ -157,7 +153,7 @@ asFar (scans x y list) (scans x′ y′ (some l)) = scans x y list
 
 -- Every row comes out as document 01 says.
 bench : map (λ r. asFar (run r) (r .outcome)) table ≡ map (λ (r : Row). r .outcome) table
-unfolding table listA outcomeA run asFar start room watchdog variablesOf byListScan byTranslate byLadderScan bytes
+unfolding table listA outcomeA run asFar start room instructionWatchdog variablesOf byListScan byTranslate byLadderScan bytes
     all firstFailed ask askEach firstNo varsInRange question1 question2 question3 question4 question5 question6 question7 question8 question9 question10 question11 question12 question13 longEnough
     valueAt value writtenAt write tableInRange laid lay search present startOf isStart longest rowOf asBuffers needs written writtenOver writtenWords writtenRecords zipWith flatMap
     frontAll rearAll rungAll scanLadder scanFrom runRung runRear runOutput workFront workInput jumpIf unlessJumped from follow left

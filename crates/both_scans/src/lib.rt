@@ -109,7 +109,8 @@ fn asked_watchdog(watchdog: ListWatchdog) -> u32
 
 // k × L where the ladder scan ended, 2 × n where it stopped, unless a watchdog is given.
 fn list_watchdog(watchdog: ListWatchdog, ladder: LadderEnd, longest: usize, most: u32) -> u32
-    requires { ⌜ (ladder .counts .rungs ≤ mostRungWatchdog) × (longest ≤ codeBound mostRungWords) × (most ≤ mostRungWatchdog) ⌝ }
+    requires { ⌜ (ladder .counts .rungs ≤ mostRungWatchdog) × (longest ≤ codeBound mostRungWords)
+        × (most ≤ mostRungWatchdog) ⌝ }
     ensures { λ r. ⌜ r ≡ watchdogBy watchdog (haltOf (ladder .ended)) (ladder .counts .rungs) longest most ⌝ }
 {
     if let ListWatchdog::Given(given) = watchdog {

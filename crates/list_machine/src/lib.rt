@@ -3,7 +3,8 @@
 ghost use mathlib.Core.Path.{_≡_};
 ghost use Prim.Native.Nat.{_+_, _<_, _^_};
 ghost use lib.ListN.{length, getD};
-ghost use Rattle.list_machine.specs.Parts.{Did, Stepped, Ran, Sought, Followed, firstMachine, firstPlace, startsHere, runsOn, haltedAt};
+ghost use Rattle.list_machine.specs.Parts.{Did, Stepped, Ran, Sought, Followed};
+ghost use Rattle.list_machine.specs.Parts.{firstMachine, firstPlace, startsHere, runsOn, haltedAt};
 use list_definitions::Counts;
 use list_definitions::ListScanned;
 

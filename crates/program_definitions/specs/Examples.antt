@@ -55,3 +55,9 @@ pub report-worked : reportLines 5 (1 ∷ 0 ∷ 0 ∷ 0 ∷ 0 ∷ []) (ends Ended
     ≡ bytes "scan ladder list\nend Ended Ended\nrungs 2 2\ninstructions - 12\nv1 0>1 0>1\nv4 0>1 0>1\nalike\n"
 unfolding ends reportLines endLines endWord changedLines changedLine verdict alikeIf sameBytes verdictLine decimal digits bytes
 report-worked = refl
+
+-- two scans that stopped, with other variables
+pub stopped-worked : reportLines 2 (1 ∷ 0 ∷ []) (ends Stopped 1 Stopped 1) (1 ∷ 1 ∷ []) (1 ∷ 0 ∷ [])
+    ≡ bytes "scan ladder list\nend Stopped Stopped\nrungs 1 1\ninstructions - 12\nv1 0>1 0>0\nboth stopped\n"
+unfolding ends reportLines endLines endWord changedLines changedLine verdict verdictLine decimal digits bytes
+stopped-worked = refl

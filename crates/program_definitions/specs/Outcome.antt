@@ -1,5 +1,5 @@
 -- What a program comes to: a text that it prints, or a refusal. Assumes nothing.
-use Prim.Native.Nat.{ℕ}
+use Prim.Native.Nat.{ℕ, _≤_}
 use mathlib.Core.Path.{_≡_}
 use mathlib.Core.List.{List}
 use Rattle.questions.specs.Questions.{Refusal}
@@ -36,3 +36,14 @@ pub record RefusalGiven (refusal : Refusal) (before : List ℕ) (r : Printed) (a
 unfoldable pub Done : Outcome → List ℕ → Printed → List ℕ → Type 0
 Done (printed text) before r after = TextPlaced text before r after
 Done (refused refusal) before r after = RefusalGiven refusal before r after
+
+-- whatever outcome was put into a buffer, its output now stands at the buffer's start
+abbrev pub Finished : Printed → List ℕ → ℕ → List ℕ → Type 0
+Finished r between n after = (o : Outcome) (before : List ℕ) → Done o before r between → Put before 0 (outputOf o) n after
+
+-- a text that was placed has at most so many bytes; and then the output has, the line of a refusal too
+abbrev pub PlacedWithin : ℕ → Printed → Type 0
+PlacedWithin most r = (n : ℕ) → r ≡ Placed n → n ≤ most
+
+abbrev pub FinishedWithin : Printed → ℕ → Type 0
+FinishedWithin r n = (most : ℕ) → 60 ≤ most → PlacedWithin most r → n ≤ most

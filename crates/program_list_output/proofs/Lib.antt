@@ -1,4 +1,3 @@
 -- Laws that the proofs of functions cite.
-pub mod Begins
+pub mod Counts
 pub mod Prints
-pub mod Refusals

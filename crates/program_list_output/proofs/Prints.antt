@@ -1,12 +1,12 @@
--- Laws of what is printed for an answer of Listing, Translate or Read: the refusal's line, or what was written, which has room. Assumes nothing.
-use Prim.Native.Nat.{ℕ, _≤_}
+-- Laws of what an answer of Listing, Translate or Read comes to: the refusal, or what was written, which has room; and of the whole input. Assumes nothing.
+use Prim.Native.Nat.{ℕ, _+_, _-_, _≤_, min}
 use native.Mathlib.Omega.{arith}
 use mathlib.Core.Path.{_≡_, refl, sym, ap, subst, _∙_}
 use mathlib.Core.Option.{none, some}
 use mathlib.Core.List.{List, [], _∷_}
 use lib.Dec.{leb, leb→le}
 use mir.Facts.{and-yes}
-use lib.ListN.{length, take, replicate, length-replicate}
+use lib.ListN.{length, take, drop, replicate, length-replicate}
 use lib.Seq.{length-take-le}
 use Rattle.questions.specs.Tests.{all}
 use Rattle.questions.specs.Questions.{Answer, Refusal, firstNo, longEnough, question1, question13}
@@ -33,7 +33,15 @@ use Rattle.text_definitions.specs.declared.TextRead.{TextRead}
 use Rattle.text_definitions.specs.declared.TextRead.the-variants.{Kept as KeptCase, Refused as ReadRefusedCase}
 use Rattle.printing.specs.Put.{Put}
 use Rattle.printing.specs.Laws.Puts.{put-then}
-use Rattle.program_list_output.specs.Printout.{refusalLine, countLine, blank, printedList, printedKept, printed}
+use Rattle.program_definitions.specs.Lines.{firstLine, textAfter, variablesOf, mostKept}
+use Rattle.program_definitions.specs.Outcome.{Outcome, printed, refused, outputOf, Done}
+use Rattle.program_definitions.specs.Printout.{countLine, blank, listPrinted, keptPrinted, textPrinted, outcome}
+use Rattle.program_definitions.specs.Laws.Outcomes.{text-done, refusal-done}
+use Rattle.program_definitions.specs.declared.Printed.{Printed}
+use Rattle.program_definitions.specs.declared.Printed.the-variants.{Placed, Refused}
+use Rattle.program_numbers.specs.Parts.{numberBy, NumberTaken}
+use Rattle.program_numbers.specs.declared.Lined.{Lined}
+use Rattle.program_numbers.proofs.Lines.{line-value, kept-text}
 
 room-of : (n size x : ℕ) → n ≤ length (replicate size x) → n ≤ size
 room-of n size x h = subst (λ k. n ≤ k) (length-replicate size x) h
@@ -82,9 +90,9 @@ module _ (vars : ℕ) (words : List ℕ) (rs : List RungRecord) {r : Listed} {bu
     unfolding listedAnswer
     list-refusal = sym (done .answer) ∙ ap listedAnswer e
 
-    pub list-refused : (counts : Counts) {l : List ℕ} {i p : ℕ} {y : List ℕ} → Put l i (refusalLine (refusalOf x)) p y → Put l i (printedList vars words rs counts) p y
-    unfolding printedList
-    list-refused counts p = rw (list-refusal, printedList) p
+    pub list-refused : (counts : Counts) (l : List ℕ) → Done (listPrinted vars words rs counts) l (Refused x) l
+    unfolding listPrinted
+    list-refused counts l = rw (list-refusal, listPrinted) (refusal-done x l refl)
 
   module _ (n : ℕ) (e : r ≡ ListedCase n) where
     list-answer : listing fixedNames vars words rs (replicate 65536 0) .answer ≡ written n
@@ -97,10 +105,10 @@ module _ (vars : ℕ) (words : List ℕ) (rs : List RungRecord) {r : Listed} {bu
     pub list-long : length buffer ≡ 65536 → length (take n buffer) ≤ 65536
     list-long h = omega (arith, length-take-le n buffer (omega (arith, list-room, h)), list-room)
 
-    pub list-written : (counts : Counts) {l : List ℕ} {i m p : ℕ} {x y : List ℕ} → Put l i (take n buffer) m x → Put x m (countLine counts) p y
-        → Put l i (printedList vars words rs counts) p y
-    unfolding printedList
-    list-written counts p q = rw (list-answer, printedList, ← (done .same-buffer)) (put-then p q)
+    pub list-written : (counts : Counts) {l : List ℕ} {m p : ℕ} {x y : List ℕ} → Put l 0 (take n buffer) m x → Put x m (countLine counts) p y
+        → Done (listPrinted vars words rs counts) l (Placed p) y
+    unfolding listPrinted
+    list-written counts p q = rw (list-answer, listPrinted, ← (done .same-buffer)) (text-done refl (put-then p q))
 
 -- ---- Translate
 
@@ -110,9 +118,9 @@ module _ (vars : ℕ) (k : Kept) {r : Translated} {after : Buffers} (done : Tran
     unfolding translatedAnswer
     kept-refusal = sym (done .answer) ∙ ap translatedAnswer e
 
-    pub kept-refused : {l : List ℕ} {i p : ℕ} {y : List ℕ} → Put l i (refusalLine (refusalOf x)) p y → Put l i (printedKept vars k) p y
-    unfolding printedKept
-    kept-refused p = rw (kept-refusal, printedKept) p
+    pub kept-refused : (l : List ℕ) → Done (keptPrinted vars k) l (Refused x) l
+    unfolding keptPrinted
+    kept-refused l = rw (kept-refusal, keptPrinted) (refusal-done x l refl)
 
   module _ (c : CountsStruct) (e : r ≡ TranslatedCase c) where
     pub kept-answer : translateKept vars k (blank 16384 256) .answer ≡ translated (countsIn c)
@@ -124,12 +132,12 @@ module _ (vars : ℕ) (k : Kept) {r : Translated} {after : Buffers} (done : Tran
         let h = written-room vars k (blank 16384 256) (countsIn c) kept-answer in
         (room-of (c .instructions) 16384 0 (h .0), room-of (c .rungs) 256 0 (h .1))
 
-    pub kept-listed : {l : List ℕ} {i p : ℕ} {y : List ℕ}
-        → Put l i (printedList vars (take (c .instructions) (after .words))
-        (rowOf (take (c .rungs) (after .labels)) (take (c .rungs) (after .offsets)) (take (c .rungs) (after .lengths))) (countsIn c)) p y
-        → Put l i (printedKept vars k) p y
-    unfolding printedKept writtenWords writtenRecords
-    kept-listed p = rw (kept-answer, printedKept, ← (done .same-buffers)) p
+    pub kept-listed : (l : List ℕ) (p : Printed) (y : List ℕ)
+        → Done (listPrinted vars (take (c .instructions) (after .words))
+        (rowOf (take (c .rungs) (after .labels)) (take (c .rungs) (after .offsets)) (take (c .rungs) (after .lengths))) (countsIn c)) l p y
+        → Done (keptPrinted vars k) l p y
+    unfolding keptPrinted writtenWords writtenRecords
+    kept-listed l p y d = rw (kept-answer, keptPrinted, ← (done .same-buffers)) d
 
 -- ---- Read
 
@@ -139,9 +147,9 @@ module _ (vars : ℕ) (s : List ℕ) {r : TextRead} {after : Buffers} (done : Re
     unfolding textReadAnswer
     read-refusal = sym (done .answer) ∙ ap textReadAnswer e
 
-    pub read-refused : {l : List ℕ} {i p : ℕ} {y : List ℕ} → Put l i (refusalLine (refusalOf x)) p y → Put l i (printed vars s) p y
-    unfolding printed
-    read-refused p = rw (read-refusal, printed) p
+    pub read-refused : (l : List ℕ) → Done (textPrinted vars s) l (Refused x) l
+    unfolding textPrinted
+    read-refused l = rw (read-refusal, textPrinted) (refusal-done x l refl)
 
   module _ (c : KeptStruct) (e : r ≡ KeptCase c) where
     pub read-answer : readText vars s (blank 8192 256) .answer ≡ kept (c .words) (c .rungs)
@@ -153,11 +161,22 @@ module _ (vars : ℕ) (s : List ℕ) {r : TextRead} {after : Buffers} (done : Re
         let h = kept-room-of vars s (blank 8192 256) (c .words) (c .rungs) read-answer in
         (room-of (c .words) 8192 0 (h .0), room-of (c .rungs) 256 0 (h .1))
 
-    pub read-kept : {l : List ℕ} {i p : ℕ} {y : List ℕ}
-        → Put l i (printedKept vars (record {
+    pub read-kept : (l : List ℕ) (p : Printed) (y : List ℕ)
+        → Done (keptPrinted vars (record {
           words = take (c .words) (after .words);
           records = rowOf (take (c .rungs) (after .labels)) (take (c .rungs) (after .offsets)) (take (c .rungs) (after .lengths));
-        })) p y
-        → Put l i (printed vars s) p y
-    unfolding printed writtenKept writtenWords writtenRecords
-    read-kept p = rw (read-answer, printed, ← (done .same-buffers)) p
+        })) l p y
+        → Done (textPrinted vars s) l p y
+    unfolding textPrinted writtenKept writtenWords writtenRecords
+    read-kept l p y d = rw (read-answer, textPrinted, ← (done .same-buffers)) d
+
+-- ---- the whole input
+
+pub run-done : (input : List ℕ) (r : Lined) → NumberTaken input 0 r → (v : ℕ) → v ≡ numberBy 0 (r .line) → (to : ℕ) → to ≡ r .at + min (length input - r .at) mostKept
+    → (l x : List ℕ) (p : Printed) → Done (textPrinted v (take (to - r .at) (drop (r .at) input))) l p x → Done (outcome input) l p x
+unfolding outcome
+run-done input r t v w to e l x p d =
+    let q : v ≡ variablesOf (firstLine input) = w ∙ (ap (numberBy 0) (t .line) ∙ line-value 0 (firstLine input)) in
+    subst (λ (o : Outcome). Done o l p x)
+    (ap (λ (y : ℕ). textPrinted y (take (to - r .at) (drop (r .at) input))) q
+    ∙ ap (textPrinted (variablesOf (firstLine input))) (kept-text input (textAfter input) (r .at) to (t .rest) e)) d

@@ -1,7 +1,3 @@
 -- Laws that the proofs of functions cite.
-pub mod Fills
-pub mod Lines
-pub mod Printing
-pub mod Reports
+pub mod Scans
 pub mod Runs
-pub mod Tables

@@ -1,20 +1,38 @@
-// Runs the output of ladder-list over whole inputs, and prints each after the line that names it; the stored output was made from document 01 by a script, not by this program.
+// Runs the output of ladder-list over whole inputs, and prints each after the line that names it, and what is wrong after a refusal; the
+// stored output was made from document 01 and the README by a script, not by this program.
+use program_definitions::Printed;
+use questions::Refusal;
 use test_requests::cases;
 use test_requests::cases::Case;
 use test_requests::input::Input;
 use test_requests::output;
 
-// The next case: prints its name line, and what ladder-list prints for its input.
+fn print_errors(refusal: Refusal) {
+    let mut lines = [0u8; 600];
+    let n = program_refusals::put_errors(&mut lines, b"ladder-list", false, refusal);
+    output::write(&lines, n);
+}
+
+// What ladder-list prints for an input, and what is wrong with it.
+fn print_case(bytes: &[u8]) {
+    let mut out = [0u8; 66000];
+    let printed = program_list_output::run(bytes, &mut out);
+    let placed = program_refusals::finish(printed, &mut out);
+    output::write(&out, placed);
+    if let Printed::Refused(refusal) = printed {
+        print_errors(refusal);
+    }
+}
+
+// The next case: prints its name line, and what comes of its input.
 fn run_case(chunk: &mut [u8], from: Input) -> Case {
     let mut name = [0u8; 80];
     let mut bytes = [0u8; 70002];
-    let mut out = [0u8; 66000];
     let case = cases::read_case(chunk, from, &mut name, &mut bytes);
     let n = case.bytes;
     if 0 < case.name {
-        let placed = program_list_output::run(&bytes[..n], &mut out);
         output::write(&name, case.name);
-        output::write(&out, placed);
+        print_case(&bytes[..n]);
     }
     case
 }

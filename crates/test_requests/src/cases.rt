@@ -6,6 +6,7 @@ use crate::input::Counted;
 use crate::input::Input;
 use program_chunks::END;
 use program_chunks::LF;
+use program_chunks::Reading;
 
 // The input after a case, how many bytes its name line has (0 where there is no case), and how many its own input.
 pub struct Case {
@@ -14,10 +15,10 @@ pub struct Case {
     pub bytes: usize,
 }
 
-fn at_byte(at: usize, end: usize) -> Input {
+fn at_byte(reading: Reading) -> Input {
     Input {
-        at,
-        end,
+        at: reading.at,
+        end: reading.end,
         value: 0,
         stop: input::LINE,
     }
@@ -28,17 +29,15 @@ fn take_bytes(chunk: &mut [u8], from: Input, room: &mut [u8], most: usize, last:
     requires { ⌜ most ≤ length (now room) ⌝ }
     ensures { λ r. ⌜ r .count ≤ most ⌝ }
 {
-    let mut at = from.at;
-    let mut end = from.end;
+    let mut reading = input::reading_of(from);
     let mut count: usize = 0;
     while count < most {
-        let taken = program_chunks::next_byte(chunk, at, end);
-        at = taken.at;
-        end = taken.end;
+        let taken = program_chunks::next_byte(chunk, reading);
+        reading = taken.reading;
         let byte = taken.byte;
         if 255 < byte {
             return Counted {
-                input: at_byte(at, end),
+                input: at_byte(reading),
                 count,
             };
         }
@@ -46,13 +45,13 @@ fn take_bytes(chunk: &mut [u8], from: Input, room: &mut [u8], most: usize, last:
         count += 1;
         if byte == last {
             return Counted {
-                input: at_byte(at, end),
+                input: at_byte(reading),
                 count,
             };
         }
     }
     Counted {
-        input: at_byte(at, end),
+        input: at_byte(reading),
         count,
     }
 }
@@ -83,9 +82,9 @@ pub fn read_case(chunk: &mut [u8], from: Input, name: &mut [u8], bytes: &mut [u8
     let named = take_bytes(chunk, from, name, name.len(), LF);
     let filled = take_counted(chunk, named.input, bytes);
     let rest = filled.input;
-    let after = program_chunks::next_byte(chunk, rest.at, rest.end);
+    let after = program_chunks::next_byte(chunk, input::reading_of(rest));
     Case {
-        input: at_byte(after.at, after.end),
+        input: at_byte(after.reading),
         name: named.count,
         bytes: filled.count,
     }

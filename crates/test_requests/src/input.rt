@@ -1,8 +1,10 @@
 // Reads numbers, one space apart. The chunk holds what was read from standard input and not yet taken.
 ghost use Prim.Native.Nat.{_≤_};
 use program_chunks::END;
+use program_chunks::Reading;
 
-// What ended a number: one of these bytes, the input's end, or nothing good. NONE is the input's end where no number began.
+// What ended a number: one of these bytes, the input's end, or nothing good, such as a read that failed. NONE is the input's end where no
+// number began.
 pub const LINE: u32 = 10;
 
 const SPACE: u32 = 32;
@@ -78,22 +80,31 @@ pub fn failed() -> Input
     }
 }
 
+// The reading that goes on where a number ended.
+pub fn reading_of(input: Input) -> Reading {
+    Reading {
+        at: input.at,
+        end: input.end,
+        over: 0,
+        last: 0,
+        crlf: false,
+    }
+}
+
 // The number that begins here, and what ends it.
 pub fn number(chunk: &mut [u8], from: Input) -> Input {
-    let mut at = from.at;
-    let mut end = from.end;
+    let mut reading = reading_of(from);
     let mut value: u32 = 0;
     let mut digits: u32 = 0;
     while digits < 4000000000 {
-        let taken = program_chunks::next_byte(chunk, at, end);
-        at = taken.at;
-        end = taken.end;
+        let taken = program_chunks::next_byte(chunk, reading);
+        reading = taken.reading;
         let digit = digit_of(taken.byte);
         if 9 < digit {
             let stop = stop_of(taken.byte, digits);
             return Input {
-                at,
-                end,
+                at: reading.at,
+                end: reading.end,
                 value,
                 stop,
             };

@@ -210,7 +210,8 @@ pub fn rung_code(
     code: &mut [u32],
     put: usize,
 ) -> Positions
-    requires { ⌜ (vars ≤ mostVariables) × (length (now words) ≤ mostWords) × (put + codeBound (length (now words) - at) < 2 ^ 31) ⌝ }
+    requires { ⌜ (vars ≤ mostVariables) × (length (now words) ≤ mostWords)
+        × (put + codeBound (length (now words) - at) < 2 ^ 31) ⌝ }
     ensures { λ r. ⌜ RungPut vars (now (words .entry)) at (now (labels .entry)) (now (starts .entry)) put r
         (now (code .entry)) (now (code .exit)) ⌝ }
 {

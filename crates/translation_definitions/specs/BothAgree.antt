@@ -24,7 +24,7 @@ pub record BothGiven (vars : ℕ) (kept : Kept) (table : List ℕ) (lent : Lent)
   pub list-copy : length (lent .listTable) ≡ length table
 
 -- No scan was refused, and the list is Translate's.
-pub record BothTold (vars : ℕ) (kept : Kept) (lent : Buffers) (n : ℕ) (answer : BothAnswer) (after : Lent) : Type 0 where
+pub record BothRan (vars : ℕ) (kept : Kept) (lent : Buffers) (n : ℕ) (answer : BothAnswer) (after : Lent) : Type 0 where
   pub ends : BothEnds
   pub answered : answer ≡ both ends
   -- "In demand 3 a ladder's list is what Translate writes for it, records included.", with its counts
@@ -34,16 +34,16 @@ pub record BothTold (vars : ℕ) (kept : Kept) (lent : Buffers) (n : ℕ) (answe
 
 -- Demand 3 under any legal instruction watchdog w: its two halves.
 pub record BothAgree (vars : ℕ) (kept : Kept) (lent : Buffers) (n w : ℕ) (answer : BothAnswer) (after : Lent) : Type 0 where
-  pub told : BothTold vars kept lent n answer after
-  pub alike : ScansAlike 2 (told .ends .counts .longest) n w (ladderScanned (told .ends .ladderHalt) (told .ends .ladder)) (stateOf vars (after .ladderTable))
-      (listScanned (told .ends .listHalt) (told .ends .list)) (stateOf vars (after .listTable))
+  pub ran : BothRan vars kept lent n answer after
+  pub alike : ScansAlike 2 (ran .ends .counts .longest) n w (ladderScanned (ran .ends .ladderHalt) (ran .ends .ladder)) (stateOf vars (after .ladderTable))
+      (listScanned (ran .ends .listHalt) (ran .ends .list)) (stateOf vars (after .listTable))
 
 -- Demand 3 under its own instruction watchdog, k × L or 2 × n: the two scans end alike, or both are stopped.
 pub record PairedAgree (vars : ℕ) (kept : Kept) (lent : Buffers) (n : ℕ) (answer : BothAnswer) (after : Lent) : Type 0 where
-  pub told : BothTold vars kept lent n answer after
-  pub ended : told .ends .ladderHalt ≡ Ended → EndedAlike 2 (told .ends .counts .longest) (told .ends .ladder .rungs) (stateOf vars (after .ladderTable))
-      (listScanned (told .ends .listHalt) (told .ends .list)) (stateOf vars (after .listTable))
-  pub stopped : told .ends .ladderHalt ≡ Stopped → StoppedAlike (listScanned (told .ends .listHalt) (told .ends .list))
+  pub ran : BothRan vars kept lent n answer after
+  pub ended : ran .ends .ladderHalt ≡ Ended → EndedAlike 2 (ran .ends .counts .longest) (ran .ends .ladder .rungs) (stateOf vars (after .ladderTable))
+      (listScanned (ran .ends .listHalt) (ran .ends .list)) (stateOf vars (after .listTable))
+  pub stopped : ran .ends .ladderHalt ≡ Stopped → StoppedAlike (listScanned (ran .ends .listHalt) (ran .ends .list))
 
 -- what both_scans promises besides: where the hypotheses hold and w is legal, demand 3
 abbrev pub BothPromise : ℕ → Kept → List ℕ → Lent → ℕ → ℕ → BothAnswer → Lent → Type 0

@@ -98,6 +98,14 @@ decimal-most n h =
     (longer 10 10000000000 (omega arith) (longer 9 1000000000 (omega arith) (longer 8 100000000 (omega arith) (longer 7 10000000 (omega arith)
     (longer 6 1000000 (omega arith) (longer 5 100000 (omega arith) five-digits)))))))))))))) n (omega arith)
 
+-- how far a text and a number reach
+module _ {l : List ℕ} {i : ℕ} {r : ℕ} {x : List ℕ} where
+  pub text-reach : {t : List ℕ} (k most : ℕ) → Put l i t r x → length t ≤ k → i ≤ most → r ≤ most + k
+  text-reach k most p h g = omega (arith, p .end)
+
+  pub number-reach : (v most : ℕ) → Put l i (decimal v) r x → v < 2 ^ 64 → i ≤ most → r ≤ most + 20
+  number-reach v most p h g = omega (arith, p .end, decimal-most v h)
+
 -- a number's last digit, after the digits before it
 module _ {l : List ℕ} {i n r : ℕ} {y : List ℕ} {m : ℕ} {x : List ℕ} (last : Put x m ((n % 10 + 48) ∷ []) r y) where
   pub number-one : n < 10 → m ≡ i → x ≡ l → Put l i (decimal n) r y

@@ -45,8 +45,8 @@ module _ (vars : ℕ) (k : Kept) (table : List ℕ) (n : ℕ) (e : BothEnds) (q 
   agree : PairedAgree vars k (lentFor table .buffers) n (pairedScans vars k table (lentFor table) n .answer) (pairedScans vars k table (lentFor table) n .lent)
   agree = paired-agree vars k table (lentFor table) n (both-given vars k table (lentFor table) n _ e q)
 
-  told : agree .told .ends ≡ e
-  told = let z : both (agree .told .ends) ≡ both e = sym (agree .told .answered) ∙ q in cc
+  same-ends : agree .ran .ends ≡ e
+  same-ends = let z : both (agree .ran .ends) ≡ both e = sym (agree .ran .answered) ∙ q in cc
 
   abbrev l : List ℕ
   l = take vars (pairedScans vars k table (lentFor table) n .lent .ladderTable)
@@ -60,15 +60,15 @@ module _ (vars : ℕ) (k : Kept) (table : List ℕ) (n : ℕ) (e : BothEnds) (q 
     where
       go : (h : Halt) → e .ladderHalt ≡ h → Verdicts e l t
       go Ended p =
-          let x = agree .ended (ap (λ (d : BothEnds). d .ladderHalt) told ∙ p) in
+          let x = agree .ended (ap (λ (d : BothEnds). d .ladderHalt) same-ends ∙ p) in
           let y = same-scan (x .ended) in
-          let halt : e .listHalt ≡ Ended = sym (ap (λ (d : BothEnds). d .listHalt) told) ∙ y .0 in
+          let halt : e .listHalt ≡ Ended = sym (ap (λ (d : BothEnds). d .listHalt) same-ends) ∙ y .0 in
           let rungs : e .list .rungs ≡ e .ladder .rungs =
-          sym (ap (λ (d : BothEnds). d .list .rungs) told) ∙ ap (λ (c : ListCounts). c .rungs) (y .1) ∙ x .rungs ∙ ap (λ (d : BothEnds). d .ladder .rungs) told in
+          sym (ap (λ (d : BothEnds). d .list .rungs) same-ends) ∙ ap (λ (c : ListCounts). c .rungs) (y .1) ∙ x .rungs ∙ ap (λ (d : BothEnds). d .ladder .rungs) same-ends in
           bothEnded p halt (rw (p, halt, eq-eqb (e .ladder .rungs) (e .list .rungs) (sym rungs), x .same .same-variables, same-self t) refl)
       go Stopped p =
-          let x = agree .stopped (ap (λ (d : BothEnds). d .ladderHalt) told ∙ p) in
-          let halt : e .listHalt ≡ Stopped = sym (ap (λ (d : BothEnds). d .listHalt) told) ∙ same-scan (x .stopped) .0 in
+          let x = agree .stopped (ap (λ (d : BothEnds). d .ladderHalt) same-ends ∙ p) in
+          let halt : e .listHalt ≡ Stopped = sym (ap (λ (d : BothEnds). d .listHalt) same-ends) ∙ same-scan (x .stopped) .0 in
           stoppedBoth p halt (rw (p, halt) refl)
 
 -- ---- lines end in LF

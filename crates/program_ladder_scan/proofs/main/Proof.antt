@@ -1,14 +1,17 @@
--- `ladder_scan::main` meets its contract. No more of the table, the text and the room is lent or written than they hold. Assumes nothing.
+-- `program_ladder_scan::main` is safe and ends: no more of the table and of the text is lent than they hold. Assumes nothing.
 use mathlib.Core.Path.{sym}
 use native.Mathlib.Omega.{arith}
 use lib.Seq.{length-take-le}
+use Rattle.program_scan_lines.proofs.Lines.{bytes-room}
 use borrow.Author.Needs.{needs}
-use Rattle.program_scan_output.proofs.Runs.{bytes-room}
 use Rattle.program_ladder_scan.proofs.main.Statement.{statement}
 use Rattle.program_ladder_scan.proofs.main.Tie as tie
 
 slice-aggregate-number-line : tie.Need-slice-aggregate-number-line
 slice-aggregate-number-line c = search needs
+
+begin-requires : tie.Need-begin-requires
+begin-requires c κs = search needs
 
 number-line-requires : tie.Need-number-line-requires
 number-line-requires c κs = search needs
@@ -21,9 +24,6 @@ slice-aggregate-number-line-2 c = search needs
 
 number-line-requires-2 : tie.Need-number-line-requires-2
 number-line-requires-2 c κs = search needs
-
-watchdog-requires : tie.Need-watchdog-requires
-watchdog-requires c κs = search needs
 
 slice-aggregate-variables-line : tie.Need-slice-aggregate-variables-line
 slice-aggregate-variables-line c = search needs
@@ -46,39 +46,39 @@ slice-aggregate-keep-text-2 c = search needs
 keep-text-requires : tie.Need-keep-text-requires
 keep-text-requires c κs = search needs
 
-array-share-prefix-table : tie.Need-array-share-prefix-table
-array-share-prefix-table c =
-    let bytes = c .before .before .before .before .before in
-    omega (arith, bytes-room _ _ _ (bytes .table-bytes .ensures), bytes .before .before .table2 .given)
-
-slice-aggregate-report : tie.Need-slice-aggregate-report
-slice-aggregate-report c =
-    let bytes = c .before .before .before .before .before .before in
-    sym (length-take-le _ _ (omega (arith, bytes-room _ _ _ (bytes .table-bytes .ensures), bytes .before .before .table2 .given)))
-
-array-share-prefix-text : tie.Need-array-share-prefix-text
-array-share-prefix-text c = search needs
-
-slice-aggregate-report-2 : tie.Need-slice-aggregate-report-2
-slice-aggregate-report-2 c = sym (length-take-le _ _ (search needs))
-
-slice-aggregate-report-3 : tie.Need-slice-aggregate-report-3
-slice-aggregate-report-3 c = search needs
-
-report-requires : tie.Need-report-requires
-report-requires c κs = search needs
-
-array-share-prefix-out : tie.Need-array-share-prefix-out
-array-share-prefix-out c = search needs
+failed-requires : tie.Need-failed-requires
+failed-requires c κs = search needs
 
 slice-aggregate-write-all : tie.Need-slice-aggregate-write-all
-slice-aggregate-write-all c = sym (length-take-le _ _ (search needs))
+slice-aggregate-write-all c = search needs
 
 write-all-requires : tie.Need-write-all-requires
 write-all-requires c κs = search needs
 
 returns : tie.Need-returns
 returns c = search needs
+
+watchdog-requires : tie.Need-watchdog-requires
+watchdog-requires c κs = search needs
+
+array-share-prefix-table : tie.Need-array-share-prefix-table
+array-share-prefix-table c =
+    let b = c .before .before .before .before .before .before .before .before .before in
+    omega (arith, bytes-room _ _ _ (b .table-bytes .ensures), b .before .table2 .given)
+
+slice-aggregate-print : tie.Need-slice-aggregate-print
+slice-aggregate-print c =
+    let b = c .before .before .before .before .before .before .before .before .before .before in
+    sym (length-take-le _ _ (omega (arith, bytes-room _ _ _ (b .table-bytes .ensures), b .before .table2 .given)))
+
+array-share-prefix-text : tie.Need-array-share-prefix-text
+array-share-prefix-text c = search needs
+
+slice-aggregate-print-2 : tie.Need-slice-aggregate-print-2
+slice-aggregate-print-2 c = sym (length-take-le _ _ (search needs))
+
+print-requires : tie.Need-print-requires
+print-requires c κs = search needs
 
 returns-2 : tie.Need-returns-2
 returns-2 c = search needs
@@ -88,11 +88,11 @@ main-spec =
     tie.close
     (tie.spec
     slice-aggregate-number-line
+    begin-requires
     number-line-requires
     variables-requires
     slice-aggregate-number-line-2
     number-line-requires-2
-    watchdog-requires
     slice-aggregate-variables-line
     slice-aggregate-variables-line-2
     variables-line-requires
@@ -100,14 +100,14 @@ main-spec =
     slice-aggregate-keep-text
     slice-aggregate-keep-text-2
     keep-text-requires
-    array-share-prefix-table
-    slice-aggregate-report
-    array-share-prefix-text
-    slice-aggregate-report-2
-    slice-aggregate-report-3
-    report-requires
-    array-share-prefix-out
+    failed-requires
     slice-aggregate-write-all
     write-all-requires
     returns
+    watchdog-requires
+    array-share-prefix-table
+    slice-aggregate-print
+    array-share-prefix-text
+    slice-aggregate-print-2
+    print-requires
     returns-2)

@@ -1,4 +1,4 @@
--- `ladder_scan::variables_line` meets its contract. The loop counts down and keeps the lengths. Assumes nothing.
+-- `program_ladder_scan::variables_line` is safe and ends. The loop counts down and keeps the lengths. Assumes nothing.
 use mathlib.Core.Path.{_≡_, refl}
 use Prim.Native.Nat.{_≤_}
 use lib.ListN.{length}
@@ -8,10 +8,11 @@ use Rattle.program_ladder_scan.proofs.variables_line.Statement.{stateme
 use Rattle.program_ladder_scan.proofs.variables_line.Tie as tie
 
 abbrev Inv-loop : tie.InvT-loop
-Inv-loop chunk₀ from to vars table₀ variables₀ at₀ end₀ left₀ chunk table variables at end left = (left ≤ 18446744073709551615) × (length chunk ≡ length chunk₀) × (length table ≡ length table₀)
+Inv-loop chunk₀ vars table₀ variables₀ reading₀ left₀ chunk table variables reading left =
+    (left ≤ 18446744073709551615) × (length chunk ≡ length chunk₀) × (length table ≡ length table₀)
 
 abbrev μ-loop : tie.MeasureT-loop
-μ-loop chunk₀ from to vars table₀ variables₀ at₀ end₀ left₀ chunk table variables at end left = left
+μ-loop chunk₀ vars table₀ variables₀ reading₀ left₀ chunk table variables reading left = left
 
 no-variables-requires : tie.Need-no-variables-requires Inv-loop μ-loop
 no-variables-requires c κs = search needs

@@ -1,4 +1,4 @@
--- `lines::number_line` meets its contract. The loop counts down and keeps the length. Assumes nothing.
+-- `program_lines::number_line` is safe and ends. The loop counts down and keeps the length. Assumes nothing.
 use mathlib.Core.Path.{_≡_, refl}
 use Prim.Native.Nat.{_≤_}
 use lib.ListN.{length}
@@ -8,10 +8,10 @@ use Rattle.program_lines.proofs.number_line.Statement.{statement}
 use Rattle.program_lines.proofs.number_line.Tie as tie
 
 abbrev Inv-loop : tie.InvT-loop
-Inv-loop chunk₀ from to line₀ at₀ end₀ left₀ chunk line at end left = (left ≤ 18446744073709551615) × (length chunk ≡ length chunk₀)
+Inv-loop chunk₀ line₀ reading₀ left₀ chunk line reading left = (left ≤ 18446744073709551615) × (length chunk ≡ length chunk₀)
 
 abbrev μ-loop : tie.MeasureT-loop
-μ-loop chunk₀ from to line₀ at₀ end₀ left₀ chunk line at end left = left
+μ-loop chunk₀ line₀ reading₀ left₀ chunk line reading left = left
 
 begin-requires : tie.Need-begin-requires Inv-loop μ-loop
 begin-requires c κs = search needs

@@ -1,4 +1,4 @@
--- `printout::print` meets its contract: by Read's answer, the refusal's line, or what the kept ladder prints. Assumes nothing.
+-- `program_list_output::print` meets its contract: by Read's answer, the refusal, or what the kept ladder prints. Assumes nothing.
 use Prim.Native.Nat.{_≤_}
 use native.Mathlib.Omega.{arith}
 use mathlib.Core.Path.{sym}
@@ -30,9 +30,6 @@ read-requires c κs = search needs
 enum-known-refusal : tie.Need-enum-known-refusal
 enum-known-refusal c = search needs
 
-put-refusal-requires : tie.Need-put-refusal-requires
-put-refusal-requires c κs = search needs
-
 enum-known-counts : tie.Need-enum-known-counts
 enum-known-counts c = search needs
 
@@ -63,21 +60,16 @@ slice-aggregate-print-kept-4 c = sym (length-take-le _ _ (omega (arith, room (c 
 print-kept-requires : tie.Need-print-kept-requires
 print-kept-requires c κs = search needs
 
+returns : tie.Need-returns
+returns c = read-refused _ _ (c .before .before .before .before .before .before .before .read .ensures) _ (c .before .refusal .given .1) _
+
 same-length : tie.Need-same-length
 same-length c = search needs
-
-returns : tie.Need-returns
-returns c =
-    read-refused _ _ (c .before .before .before .before .before .before .before .before .before .before .before .read .ensures) _
-    (c .before .before .before .before .before .refusal .given .1) (c .before .before .put-refusal .ensures)
-
-same-length-2 : tie.Need-same-length-2
-same-length-2 c = search needs
 
 returns-2 : tie.Need-returns-2
 returns-2 c =
     read-kept _ _ (c .before .before .before .before .before .before .before .before .before .before .before .before .before .before .before .read .ensures) _
-    (c .before .before .before .before .before .before .before .before .before .counts .given .1) (c .before .before .print-kept .ensures)
+    (c .before .before .before .before .before .before .before .before .before .counts .given .1) _ _ _ (c .before .before .print-kept .ensures)
 
 pub print-spec : {M : Type 1} → statement M
 print-spec =
@@ -89,7 +81,6 @@ print-spec =
     slice-aggregate-read-4
     read-requires
     enum-known-refusal
-    put-refusal-requires
     enum-known-counts
     array-share-prefix-words
     slice-aggregate-print-kept
@@ -100,7 +91,6 @@ print-spec =
     array-share-prefix-lengths
     slice-aggregate-print-kept-4
     print-kept-requires
-    same-length
     returns
-    same-length-2
+    same-length
     returns-2)

@@ -1,4 +1,4 @@
--- `printout::print_kept` meets its contract: by Translate's answer, the refusal's line, or what the list prints. Assumes nothing.
+-- `program_list_output::print_kept` meets its contract: by Translate's answer, the refusal, or what the list prints. Assumes nothing.
 use Prim.Native.Nat.{_≤_}
 use native.Mathlib.Omega.{arith}
 use mathlib.Core.Path.{sym}
@@ -30,9 +30,6 @@ translate-requires c κs = search needs
 enum-known-refusal : tie.Need-enum-known-refusal
 enum-known-refusal c = search needs
 
-put-refusal-requires : tie.Need-put-refusal-requires
-put-refusal-requires c κs = search needs
-
 enum-known-counts : tie.Need-enum-known-counts
 enum-known-counts c = search needs
 
@@ -63,21 +60,16 @@ slice-aggregate-print-list-4 c = sym (length-take-le _ _ (omega (arith, room (c 
 print-list-requires : tie.Need-print-list-requires
 print-list-requires c κs = search needs
 
+returns : tie.Need-returns
+returns c = kept-refused _ _ (c .before .before .before .before .before .before .before .translate .ensures) _ (c .before .refusal .given .1) _
+
 same-length : tie.Need-same-length
 same-length c = search needs
-
-returns : tie.Need-returns
-returns c =
-    kept-refused _ _ (c .before .before .before .before .before .before .before .before .before .before .before .translate .ensures) _
-    (c .before .before .before .before .before .refusal .given .1) (c .before .before .put-refusal .ensures)
-
-same-length-2 : tie.Need-same-length-2
-same-length-2 c = search needs
 
 returns-2 : tie.Need-returns-2
 returns-2 c =
     kept-listed _ _ (c .before .before .before .before .before .before .before .before .before .before .before .before .before .before .before .translate .ensures) _
-    (c .before .before .before .before .before .before .before .before .before .counts .given .1) (c .before .before .print-list .ensures)
+    (c .before .before .before .before .before .before .before .before .before .counts .given .1) _ _ _ (c .before .before .print-list .ensures)
 
 pub print-kept-spec : {M : Type 1} → statement M
 print-kept-spec =
@@ -89,7 +81,6 @@ print-kept-spec =
     slice-aggregate-translate-4
     translate-requires
     enum-known-refusal
-    put-refusal-requires
     enum-known-counts
     array-share-prefix-code
     slice-aggregate-print-list
@@ -100,7 +91,6 @@ print-kept-spec =
     array-share-prefix-code-lengths
     slice-aggregate-print-list-4
     print-list-requires
-    same-length
     returns
-    same-length-2
+    same-length
     returns-2)

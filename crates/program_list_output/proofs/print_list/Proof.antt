@@ -1,4 +1,4 @@
--- `printout::print_list` meets its contract: by Listing's answer, the refusal's line, or the listing and the count line. Assumes nothing.
+-- `program_list_output::print_list` meets its contract: by Listing's answer, the refusal, or the listing and the count line. Assumes nothing.
 use Prim.Native.Nat.{_≤_}
 use native.Mathlib.Omega.{arith}
 use mathlib.Core.Path.{sym}
@@ -25,9 +25,6 @@ listing-requires c κs = search needs
 enum-known-refusal : tie.Need-enum-known-refusal
 enum-known-refusal c = search needs
 
-put-refusal-requires : tie.Need-put-refusal-requires
-put-refusal-requires c κs = search needs
-
 enum-known-n : tie.Need-enum-known-n
 enum-known-n c = search needs
 
@@ -43,14 +40,11 @@ put-text-requires c κs = let h = reach (c .before .before .before) in (omega ar
 put-counts-requires : tie.Need-put-counts-requires
 put-counts-requires c κs = omega (arith, reach (c .before .before .before .before .before .before .before), c .before .before .before .put-text .ensures .end)
 
+returns : tie.Need-returns
+returns c = list-refused _ _ _ (c .before .before .before .before .listing2 .ensures) _ (c .before .refusal .given .1) _ _
+
 same-length : tie.Need-same-length
 same-length c = search needs
-
-returns : tie.Need-returns
-returns c = list-refused _ _ _ (c .before .before .before .before .before .before .before .before .listing2 .ensures) _ (c .before .before .before .before .before .refusal .given .1) _ (c .before .before .put-refusal .ensures)
-
-same-length-2 : tie.Need-same-length-2
-same-length-2 c = search needs
 
 returns-2 : tie.Need-returns-2
 returns-2 c =
@@ -65,13 +59,11 @@ print-list-spec =
     slice-aggregate-listing
     listing-requires
     enum-known-refusal
-    put-refusal-requires
     enum-known-n
     array-share-prefix-listing
     slice-aggregate-put-text
     put-text-requires
     put-counts-requires
-    same-length
     returns
-    same-length-2
+    same-length
     returns-2)

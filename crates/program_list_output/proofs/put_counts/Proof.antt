@@ -1,8 +1,9 @@
--- `printout::put_counts` meets its contract: the parts of the line, one after the other. Assumes nothing.
+-- `program_list_output::put_counts` meets its contract: the parts of the line, one after the other. Assumes nothing.
 use Prim.Native.Nat.{_≤_}
 use native.Mathlib.Omega.{arith}
 use Rattle.questions.specs.Bytes.{bytes}
-use Rattle.program_list_output.proofs.Refusals.{text-reach, number-reach, counts-put}
+use Rattle.printing.specs.Laws.Puts.{text-reach, number-reach}
+use Rattle.program_list_output.proofs.Counts.{counts-put}
 use borrow.Author.Needs.{needs}
 use Rattle.program_list_output.proofs.put_counts.Statement.{statement}
 use Rattle.program_list_output.proofs.put_counts.Tie as tie

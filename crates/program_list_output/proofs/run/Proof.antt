@@ -1,6 +1,6 @@
--- `printout::run` meets its contract: the first line, the kept text, and what `print` puts. Assumes nothing.
+-- `program_list_output::run` meets its contract: the first line, the kept text, and what `print` comes to. Assumes nothing.
 use native.Mathlib.Omega.{arith}
-use Rattle.program_list_output.proofs.Begins.{run-puts}
+use Rattle.program_list_output.proofs.Prints.{run-done}
 use borrow.Author.Needs.{needs}
 use Rattle.program_list_output.proofs.run.Statement.{statement}
 use Rattle.program_list_output.proofs.run.Tie as tie
@@ -32,7 +32,7 @@ same-length c = search needs
 returns : tie.Need-returns
 returns c =
     let u = c .before .before .before .before .before in
-    run-puts _ _ (u .before .before .take-number .ensures) _ (u .variables .ensures) _ (u .before .kept-end .ensures) _ _ _ (c .before .before .print .ensures)
+    run-done _ _ (u .before .before .take-number .ensures) _ (u .variables .ensures) _ (u .before .kept-end .ensures) _ _ _ (c .before .before .print .ensures)
 
 pub run-spec : {M : Type 1} → statement M
 run-spec =

@@ -1,10 +1,10 @@
--- `scanout::report` meets its contract: by Read's answer, the refusal's text, or what the kept ladder reports. Assumes nothing.
+-- `program_scan_output::report` meets its contract: by Read's answer, the refusal, or what the kept ladder comes to. Assumes nothing.
 use Prim.Native.Nat.{_≤_}
 use native.Mathlib.Omega.{arith}
 use mathlib.Core.Path.{sym}
 use lib.Seq.{length-take-le}
-use Rattle.program_list_output.proofs.Prints.{read-room}
-use Rattle.program_scan_output.proofs.Reports.{read-refused, read-kept}
+use Rattle.program_definitions.specs.Laws.Outcomes.{refusal-done, same-done}
+use Rattle.program_scan_output.proofs.Scans.{read-room, read-refused, read-kept}
 use borrow.Author.Needs.{needs}
 use Rattle.program_scan_output.proofs.report.Statement.{statement}
 use Rattle.program_scan_output.proofs.report.Tie as tie
@@ -31,54 +31,65 @@ read-requires c κs = search needs
 enum-known-refusal : tie.Need-enum-known-refusal
 enum-known-refusal c = search needs
 
-put-refusal-requires : tie.Need-put-refusal-requires
-put-refusal-requires c κs = search needs
-
 enum-known-counts : tie.Need-enum-known-counts
 enum-known-counts c = search needs
 
 array-share-prefix-words : tie.Need-array-share-prefix-words
-array-share-prefix-words c = omega (arith, room (c .before) .0, c .before .before .before .before .before .before .words2 .given)
+array-share-prefix-words c =
+    let b = c .before in
+    omega (arith, room b .0, b .before .before .before .before .before .words2 .given)
 
 slice-aggregate-report-kept : tie.Need-slice-aggregate-report-kept
-slice-aggregate-report-kept c = sym (length-take-le _ _ (omega (arith, room (c .before .before) .0, c .before .before .before .before .before .before .before .words2 .given)))
+slice-aggregate-report-kept c =
+    let b = c .before .before in
+    sym (length-take-le _ _ (omega (arith, room b .0, b .before .before .before .before .before .words2 .given)))
 
 array-share-prefix-labels : tie.Need-array-share-prefix-labels
-array-share-prefix-labels c = omega (arith, room (c .before .before) .1, c .before .before .before .before .before .before .labels2 .given)
+array-share-prefix-labels c =
+    let b = c .before .before in
+    omega (arith, room b .1, b .before .before .before .before .labels2 .given)
 
 slice-aggregate-report-kept-2 : tie.Need-slice-aggregate-report-kept-2
-slice-aggregate-report-kept-2 c = sym (length-take-le _ _ (omega (arith, room (c .before .before .before) .1, c .before .before .before .before .before .before .before .labels2 .given)))
+slice-aggregate-report-kept-2 c =
+    let b = c .before .before .before in
+    sym (length-take-le _ _ (omega (arith, room b .1, b .before .before .before .before .labels2 .given)))
 
 array-share-prefix-offsets : tie.Need-array-share-prefix-offsets
-array-share-prefix-offsets c = omega (arith, room (c .before .before .before) .1, c .before .before .before .before .before .before .offsets2 .given)
+array-share-prefix-offsets c =
+    let b = c .before .before .before in
+    omega (arith, room b .1, b .before .before .before .offsets2 .given)
 
 slice-aggregate-report-kept-3 : tie.Need-slice-aggregate-report-kept-3
-slice-aggregate-report-kept-3 c = sym (length-take-le _ _ (omega (arith, room (c .before .before .before .before) .1, c .before .before .before .before .before .before .before .offsets2 .given)))
+slice-aggregate-report-kept-3 c =
+    let b = c .before .before .before .before in
+    sym (length-take-le _ _ (omega (arith, room b .1, b .before .before .before .offsets2 .given)))
 
 array-share-prefix-lengths : tie.Need-array-share-prefix-lengths
-array-share-prefix-lengths c = omega (arith, room (c .before .before .before .before) .1, c .before .before .before .before .before .before .lengths2 .given)
+array-share-prefix-lengths c =
+    let b = c .before .before .before .before in
+    omega (arith, room b .1, b .before .before .lengths2 .given)
 
 slice-aggregate-report-kept-4 : tie.Need-slice-aggregate-report-kept-4
-slice-aggregate-report-kept-4 c = sym (length-take-le _ _ (omega (arith, room (c .before .before .before .before .before) .1, c .before .before .before .before .before .before .before .lengths2 .given)))
+slice-aggregate-report-kept-4 c =
+    let b = c .before .before .before .before .before in
+    sym (length-take-le _ _ (omega (arith, room b .1, b .before .before .lengths2 .given)))
 
 report-kept-requires : tie.Need-report-kept-requires
 report-kept-requires c κs = search needs
 
+returns : tie.Need-returns
+returns c =
+    let b = c .before in
+    refusal-done _ _ (read-refused _ _ (b .before .before .before .before .before .before .read .ensures) _ _ _ (b .refusal .given .1))
+
 same-length : tie.Need-same-length
 same-length c = search needs
 
-returns : tie.Need-returns
-returns c =
-    read-refused _ _ _ _ (c .before .before .before .before .before .before .before .before .before .before .before .read .ensures) _
-    (c .before .before .before .before .before .refusal .given .1) (c .before .before .put-refusal .ensures)
-
-same-length-2 : tie.Need-same-length-2
-same-length-2 c = search needs
-
 returns-2 : tie.Need-returns-2
 returns-2 c =
-    read-kept _ _ _ _ (c .before .before .before .before .before .before .before .before .before .before .before .before .before .before .before .read .ensures) _
-    (c .before .before .before .before .before .before .before .before .before .counts .given .1) (c .before .before .report-kept .ensures)
+    let b = c .before .before .before .before .before .before .before .before .before in
+    same-done _ _ _ (read-kept _ _ (b .before .before .before .before .before .before .read .ensures) _ _ _ (b .counts .given .1))
+    (c .before .before .report-kept .ensures)
 
 pub report-spec : {M : Type 1} → statement M
 report-spec =
@@ -90,7 +101,6 @@ report-spec =
     slice-aggregate-read-4
     read-requires
     enum-known-refusal
-    put-refusal-requires
     enum-known-counts
     array-share-prefix-words
     slice-aggregate-report-kept
@@ -101,7 +111,6 @@ report-spec =
     array-share-prefix-lengths
     slice-aggregate-report-kept-4
     report-kept-requires
-    same-length
     returns
-    same-length-2
+    same-length
     returns-2)

@@ -1,112 +1,144 @@
--- `scanout::report_kept` meets its contract: by Translate's answer, the refusal's text, or what both scans report. Assumes nothing.
-use Prim.Native.Nat.{_≤_}
+-- `program_scan_output::report_kept` meets its contract: by the answer of both scans on lent tables of zeros, the refusal or the report. Assumes nothing.
+use Prim.Native.Nat.{ℕ, _≤_, min}
 use native.Mathlib.Omega.{arith}
-use mathlib.Core.Path.{sym}
-use mathlib.Core.List.{[]}
+use mathlib.Core.Path.{_≡_, sym, _∙_}
+use mathlib.Core.List.{List, _++_}
+use lib.ListN.{length, take, drop}
 use lib.Seq.{length-take-le}
-use Rattle.program_list_output.proofs.Prints.{kept-room}
-use Rattle.program_scan_output.proofs.Reports.{kept-refused, kept-longest, kept-scans}
+use Rattle.program_definitions.specs.Laws.Outcomes.{text-done, refusal-done}
+use Rattle.program_scan_output.proofs.Scans.{zeros, zeros-long, back-room, back-same, scans-vars, scans-refused, scans-reported}
 use borrow.Author.Needs.{needs}
 use Rattle.program_scan_output.proofs.report_kept.Statement.{statement}
 use Rattle.program_scan_output.proofs.report_kept.Tie as tie
 
--- what was written has room
-room : (c : tie.After-counts) → (c .counts .given .0 .0 .instructions ≤ 16384) × (c .counts .given .0 .0 .rungs ≤ 256)
-room c = kept-room _ _ (c .before .before .before .before .before .before .translate .ensures) _ (c .counts .given .1)
+within : (c : tie.After-copy-bytes) → c .copy-bytes .result ≤ 1056
+within c = omega (arith, c .copy-bytes .ensures)
 
--- 65,535 × L is a legal watchdog
-short : (c : tie.After-counts) → c .counts .given .0 .0 .longest ≤ 256
-short c = kept-longest _ 0 [] _ (c .before .before .before .before .before .before .translate .ensures) _ (c .counts .given .1)
+-- the two lent tables, come back
+module _ (c : tie.After-list-table2) where
+  abbrev asked : tie.After-copy-bytes
+  asked = c .before .before .before .before .before .before .before .before .before
 
-slice-aggregate-translate : tie.Need-slice-aggregate-translate
-slice-aggregate-translate c = search needs
+  abbrev n : ℕ
+  n = asked .copy-bytes .result
 
-slice-aggregate-translate-2 : tie.Need-slice-aggregate-translate-2
-slice-aggregate-translate-2 c = search needs
+  fits : n ≤ length zeros
+  fits = omega (arith, within asked, zeros-long)
 
-slice-aggregate-translate-3 : tie.Need-slice-aggregate-translate-3
-slice-aggregate-translate-3 c = search needs
+  abbrev ladder : List ℕ
+  ladder = c .before .before .paired-scans .last .1 .1 .1 .1 .1 .1 .0
 
-slice-aggregate-translate-4 : tie.Need-slice-aggregate-translate-4
-slice-aggregate-translate-4 c = search needs
+  abbrev list : List ℕ
+  list = c .before .before .paired-scans .last .1 .1 .1 .1 .1 .1 .1 .0
 
-translate-requires : tie.Need-translate-requires
-translate-requires c κs = search needs
+  ladder-room : n ≤ length (ladder ++ drop n zeros)
+  ladder-room = back-room ladder zeros n (c .before .ladder-table2 .given) fits
+
+  list-room : n ≤ length (list ++ drop n zeros)
+  list-room = back-room list zeros n (c .list-table2 .given) fits
+
+  ladder-same : take n (ladder ++ drop n zeros) ≡ ladder
+  ladder-same = back-same ladder zeros n (c .before .ladder-table2 .given) fits
+
+  list-same : take n (list ++ drop n zeros) ≡ list
+  list-same = back-same list zeros n (c .list-table2 .given) fits
+
+  abbrev start : tie.Start
+  start = asked .before .before .before .before .before .before .before
+
+  lent-long : length (take n zeros) ≡ min (length (start .args .table .now)) 1056
+  lent-long = length-take-le n zeros fits ∙ asked .copy-bytes .ensures
+
+copy-bytes-requires : tie.Need-copy-bytes-requires
+copy-bytes-requires c κs = search needs
+
+array-borrow-prefix-ladder-table : tie.Need-array-borrow-prefix-ladder-table
+array-borrow-prefix-ladder-table c = search needs
+
+slice-aggregate-paired-scans : tie.Need-slice-aggregate-paired-scans
+slice-aggregate-paired-scans c = sym (length-take-le _ zeros (omega (arith, within (c .before), zeros-long)))
+
+array-borrow-prefix-list-table : tie.Need-array-borrow-prefix-list-table
+array-borrow-prefix-list-table c = search needs
+
+slice-aggregate-paired-scans-2 : tie.Need-slice-aggregate-paired-scans-2
+slice-aggregate-paired-scans-2 c = sym (length-take-le _ zeros (omega (arith, within (c .before .before), zeros-long)))
+
+slice-aggregate-paired-scans-3 : tie.Need-slice-aggregate-paired-scans-3
+slice-aggregate-paired-scans-3 c = search needs
+
+slice-aggregate-paired-scans-4 : tie.Need-slice-aggregate-paired-scans-4
+slice-aggregate-paired-scans-4 c = search needs
+
+slice-aggregate-paired-scans-5 : tie.Need-slice-aggregate-paired-scans-5
+slice-aggregate-paired-scans-5 c = search needs
+
+slice-aggregate-paired-scans-6 : tie.Need-slice-aggregate-paired-scans-6
+slice-aggregate-paired-scans-6 c = search needs
+
+paired-scans-requires : tie.Need-paired-scans-requires
+paired-scans-requires c κs = search needs
 
 enum-known-refusal : tie.Need-enum-known-refusal
 enum-known-refusal c = search needs
 
-put-refusal-requires : tie.Need-put-refusal-requires
-put-refusal-requires c κs = search needs
+enum-known-ends : tie.Need-enum-known-ends
+enum-known-ends c = search needs
 
-enum-known-counts : tie.Need-enum-known-counts
-enum-known-counts c = search needs
+array-share-prefix-ladder-table : tie.Need-array-share-prefix-ladder-table
+array-share-prefix-ladder-table c = ladder-room (c .before .before .before .before .before .before .before .before)
 
-array-share-prefix-code : tie.Need-array-share-prefix-code
-array-share-prefix-code c = omega (arith, room (c .before) .0, c .before .before .before .before .before .before .code2 .given)
+slice-aggregate-put-report : tie.Need-slice-aggregate-put-report
+slice-aggregate-put-report c = sym (length-take-le _ _ (ladder-room (c .before .before .before .before .before .before .before .before .before)))
 
-slice-aggregate-report-scans : tie.Need-slice-aggregate-report-scans
-slice-aggregate-report-scans c = sym (length-take-le _ _ (omega (arith, room (c .before .before) .0, c .before .before .before .before .before .before .before .code2 .given)))
+array-share-prefix-list-table : tie.Need-array-share-prefix-list-table
+array-share-prefix-list-table c = list-room (c .before .before .before .before .before .before .before .before .before)
 
-array-share-prefix-code-labels : tie.Need-array-share-prefix-code-labels
-array-share-prefix-code-labels c = omega (arith, room (c .before .before) .1, c .before .before .before .before .before .before .code-labels2 .given)
+slice-aggregate-put-report-2 : tie.Need-slice-aggregate-put-report-2
+slice-aggregate-put-report-2 c = sym (length-take-le _ _ (list-room (c .before .before .before .before .before .before .before .before .before .before)))
 
-slice-aggregate-report-scans-2 : tie.Need-slice-aggregate-report-scans-2
-slice-aggregate-report-scans-2 c = sym (length-take-le _ _ (omega (arith, room (c .before .before .before) .1, c .before .before .before .before .before .before .before .code-labels2 .given)))
+put-report-requires : tie.Need-put-report-requires
+put-report-requires c κs =
+    let b = c .before .before .before .before .before .before .before .before .before .before in
+    scans-vars _ _ _ _ _ _ (lent-long b) (lent-long b) (b .before .before .paired-scans .ensures .0) _ (c .before .before .before .before .ends .given .1)
 
-array-share-prefix-code-offsets : tie.Need-array-share-prefix-code-offsets
-array-share-prefix-code-offsets c = omega (arith, room (c .before .before .before) .1, c .before .before .before .before .before .before .code-offsets2 .given)
-
-slice-aggregate-report-scans-3 : tie.Need-slice-aggregate-report-scans-3
-slice-aggregate-report-scans-3 c = sym (length-take-le _ _ (omega (arith, room (c .before .before .before .before) .1, c .before .before .before .before .before .before .before .code-offsets2 .given)))
-
-array-share-prefix-code-lengths : tie.Need-array-share-prefix-code-lengths
-array-share-prefix-code-lengths c = omega (arith, room (c .before .before .before .before) .1, c .before .before .before .before .before .before .code-lengths2 .given)
-
-slice-aggregate-report-scans-4 : tie.Need-slice-aggregate-report-scans-4
-slice-aggregate-report-scans-4 c = sym (length-take-le _ _ (omega (arith, room (c .before .before .before .before .before) .1, c .before .before .before .before .before .before .before .code-lengths2 .given)))
-
-report-scans-requires : tie.Need-report-scans-requires
-report-scans-requires c κs = short (c .before .before .before .before .before .before)
+returns : tie.Need-returns
+returns c =
+    let b = c .before .before .before .before .before .before .before in
+    refusal-done _ _ (scans-refused _ _ _ _ _ _ (lent-long b) (lent-long b) (b .before .before .paired-scans .ensures .0) _ (c .before .refusal .given .1))
 
 same-length : tie.Need-same-length
 same-length c = search needs
 
-returns : tie.Need-returns
-returns c =
-    kept-refused _ _ _ _ (c .before .before .before .before .before .before .before .before .before .before .before .translate .ensures) _
-    (c .before .before .before .before .before .refusal .given .1) (c .before .before .put-refusal .ensures)
-
-same-length-2 : tie.Need-same-length-2
-same-length-2 c = search needs
-
 returns-2 : tie.Need-returns-2
 returns-2 c =
-    kept-scans _ _ _ _ (c .before .before .before .before .before .before .before .before .before .before .before .before .before .before .before .translate .ensures) _
-    (c .before .before .before .before .before .before .before .before .before .counts .given .1) (c .before .before .report-scans .ensures)
+    let e = c .before .before .before .before .before .before .before in
+    let b = e .before .before .before .before .before .before in
+    let done = b .before .before .paired-scans .ensures .0 in
+    text-done (scans-reported _ _ _ _ _ _ (lent-long b) (lent-long b) done _ (e .ends .given .1) _ _ (ladder-same b) (list-same b))
+    (c .before .before .put-report .ensures)
 
 pub report-kept-spec : {M : Type 1} → statement M
 report-kept-spec =
     tie.close
     (tie.spec
-    slice-aggregate-translate
-    slice-aggregate-translate-2
-    slice-aggregate-translate-3
-    slice-aggregate-translate-4
-    translate-requires
+    copy-bytes-requires
+    array-borrow-prefix-ladder-table
+    slice-aggregate-paired-scans
+    array-borrow-prefix-list-table
+    slice-aggregate-paired-scans-2
+    slice-aggregate-paired-scans-3
+    slice-aggregate-paired-scans-4
+    slice-aggregate-paired-scans-5
+    slice-aggregate-paired-scans-6
+    paired-scans-requires
     enum-known-refusal
-    put-refusal-requires
-    enum-known-counts
-    array-share-prefix-code
-    slice-aggregate-report-scans
-    array-share-prefix-code-labels
-    slice-aggregate-report-scans-2
-    array-share-prefix-code-offsets
-    slice-aggregate-report-scans-3
-    array-share-prefix-code-lengths
-    slice-aggregate-report-scans-4
-    report-scans-requires
-    same-length
+    enum-known-ends
+    array-share-prefix-ladder-table
+    slice-aggregate-put-report
+    array-share-prefix-list-table
+    slice-aggregate-put-report-2
+    put-report-requires
     returns
-    same-length-2
+    same-length
     returns-2)

@@ -1,8 +1,10 @@
--- `scanout::run` meets its contract: the three lines, the kept text, and what `report` puts. Assumes nothing.
+-- `program_scan_output::run` meets its contract: the three lines, the kept text, and what `report` does. Assumes nothing.
 use mathlib.Core.Path.{refl, sym}
 use native.Mathlib.Omega.{arith}
 use lib.Seq.{length-take-le}
-use Rattle.program_scan_output.proofs.Runs.{bytes-room, run-puts}
+use Rattle.program_scan_lines.proofs.Lines.{bytes-room}
+use Rattle.program_definitions.specs.Laws.Outcomes.{same-done}
+use Rattle.program_scan_output.proofs.Runs.{run-same}
 use borrow.Author.Needs.{needs}
 use Rattle.program_scan_output.proofs.run.Statement.{statement}
 use Rattle.program_scan_output.proofs.run.Tie as tie
@@ -63,8 +65,9 @@ returns c =
     let u = c .before .before .before .before .before .before in
     let v = u .before .before .before .before in
     let w = v .before .before in
-    run-puts _ _ _ _ _ _ _ _ _ _ (w .before .before .take-number .ensures) (w .before .variables .ensures) (w .take-number2 .ensures) (u .watchdog .ensures)
-    (v .take-variables .ensures) refl (u .before .before .table-bytes .ensures) (u .before .kept-end .ensures) _ _ _ (c .before .before .report .ensures)
+    same-done _ _ _ (run-same _ _ _ _ _ _ _ _ _ _ (w .before .before .take-number .ensures) (w .before .variables .ensures) (w .take-number2 .ensures)
+    (u .watchdog .ensures) (v .take-variables .ensures) refl (u .before .before .table-bytes .ensures) (u .before .kept-end .ensures))
+    (c .before .before .report .ensures)
 
 pub run-spec : {M : Type 1} → statement M
 run-spec =

@@ -1,4 +1,4 @@
--- `test_answers::answer_all` meets its contract. The loop counts down and keeps the lengths. Assumes nothing.
+-- `answers::answer_all` meets its contract. The loop counts down and keeps the lengths. Assumes nothing.
 use mathlib.Core.Path.{_≡_, refl}
 use Prim.Native.Nat.{_≤_}
 use lib.ListN.{length}

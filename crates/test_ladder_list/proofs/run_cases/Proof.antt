@@ -1,4 +1,4 @@
--- `ladder_list_cases::run_cases` is safe and ends. The loop counts down and keeps the length. Assumes nothing.
+-- `test_ladder_list::run_cases` is safe and ends. The loop counts down and keeps the length. Assumes nothing.
 use mathlib.Core.Path.{_≡_, refl}
 use Prim.Native.Nat.{_≤_}
 use lib.ListN.{length}

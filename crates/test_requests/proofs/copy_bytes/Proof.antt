@@ -1,4 +1,4 @@
--- `test_requests::copy_bytes` meets its contract. The loop keeps the length and counts up to it. Assumes nothing.
+-- `requests::copy_bytes` meets its contract. The loop keeps the length and counts up to it. Assumes nothing.
 use mathlib.Core.Path.{_≡_, refl, _∙_}
 use Prim.Native.Nat.{_-_, _≤_}
 use lib.ListN.{length, length-set}

@@ -26,7 +26,7 @@ use Rattle.translation_definitions.specs.TranslateKept.{countsOf, listBu
 use Rattle.translation_definitions.specs.Demand3.{ScansAlike}
 use Rattle.translation_definitions.specs.Calls.{CallsAlike}
 use Rattle.translation_definitions.specs.BothScans.{Lent, lends, BothEnds, BothAnswer, BothCall, both, refused, copyQuestion, bothQuestions, bothScans, instructionWatchdog, pairedWatchdog}
-use Rattle.translation_definitions.specs.BothAgree.{BothGiven, BothTold, BothAgree, PairedAgree}
+use Rattle.translation_definitions.specs.BothAgree.{BothGiven, BothRan, BothAgree, PairedAgree}
 use Rattle.translation_definitions.specs.Laws.Calls.{few-rungs, stopped-rungs, ladder-call, list-call, translate-call, scans-alike}
 use Rattle.translation_definitions.specs.Laws.Legal.{watchdog-in-range as most-in-range}
 
@@ -136,9 +136,9 @@ module _ (vars : ℕ) (kept : Kept) (table : List ℕ) (lent : Lent) (n : ℕ) (
     is : bothScans vars kept table lent n w ≡ record { answer = both (both-ends vars kept table lent n w); lent = both-left vars kept table lent n w }
     is = both-scanned vars kept table lent n w (asked-yes w h)
 
-    told : BothTold vars kept (lent .buffers) n (bothScans vars kept table lent n w .answer) (bothScans vars kept table lent n w .lent)
+    ran : BothRan vars kept (lent .buffers) n (bothScans vars kept table lent n w .answer) (bothScans vars kept table lent n w .lent)
     unfolding both-ends both-left
-    told =
+    ran =
         record {
           ends = both-ends vars kept table lent n w;
           answered = ap (λ c. c .answer) is;
@@ -147,7 +147,7 @@ module _ (vars : ℕ) (kept : Kept) (table : List ℕ) (lent : Lent) (n : ℕ) (
         }
 
     pub both-alike : BothAgree vars kept (lent .buffers) n w (bothScans vars kept table lent n w .answer) (bothScans vars kept table lent n w .lent)
-    unfolding told both-ends both-left CallsAlike ladderEnds listEnds countsOf
+    unfolding ran both-ends both-left CallsAlike ladderEnds listEnds countsOf
     both-alike =
         let s = scans-alike vars kept table n (given .given .accepted) (given .given .legal) (given .given .watchdog) in
         let a = s .alike w in
@@ -155,17 +155,17 @@ module _ (vars : ℕ) (kept : Kept) (table : List ℕ) (lent : Lent) (n : ℕ) (
           ladder-call vars kept table n (given .given .accepted) (given .given .legal) (given .given .watchdog),
           list-call vars kept table n (given .given .accepted) (given .given .legal) (given .given .watchdog) w h,
         ) at a in
-        record { told = told; alike = rw is b }
+        record { ran = ran; alike = rw is b }
 
   pub paired-alike : PairedAgree vars kept (lent .buffers) n (bothScans vars kept table lent n (pairedWatchdog vars kept table n) .answer)
       (bothScans vars kept table lent n (pairedWatchdog vars kept table n) .lent)
-  unfolding told both-alike both-ends pairedWatchdog instructionWatchdog
+  unfolding ran both-alike both-ends pairedWatchdog instructionWatchdog
   paired-alike =
       let h = paired-legal vars kept table n (given .given .accepted) (given .given .watchdog) in
       let a = both-alike (pairedWatchdog vars kept table n) h in
       let c : LadderCounts = record { rungs = scanLadder (ladderOf kept) n (stateOf vars table) .rungs } in
       record {
-        told = a .told;
+        ran = a .ran;
         ended = λ e. a .alike .ended c (ap (λ g. ladderScanned g c) e) h (rw e (omega arith));
         stopped = λ e. a .alike .stopped c (ap (λ g. ladderScanned g c) e) (rw e (omega arith));
       }

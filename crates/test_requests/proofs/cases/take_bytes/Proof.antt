@@ -8,10 +8,13 @@ use Rattle.test_requests.proofs.cases.take_bytes.Statement.{statement}
 use Rattle.test_requests.proofs.cases.take_bytes.Tie as tie
 
 abbrev Inv-loop : tie.InvT-loop
-Inv-loop chunk₀ room₀ most last at₀ end₀ count₀ chunk room at end count = (count ≤ most) × (length chunk ≡ length chunk₀) × (length room ≡ length room₀)
+Inv-loop chunk₀ room₀ most last reading₀ count₀ chunk room reading count = (count ≤ most) × (length chunk ≡ length chunk₀) × (length room ≡ length room₀)
 
 abbrev μ-loop : tie.MeasureT-loop
-μ-loop chunk₀ room₀ most last at₀ end₀ count₀ chunk room at end count = most - count
+μ-loop chunk₀ room₀ most last reading₀ count₀ chunk room reading count = most - count
+
+reading-of-requires : tie.Need-reading-of-requires Inv-loop μ-loop
+reading-of-requires c κs = search needs
 
 loop-holds : tie.Need-loop-holds Inv-loop μ-loop
 loop-holds c = (omega arith, refl, refl)
@@ -47,7 +50,7 @@ same-length-3 : tie.Need-same-length-3 Inv-loop μ-loop
 same-length-3 c = omega arith
 
 same-length-4 : tie.Need-same-length-4 Inv-loop μ-loop
-same-length-4 c = length-set (c .before .before .before .before .before .before .before .before .loop .room) _ _ ∙ c .before .before .before .before .before .before .before .before .loop .inv .2
+same-length-4 c = length-set (c .before .before .before .before .before .before .before .before .before .loop .room) _ _ ∙ c .before .before .before .before .before .before .before .before .before .loop .inv .2
 
 returns-2 : tie.Need-returns-2 Inv-loop μ-loop
 returns-2 c = omega arith
@@ -56,7 +59,7 @@ loop-less : tie.Need-loop-less Inv-loop μ-loop
 loop-less c = omega arith
 
 loop-again : tie.Need-loop-again Inv-loop μ-loop
-loop-again c = (omega arith, omega arith, length-set (c .before .before .before .before .before .before .before .loop .room) _ _ ∙ c .before .before .before .before .before .before .before .loop .inv .2)
+loop-again c = (omega arith, omega arith, length-set (c .before .before .before .before .before .before .before .before .loop .room) _ _ ∙ c .before .before .before .before .before .before .before .before .loop .inv .2)
 
 at-byte-requires-3 : tie.Need-at-byte-requires-3 Inv-loop μ-loop
 at-byte-requires-3 c κs = search needs
@@ -76,6 +79,7 @@ take-bytes-spec =
     (tie.spec
     Inv-loop
     μ-loop
+    reading-of-requires
     loop-holds
     next-byte-requires
     at-byte-requires

@@ -8,10 +8,13 @@ use Rattle.test_requests.proofs.input.number.Statement.{statement}
 use Rattle.test_requests.proofs.input.number.Tie as tie
 
 abbrev Inv-loop : tie.InvT-loop
-Inv-loop chunk₀ at₀ end₀ value₀ digits₀ chunk at end value digits = (length chunk ≡ length chunk₀) × (value < 4294967296) × (digits ≤ 4000000000)
+Inv-loop chunk₀ reading₀ value₀ digits₀ chunk reading value digits = (length chunk ≡ length chunk₀) × (value < 4294967296) × (digits ≤ 4000000000)
 
 abbrev μ-loop : tie.MeasureT-loop
-μ-loop chunk₀ at₀ end₀ value₀ digits₀ chunk at end value digits = 4000000000 - digits
+μ-loop chunk₀ reading₀ value₀ digits₀ chunk reading value digits = 4000000000 - digits
+
+reading-of-requires : tie.Need-reading-of-requires Inv-loop μ-loop
+reading-of-requires c κs = search needs
 
 loop-holds : tie.Need-loop-holds Inv-loop μ-loop
 loop-holds c = (refl, omega arith, omega arith)
@@ -85,6 +88,7 @@ number-spec =
     (tie.spec
     Inv-loop
     μ-loop
+    reading-of-requires
     loop-holds
     next-byte-requires
     digit-of-requires

@@ -1,0 +1,139 @@
+-- Laws of the verdict: of bytes compared one by one, and of each of its cases. Assumes nothing.
+use Prim.Native.Nat.{ℕ, suc, _+_, _≤_, _<_}
+use native.Mathlib.Omega.{arith}
+use native.Mathlib.Numerals.{add-one}
+use mathlib.Core.Path.{_≡_, refl, sym, ap, _∙_}
+use mathlib.Core.Bool.{Bool, true, false, false≢true, not, _&&_, Bool·beq}
+use mathlib.Core.List.{List, [], _∷_}
+use lib.Dec.{eqb, leb}
+use lib.ListN.{length, take, drop, getD, length-take, drop-of-length-le}
+use lib.Seq.{drop-cons, getD-take}
+use borrow.Author.Tests.{leb-true, leb-false, ne-eqb, eq-eqb}
+use Rattle.ladder_definitions.specs.LadderScan.{countsIn as ladderCountsIn}
+use Rattle.list_definitions.specs.ListScan.{countsIn as listCountsIn}
+use Rattle.translation_definitions.specs.TranslateKept.{countsIn}
+use Rattle.translation_definitions.specs.BothScans.{haltOf, endsIn}
+use Rattle.translation_definitions.specs.declared.BothEnds.{BothEnds as EndsStruct}
+use Rattle.program_definitions.specs.Scanout.{sameBytes, Verdict, alike, bothStopped, notAlike, alikeIf, verdict}
+
+-- ---- bytes compared
+
+-- the loop's invariant: the bytes from i on are the same just when all are
+pub record Comparing (xs ys : List ℕ) (n i : ℕ) : Type 0 where
+  pub within : i ≤ n
+  pub same : sameBytes (drop i (take n xs)) (drop i (take n ys)) ≡ sameBytes (take n xs) (take n ys)
+
+pub comparing-first : (xs ys : List ℕ) (n : ℕ) → Comparing xs ys n 0
+comparing-first xs ys n = record { within = omega arith; same = refl }
+
+left-none : (xs : List ℕ) (n i : ℕ) → length xs ≤ i → drop i (take n xs) ≡ []
+left-none xs n i h = drop-of-length-le (take n xs) {i = i} (omega (arith, length-take n xs))
+
+left-some : (xs : List ℕ) (n i : ℕ) → i < n → i < length xs → drop i (take n xs) ≡ getD xs i 0 ∷ drop (suc i) (take n xs)
+left-some xs n i h k = drop-cons (take n xs) i 0 (omega (arith, length-take n xs)) ∙ ap (λ b. b ∷ drop (suc i) (take n xs)) (getD-take n xs i 0 h)
+
+module _ {xs ys : List ℕ} {n i : ℕ} (h : Comparing xs ys n i) where
+  pub comparing-short : i < n → length xs ≤ i → leb (length ys) i ≡ sameBytes (take n xs) (take n ys)
+  unfolding sameBytes
+  comparing-short k l = go (leb (length ys) i) refl ∙ sym (ap (λ z. sameBytes z (drop i (take n ys))) (left-none xs n i l)) ∙ h .same
+    where
+      go : (b : Bool) → leb (length ys) i ≡ b → leb (length ys) i ≡ sameBytes [] (drop i (take n ys))
+      go true q = q ∙ sym (ap (sameBytes []) (left-none ys n i (leb-true _ _ q)))
+      go false q = q ∙ sym (ap (sameBytes []) (left-some ys n i k (leb-false _ _ q)))
+
+  pub comparing-long : i < n → i < length xs → length ys ≤ i → false ≡ sameBytes (take n xs) (take n ys)
+  unfolding sameBytes
+  comparing-long k l m =
+      sym (ap (λ z. sameBytes z (drop i (take n ys))) (left-some xs n i k l) ∙ ap (sameBytes (getD xs i 0 ∷ drop (suc i) (take n xs))) (left-none ys n i m))
+      ∙ h .same
+
+  step : i < n → i < length xs → i < length ys
+      → sameBytes (drop i (take n xs)) (drop i (take n ys)) ≡ (eqb (getD xs i 0) (getD ys i 0) && sameBytes (drop (suc i) (take n xs)) (drop (suc i) (take n ys)))
+  unfolding sameBytes
+  step k l m = rw (left-some xs n i k l, left-some ys n i k m) refl
+
+  pub comparing-differs : i < n → i < length xs → i < length ys → (getD xs i 0 ≡ getD ys i 0 → ⊥) → false ≡ sameBytes (take n xs) (take n ys)
+  comparing-differs k l m d = sym (step k l m ∙ ap (λ b. b && sameBytes (drop (suc i) (take n xs)) (drop (suc i) (take n ys))) (ne-eqb _ _ d)) ∙ h .same
+
+  pub comparing-more : i < n → i < length xs → i < length ys → getD xs i 0 ≡ getD ys i 0 → Comparing xs ys n (i + 1)
+  comparing-more k l m e = record {
+    within = omega arith;
+    same = rw add-one (sym (step k l m ∙ ap (λ b. b && sameBytes (drop (suc i) (take n xs)) (drop (suc i) (take n ys))) (eq-eqb _ _ e)) ∙ h .same);
+  }
+
+  pub comparing-end : n ≤ i → true ≡ sameBytes (take n xs) (take n ys)
+  unfolding sameBytes
+  comparing-end k =
+      let a : drop i (take n xs) ≡ [] = drop-of-length-le (take n xs) {i = i} (omega (arith, length-take n xs)) in
+      let b : drop i (take n ys) ≡ [] = drop-of-length-le (take n ys) {i = i} (omega (arith, length-take n ys)) in
+      sym (ap (λ z. sameBytes z (drop i (take n ys))) a ∙ ap (sameBytes []) b) ∙ h .same
+
+-- ---- the verdict's cases
+
+-- what verdict is, over the struct's bools
+abbrev ended : Bool → Bool → Verdict → Verdict
+ended a b both = elim a [ true ↦ elim b [ true ↦ both | false ↦ notAlike ] | false ↦ elim b [ true ↦ notAlike | false ↦ bothStopped ] ]
+
+module _ (e : EndsStruct) (l t : List ℕ) where
+  verdict-ended : verdict (endsIn e) l t
+      ≡ ended (e .«ladder_ended») (e .«list_ended») (alikeIf (eqb (e .ladder .rungs) (e .list .rungs) && sameBytes l t))
+  unfolding verdict endsIn haltOf listCountsIn
+  verdict-ended = go (e .«ladder_ended») (e .«list_ended»)
+    where
+      both : Verdict
+      both = alikeIf (eqb (e .ladder .rungs) (e .list .rungs) && sameBytes l t)
+
+      go : (a b : Bool) → verdict (record {
+        counts = countsIn (e .counts);
+        ladderHalt = haltOf a;
+        ladder = ladderCountsIn (e .ladder);
+        listHalt = haltOf b;
+        list = listCountsIn (e .list);
+      }) l t ≡ ended a b both
+      go true true = refl
+      go true false = refl
+      go false true = refl
+      go false false = refl
+
+  pub verdict-differ : not (Bool·beq (e .«ladder_ended») (e .«list_ended»)) ≡ true → notAlike ≡ verdict (endsIn e) l t
+  verdict-differ n = go (e .«ladder_ended») (e .«list_ended») _ n ∙ sym verdict-ended
+    where
+      go : (a b : Bool) (v : Verdict) → not (Bool·beq a b) ≡ true → notAlike ≡ ended a b v
+      go true true v n = absurd (false≢true n)
+      go true false v n = refl
+      go false true v n = refl
+      go false false v n = absurd (false≢true n)
+
+  module _ (same : not (Bool·beq (e .«ladder_ended») (e .«list_ended»)) ≡ false) where
+    pub verdict-stopped : not (e .«ladder_ended») ≡ true → bothStopped ≡ verdict (endsIn e) l t
+    verdict-stopped n = go (e .«ladder_ended») (e .«list_ended») _ same n ∙ sym verdict-ended
+      where
+        go : (a b : Bool) (v : Verdict) → not (Bool·beq a b) ≡ false → not a ≡ true → bothStopped ≡ ended a b v
+        go true b v s n = absurd (false≢true n)
+        go false true v s n = absurd (false≢true (sym s))
+        go false false v s n = refl
+
+    module _ (both : not (e .«ladder_ended») ≡ false) where
+      verdict-both : verdict (endsIn e) l t ≡ alikeIf (eqb (e .ladder .rungs) (e .list .rungs) && sameBytes l t)
+      verdict-both = verdict-ended ∙ go (e .«ladder_ended») (e .«list_ended») _ same both
+        where
+          go : (a b : Bool) (v : Verdict) → not (Bool·beq a b) ≡ false → not a ≡ false → ended a b v ≡ v
+          go true true v s n = refl
+          go true false v s n = absurd (false≢true (sym s))
+          go false b v s n = absurd (false≢true (sym n))
+
+      pub verdict-rungs : (e .ladder .rungs ≡ e .list .rungs → ⊥) → notAlike ≡ verdict (endsIn e) l t
+      unfolding alikeIf
+      verdict-rungs d = sym (verdict-both ∙ ap (λ b. alikeIf (b && sameBytes l t)) (ne-eqb _ _ d))
+
+      module _ (r : e .ladder .rungs ≡ e .list .rungs) {b : Bool} (q : b ≡ sameBytes l t) where
+        verdict-bytes : verdict (endsIn e) l t ≡ alikeIf b
+        verdict-bytes = verdict-both ∙ ap (λ x. alikeIf (x && sameBytes l t)) (eq-eqb _ _ r) ∙ ap alikeIf (sym q)
+
+        pub verdict-alike : b ≡ true → alike ≡ verdict (endsIn e) l t
+        unfolding alikeIf
+        verdict-alike y = sym (verdict-bytes ∙ ap alikeIf y)
+
+        pub verdict-other : b ≡ false → notAlike ≡ verdict (endsIn e) l t
+        unfolding alikeIf
+        verdict-other n = sym (verdict-bytes ∙ ap alikeIf n)

@@ -1,0 +1,2 @@
+-- The report of ladder-scan. What functions inside promise each other: Parts.
+pub mod Parts

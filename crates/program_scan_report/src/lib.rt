@@ -1,0 +1,174 @@
+// The report of ladder-scan: both scans of a ladder and its list side by side. README, "ladder-scan".
+ghost use mathlib.Core.Path.{_≡_};
+ghost use Prim.Native.Nat.{_≤_};
+ghost use lib.ListN.{take};
+ghost use Rattle.questions.specs.Questions.{mostVariables};
+ghost use Rattle.printing.specs.Put.{Put};
+ghost use Rattle.translation_definitions.specs.BothScans.{haltOf, endsIn};
+ghost use Rattle.program_definitions.specs.Scanout.{endWord, endLines, changedLine, changedLines};
+ghost use Rattle.program_definitions.specs.Scanout.{sameBytes, verdict, verdictLine, reportLines};
+ghost use Rattle.program_scan_report.specs.Parts.{verdictIn};
+use translation_definitions::BothEnds;
+
+// What the two scans came to.
+pub enum Verdict {
+    Alike,
+    BothStopped,
+    NotAlike,
+}
+
+fn put_end(out: &mut [u8], at: usize, ended: bool) -> usize
+    requires { ⌜ at ≤ 1000 ⌝ }
+    ensures { λ r. ⌜ Put (now (out .entry)) at (endWord (haltOf ended)) r (now (out .exit)) ⌝ }
+{
+    if ended {
+        return printing::put_text(out, at, b"Ended");
+    }
+    printing::put_text(out, at, b"Stopped")
+}
+
+// How each ended, the rungs entered and the instructions carried out.
+fn put_ends(out: &mut [u8], ends: BothEnds) -> usize
+    ensures { λ r. ⌜ Put (now (out .entry)) 0 (endLines (endsIn ends)) r (now (out .exit)) ⌝ }
+{
+    let head = printing::put_text(out, 0, b"scan ladder list\nend ");
+    let first = put_end(out, head, ends.ladder_ended);
+    let space = printing::put_text(out, first, b" ");
+    let second = put_end(out, space, ends.list_ended);
+    let rungs = printing::put_text(out, second, b"\nrungs ");
+    let ladder_rungs = printing::put_number(out, rungs, ends.ladder.rungs as usize);
+    let apart = printing::put_text(out, ladder_rungs, b" ");
+    let list_rungs = printing::put_number(out, apart, ends.list.rungs as usize);
+    let none = printing::put_text(out, list_rungs, b"\ninstructions - ");
+    let instructions = printing::put_number(out, none, ends.list.instructions as usize);
+    printing::put_text(out, instructions, b"\n")
+}
+
+// The line of a variable: its value before and after, in both.
+fn put_changed(
+    out: &mut [u8],
+    at: usize,
+    variable: usize,
+    before: u8,
+    ladder: u8,
+    list: u8,
+) -> usize
+    requires { ⌜ at ≤ 100000 ⌝ }
+    ensures { λ r. ⌜ Put (now (out .entry)) at (changedLine variable before ladder list) r (now (out .exit)) ⌝ }
+{
+    let name = printing::put_text(out, at, b"v");
+    let number = printing::put_number(out, name, variable);
+    let space = printing::put_text(out, number, b" ");
+    let first = printing::put_number(out, space, before as usize);
+    let to_ladder = printing::put_text(out, first, b">");
+    let after_ladder = printing::put_number(out, to_ladder, ladder as usize);
+    let apart = printing::put_text(out, after_ladder, b" ");
+    let again = printing::put_number(out, apart, before as usize);
+    let to_list = printing::put_text(out, again, b">");
+    let after_list = printing::put_number(out, to_list, list as usize);
+    printing::put_text(out, after_list, b"\n")
+}
+
+// The lines of the first `vars` variables that changed.
+fn put_variables(
+    out: &mut [u8],
+    from: usize,
+    vars: u32,
+    before: &[u8],
+    ladder: &[u8],
+    list: &[u8],
+) -> usize
+    requires { ⌜ (from ≤ 1000) × (vars ≤ mostVariables) ⌝ }
+    ensures { λ r. ⌜ Put (now (out .entry)) from
+        (changedLines 0 (take vars (now (before .entry))) (take vars (now (ladder .entry))) (take vars (now (list .entry)))) r
+        (now (out .exit)) ⌝ }
+{
+    let mut end = from;
+    let mut i: usize = 0;
+    while i < vars as usize {
+        if before.len() <= i {
+            return end;
+        }
+        if ladder.len() <= i {
+            return end;
+        }
+        if list.len() <= i {
+            return end;
+        }
+        if (ladder[i] != before[i]) | (list[i] != before[i]) {
+            end = put_changed(out, end, i, before[i], ladder[i], list[i]);
+        }
+        i += 1;
+    }
+    end
+}
+
+// Whether the first `n` bytes are the same.
+fn same_bytes(left: &[u8], right: &[u8], n: u32) -> bool
+    ensures { λ r. ⌜ r ≡ sameBytes (take n (now (left .entry))) (take n (now (right .entry))) ⌝ }
+{
+    let mut i: usize = 0;
+    while i < n as usize {
+        if left.len() <= i {
+            return right.len() <= i;
+        }
+        if right.len() <= i {
+            return false;
+        }
+        if left[i] != right[i] {
+            return false;
+        }
+        i += 1;
+    }
+    true
+}
+
+// Demand 3, of these two scans.
+fn verdict_of(vars: u32, ends: BothEnds, ladder_left: &[u8], list_left: &[u8]) -> Verdict
+    ensures { λ r. ⌜ verdictIn r ≡ verdict (endsIn ends) (take vars (now («ladder_left» .entry)))
+        (take vars (now («list_left» .entry))) ⌝ }
+{
+    if ends.ladder_ended != ends.list_ended {
+        return Verdict::NotAlike;
+    }
+    if !ends.ladder_ended {
+        return Verdict::BothStopped;
+    }
+    if ends.ladder.rungs != ends.list.rungs {
+        return Verdict::NotAlike;
+    }
+    if same_bytes(ladder_left, list_left, vars) {
+        return Verdict::Alike;
+    }
+    Verdict::NotAlike
+}
+
+fn put_verdict(out: &mut [u8], at: usize, verdict: Verdict) -> usize
+    requires { ⌜ at ≤ 100000 ⌝ }
+    ensures { λ r. ⌜ Put (now (out .entry)) at (verdictLine (verdictIn verdict)) r (now (out .exit)) ⌝ }
+{
+    match verdict {
+        Verdict::Alike => printing::put_text(out, at, b"alike\n"),
+        Verdict::BothStopped => printing::put_text(out, at, b"both stopped\n"),
+        Verdict::NotAlike => printing::put_text(out, at, b"not alike\n"),
+    }
+}
+
+// The whole report: how the scans ended, the variables that changed, and the verdict. `before` is the table before both scans.
+pub fn put_report(
+    out: &mut [u8],
+    vars: u32,
+    ends: BothEnds,
+    before: &[u8],
+    ladder_left: &[u8],
+    list_left: &[u8],
+) -> usize
+    requires { ⌜ vars ≤ mostVariables ⌝ }
+    ensures { λ r. ⌜ Put (now (out .entry)) 0
+        (reportLines vars (now (before .entry)) (endsIn ends) (now («ladder_left» .entry)) (now («list_left» .entry))) r
+        (now (out .exit)) ⌝ }
+{
+    let head = put_ends(out, ends);
+    let changed = put_variables(out, head, vars, before, ladder_left, list_left);
+    put_verdict(out, changed, verdict_of(vars, ends, ladder_left, list_left))
+}
