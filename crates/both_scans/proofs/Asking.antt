@@ -1,5 +1,5 @@
 -- Laws of the questions in order, and of the watchdog that they are put to. Assumes nothing.
-use Prim.Native.Nat.{ℕ, _≤_}
+use Prim.Native.Nat.{ℕ}
 use native.Mathlib.Omega.{arith}
 use mathlib.Core.Path.{_≡_, refl, sym, ap, _∙_}
 use mathlib.Core.Bool.{true, false}
@@ -8,9 +8,9 @@ use mathlib.Core.List.{List, [], _∷_}
 use lib.Dec.{leb}
 use lib.ListN.{length}
 use borrow.Author.Tests.{eq-eqb, ne-eqb}
-use Rattle.questions.specs.Questions.{Refusal, Answer, ask, firstNo, question12, question13, mostRungWatchdog, mostInstructionWatchdog}
+use Rattle.questions.specs.Questions.{Answer, ask, firstNo, question12, question13, mostRungWatchdog, mostInstructionWatchdog}
 use Rattle.questions.specs.Refusals.{refusalOf, verdictAnswer}
-use Rattle.questions.specs.Laws.Answers.{first-yes, later-yes, first-append, watchdog-in-range, in-range-watchdog}
+use Rattle.questions.specs.Laws.Answers.{first-yes, later-yes, first-append, in-range-watchdog}
 use Rattle.questions.specs.declared.Refusal.{Refusal as RefusalCase}
 use Rattle.questions.specs.declared.Refusal.the-variants.{Table, Watchdog}
 use Rattle.questions.specs.declared.Verdict.the-variants.{Accepted, Refused}
@@ -22,7 +22,7 @@ use Rattle.ladder_definitions.specs.Questions.{ladderOf, ladderAnswer}
 use Rattle.translation_definitions.specs.Translate.{translate}
 use Rattle.translation_definitions.specs.TranslateKept.{listBuffers}
 use Rattle.translation_definitions.specs.BothScans.{Lent, copyQuestion, bothQuestions, pairedWatchdog}
-use Rattle.translation_definitions.specs.Laws.Boths.{laterQuestions, ladder-before, paired-legal}
+use Rattle.translation_definitions.specs.Laws.Boths.{ladder-before, paired-legal}
 use Rattle.both_scans.specs.Parts.{bothAsked, askedWatchdog, chosenWatchdog}
 use Rattle.both_scans.specs.declared.ListWatchdog.{ListWatchdog}
 use Rattle.both_scans.specs.declared.ListWatchdog.the-variants.{Given, Paired}

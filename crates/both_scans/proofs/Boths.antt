@@ -2,14 +2,13 @@
 use Prim.Native.Nat.{ℕ, _≤_}
 use native.Mathlib.Omega.{arith}
 use mathlib.Core.Path.{_≡_, refl, sym, ap, _∙_}
-use mathlib.Core.Bool.{true, false}
 use mathlib.Core.Option.{none, some}
 use mathlib.Core.List.{List, [], _∷_, map, append-nil}
 use lib.ListN.{length, take, drop-of-length-le}
 use lib.Seq.{take-all}
-use Rattle.questions.specs.Questions.{Refusal, Answer, ask, firstNo, question12, question13, mostRungWatchdog, mostInstructionWatchdog}
+use Rattle.questions.specs.Questions.{Refusal, Answer, firstNo, question12, question13, mostRungWatchdog, mostInstructionWatchdog}
 use Rattle.questions.specs.Refusals.{refusalOf, verdictAnswer}
-use Rattle.questions.specs.Laws.Answers.{first-yes, later-yes, verdict-refused, verdict-accepted, watchdog-in-range}
+use Rattle.questions.specs.Laws.Answers.{first-yes, later-yes, verdict-accepted, watchdog-in-range}
 use Rattle.questions.specs.declared.Refusal.{Refusal as RefusalCase}
 use Rattle.questions.specs.declared.Verdict.{Verdict}
 use Rattle.questions.specs.declared.Verdict.the-variants.{Accepted, Refused}
@@ -22,7 +21,7 @@ use Rattle.ladder_definitions.specs.Kept.{Kept}
 use Rattle.ladder_definitions.specs.Meaning.{scanLadder}
 use Rattle.ladder_definitions.specs.Questions.{ladderOf, ladderAnswer, mostRungWords}
 use Rattle.ladder_definitions.specs.LadderScan.{LadderCounts, LadderScanAnswer, callLadderScan, scanned as ladderScanned, refused as ladderRefused, scanEnds as ladderEnds, scanQuestions as ladderAsked, countsIn as ladderCountsIn, ladderScannedAnswer, LadderScanDone}
-use Rattle.ladder_definitions.specs.Laws.Accepting.{accepted, ladder-first}
+use Rattle.ladder_definitions.specs.Laws.Accepting.{accepted}
 use Rattle.ladder_definitions.specs.declared.LadderScanned.{LadderScanned}
 use Rattle.ladder_definitions.specs.declared.LadderScanned.the-variants.{Ended as LadderEnded, Stopped as LadderStopped, Refused as LadderRefused}
 use Rattle.list_definitions.specs.Instruction.{instrWord}
@@ -32,11 +31,11 @@ use Rattle.list_definitions.specs.declared.ListScanned.{ListScanned}
 use Rattle.list_definitions.specs.declared.ListScanned.the-variants.{Ended as ListEnded, Stopped as ListStopped, Refused as ListRefused}
 use Rattle.translation_definitions.specs.Translate.{translate, codeBound}
 use Rattle.translation_definitions.specs.TranslateKept.{translated, refused as translateRefused, translateKept, countsOf, countsIn, listBuffers, TranslateDone, translatedAnswer}
-use Rattle.translation_definitions.specs.Laws.Answers.{not-both, asked, call-refused, call-written, refused-same, all-yes, counts-are, written-room}
+use Rattle.translation_definitions.specs.Laws.Answers.{not-both, call-refused, call-written, refused-same, all-yes, counts-are, written-room}
 use Rattle.translation_definitions.specs.Laws.Calls.{few-rungs, ladder-call, list-call, words-out, records-out}
 use Rattle.translation_definitions.specs.Laws.Legal.{watchdog-in-range as most-in-range}
 use Rattle.translation_definitions.specs.Laws.Boths.{copy-long, both-ends, both-left, both-refused, both-scanned, paired-legal}
-use Rattle.translation_definitions.specs.BothScans.{Lent, lends, bothQuestions, bothScans, pairedScans, haltOf, pairedWatchdog, instructionWatchdog, endsIn, bothScannedAnswer, BothScansDone}
+use Rattle.translation_definitions.specs.BothScans.{Lent, lends, bothQuestions, bothScans, pairedScans, haltOf, pairedWatchdog, endsIn, bothScannedAnswer, BothScansDone}
 use Rattle.translation_definitions.specs.BothAgree.{BothPromise, PairedPromise}
 use Rattle.translation_definitions.specs.Theorems.{both-agree, paired-agree}
 use Rattle.translation_definitions.specs.declared.Counts.{Counts as CountsStruct}

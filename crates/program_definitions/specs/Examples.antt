@@ -2,7 +2,7 @@
 -- Assumes nothing.
 use mathlib.Core.Path.{_≡_, refl}
 use mathlib.Core.Bool.{true, false}
-use mathlib.Core.List.{[], _∷_, _++_}
+use mathlib.Core.List.{[], _∷_}
 use lib.ListN.{replicate}
 use Rattle.questions.specs.Bytes.{bytes, decimal, digits}
 use Rattle.questions.specs.Tests.{all}
@@ -12,7 +12,7 @@ use Rattle.translation_definitions.specs.BothScans.{BothEnds}
 use Prim.Native.Nat.{ℕ}
 use Rattle.program_definitions.specs.Lines.{lineNumber, watchdogOf, isDigit01, tableOf}
 use Rattle.program_definitions.specs.Refusals.{refusalLine, explanations, explanation, lineEndsText, errorLines}
-use Rattle.program_definitions.specs.Scanout.{endWord, endLines, changedLine, changedLines, sameBytes, Verdict, alike, bothStopped, notAlike, alikeIf, verdict, verdictLine, reportLines}
+use Rattle.program_definitions.specs.Scanout.{endWord, endLines, changedLine, changedLines, sameBytes, alike, bothStopped, notAlike, alikeIf, verdict, verdictLine, reportLines}
 
 pub watchdogs-worked :
     (watchdogOf (bytes "2") ≡ 2) × (watchdogOf (bytes "65535") ≡ 65535) × (watchdogOf (bytes "65536") ≡ 65536) × (watchdogOf (bytes "02") ≡ 65536) × (watchdogOf [] ≡ 65536)

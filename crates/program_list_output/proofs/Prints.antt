@@ -34,7 +34,7 @@ use Rattle.text_definitions.specs.declared.TextRead.the-variants.{Kept as KeptC
 use Rattle.printing.specs.Put.{Put}
 use Rattle.printing.specs.Laws.Puts.{put-then}
 use Rattle.program_definitions.specs.Lines.{firstLine, textAfter, variablesOf, mostKept}
-use Rattle.program_definitions.specs.Outcome.{Outcome, printed, refused, outputOf, Done}
+use Rattle.program_definitions.specs.Outcome.{Outcome, Done}
 use Rattle.program_definitions.specs.Printout.{countLine, blank, listPrinted, keptPrinted, textPrinted, outcome}
 use Rattle.program_definitions.specs.Laws.Outcomes.{text-done, refusal-done}
 use Rattle.program_definitions.specs.declared.Printed.{Printed}

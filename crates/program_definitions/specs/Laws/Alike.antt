@@ -1,7 +1,6 @@
 -- Every report of ladder-scan ends in `alike` or in `both stopped`, by demand 3 over the code's definition: case by case along the definitions of the output.
 -- Assumes nothing.
 use Prim.Native.Nat.{ℕ, suc}
-use native.Mathlib.Omega.{arith}
 use mathlib.Core.Path.{_≡_, refl, sym, ap, _∙_}
 use mathlib.Core.Bool.{Bool, true, false, _&&_}
 use mathlib.Core.List.{List, [], _∷_, _++_, append-assoc, append-nil}
@@ -22,7 +21,7 @@ use Rattle.translation_definitions.specs.BothAgree.{PairedAgree}
 use Rattle.translation_definitions.specs.Laws.Boths.{both-given}
 use Rattle.translation_definitions.specs.Theorems.{paired-agree}
 use Rattle.program_definitions.specs.Refusals.{refusalLine}
-use Rattle.program_definitions.specs.Outcome.{Outcome, printed, refused, outputOf}
+use Rattle.program_definitions.specs.Outcome.{outputOf}
 use Rattle.program_definitions.specs.Printout.{blank}
 use Rattle.program_definitions.specs.Scanout.{endWord, endLines, changedLine, changedLines, sameBytes, Verdict, alike, bothStopped, alikeIf, verdict, verdictLine, reportLines, lentFor, keptScanned, textScanned, outcome, output}
 

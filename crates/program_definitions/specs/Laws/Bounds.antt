@@ -1,5 +1,5 @@
 -- How long an output is: a listing and its count line, a report. Assumes nothing.
-use Prim.Native.Nat.{ℕ, zero, suc, _+_, _*_, _^_, _≤_, _<_}
+use Prim.Native.Nat.{ℕ, suc, _+_, _*_, _^_, _≤_, _<_}
 use native.Mathlib.Omega.{arith}
 use mathlib.Core.Path.{_≡_, refl, sym, ap, _∙_}
 use mathlib.Core.Bool.{Bool, true, false, _&&_}
@@ -11,7 +11,7 @@ use lib.Seq.{length-take-le}
 use mir.Facts.{and-yes}
 use Rattle.questions.specs.Bytes.{bytes, decimal}
 use Rattle.questions.specs.Tests.{all}
-use Rattle.questions.specs.Questions.{Refusal, Answer, firstNo, question1, question12, question13, longEnough, mostVariables, mostRungWatchdog, mostInstructionWatchdog}
+use Rattle.questions.specs.Questions.{Refusal, Answer, firstNo, question1, question13, longEnough, mostRungWatchdog, mostInstructionWatchdog}
 use Rattle.questions.specs.Laws.Answers.{ask-passed, first-yes, later-yes, vars-in-range, watchdog-in-range}
 use Rattle.questions.specs.Laws.Tests.{all-head, all-tail, all-first}
 use Rattle.printing.specs.Laws.Puts.{decimal-long, decimal-most}
@@ -44,7 +44,7 @@ use Rattle.program_definitions.specs.Refusals.{refusalLine}
 use Rattle.program_definitions.specs.Outcome.{Outcome, printed, refused}
 use Rattle.program_definitions.specs.Printout.{countLine, blank, mostListing, listPrinted, keptPrinted, textPrinted}
 use Rattle.program_definitions.specs.Scanout.{endWord, endLines, changedLine, changedLines, Verdict, alike, bothStopped, notAlike, verdict, verdictLine, reportLines, lentFor, keptScanned, textScanned}
-use Rattle.program_definitions.specs.Laws.Scans.{ladder-legal, list-legal, Within, list-within}
+use Rattle.program_definitions.specs.Laws.Scans.{ladder-legal, list-legal, list-within}
 
 -- ---- texts one after the other
 

@@ -1,5 +1,5 @@
 -- Demand 3 over the code, from demand 3 over the calls' definitions. Assumes nothing.
-use Prim.Native.Nat.{ℕ, _*_, _≤_}
+use Prim.Native.Nat.{ℕ, _*_}
 use native.Mathlib.Omega.{arith}
 use mathlib.Core.Path.{_≡_, refl, sym, ap, _∙_}
 use mathlib.Core.Option.{none, some}
@@ -10,7 +10,7 @@ use lib.ListN.{length}
 use Rattle.questions.specs.Questions.{Refusal, Answer, firstNo, ask, question12, question13, mostRungWatchdog, mostInstructionWatchdog}
 use Rattle.questions.specs.Laws.Answers.{ask-passed, first-yes, later-yes, watchdog-in-range, in-range-watchdog}
 use Rattle.table.specs.Halt.{Halt, Ended, Stopped}
-use Rattle.table.specs.State.{State, stateOf}
+use Rattle.table.specs.State.{stateOf}
 use Rattle.table.specs.Questions.{question11}
 use Rattle.rungs.specs.Records.{longest}
 use Rattle.rungs.specs.Buffers.{needs, writtenOver}
@@ -19,13 +19,12 @@ use Rattle.ladder_definitions.specs.Meaning.{LadderResult, scanLadder}
 use Rattle.ladder_definitions.specs.Questions.{ladderOf, ladderAnswer}
 use Rattle.ladder_definitions.specs.LadderScan.{LadderCounts, scanned as ladderScanned, scanEnds as ladderEnds}
 use Rattle.ladder_definitions.specs.Laws.Accepting.{accepted, ladder-first}
-use Rattle.list_definitions.specs.Machine.{InstructionList, ListResult, scanList}
-use Rattle.list_definitions.specs.ListScan.{scanned as listScanned, scanEnds as listEnds}
+use Rattle.list_definitions.specs.Machine.{scanList}
+use Rattle.list_definitions.specs.ListScan.{scanEnds as listEnds}
 use Rattle.translation_definitions.specs.Translate.{translate}
 use Rattle.translation_definitions.specs.TranslateKept.{countsOf, listBuffers}
-use Rattle.translation_definitions.specs.Demand3.{ScansAlike}
 use Rattle.translation_definitions.specs.Calls.{CallsAlike}
-use Rattle.translation_definitions.specs.BothScans.{Lent, lends, BothEnds, BothAnswer, BothCall, both, refused, copyQuestion, bothQuestions, bothScans, instructionWatchdog, pairedWatchdog}
+use Rattle.translation_definitions.specs.BothScans.{Lent, lends, BothEnds, BothAnswer, both, refused, copyQuestion, bothQuestions, bothScans, instructionWatchdog, pairedWatchdog}
 use Rattle.translation_definitions.specs.BothAgree.{BothGiven, BothRan, BothAgree, PairedAgree}
 use Rattle.translation_definitions.specs.Laws.Calls.{few-rungs, stopped-rungs, ladder-call, list-call, translate-call, scans-alike}
 use Rattle.translation_definitions.specs.Laws.Legal.{watchdog-in-range as most-in-range}
