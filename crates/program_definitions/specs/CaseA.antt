@@ -23,7 +23,7 @@ use Rattle.list_definitions.specs.Listing.{listing, fixedNames, trimmed, nameOf
 use Rattle.translation_definitions.specs.Translate.{F, R, join, outputCode, rungCode, listRecords, translate}
 use Rattle.translation_definitions.specs.TranslateKept.{countsOf, translateKept}
 use Rattle.translation_definitions.specs.BothScans.{copyQuestion, bothQuestions, bothScans, instructionWatchdog, pairedWatchdog}
-use Rattle.program_definitions.specs.Lines.{firstLine, textAfter, lineNumber, isDigit01, tableOf}
+use Rattle.program_definitions.specs.Lines.{firstLine, textAfter, lineNumber, isBinaryDigit, tableOf}
 use Rattle.program_definitions.specs.Outcome.{outputOf}
 use Rattle.program_definitions.specs.Printout.{countLine, listPrinted, keptPrinted, textPrinted, outcome, output}
 use Rattle.program_definitions.specs.Scanout.{endWord, endLines, changedLine, changedLines, sameBytes, alikeIf, verdict, verdictLine, reportLines, keptScanned, textScanned, outcome as scanOutcome, output as scanOutput}
@@ -45,7 +45,7 @@ A-printed = refl
 pub A-scanned : scanOutput (bytes "5\n2\n10000\n10:c0|c1&n2>o1|c3&j20\n20:n3>o4\n")
     ≡ bytes "scan ladder list\nend Ended Ended\nrungs 2 2\ninstructions - 12\nv1 0>1 0>1\nv4 0>1 0>1\nalike\n"
 unfolding scanOutput scanOutcome textScanned keptScanned reportLines endLines endWord changedLines changedLine verdict alikeIf sameBytes verdictLine
-    outputOf firstLine textAfter lineNumber isDigit01 tableOf bytes decimal digits copyQuestion bothQuestions bothScans instructionWatchdog pairedWatchdog
+    outputOf firstLine textAfter lineNumber isBinaryDigit tableOf bytes decimal digits copyQuestion bothQuestions bothScans instructionWatchdog pairedWatchdog
     question11 question12 tableInRange valueAt value writtenAt write isStart
     scanLadder scanFrom runRung runRear runOutput workFront workInput jumpIf unlessJumped from follow left scanList scanMachine begin fresh step count does halted
     all firstFailed ask askEach firstNo varsInRange question1 question2 question3 question4 question5 question6 question7 question8 question9 question10 question13 longEnough

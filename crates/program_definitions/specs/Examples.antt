@@ -10,7 +10,7 @@ use Rattle.table.specs.Halt.{Halt, Ended, Stopped}
 use Rattle.text_grammar.specs.Reader.{digitOf, digitsFrom, numeralOf}
 use Rattle.translation_definitions.specs.BothScans.{BothEnds}
 use Prim.Native.Nat.{ℕ}
-use Rattle.program_definitions.specs.Lines.{lineNumber, watchdogOf, isDigit01, tableOf}
+use Rattle.program_definitions.specs.Lines.{lineNumber, watchdogOf, isBinaryDigit, tableOf}
 use Rattle.program_definitions.specs.Refusals.{refusalLine, explanations, explanation, lineEndsText, errorLines}
 use Rattle.program_definitions.specs.Scanout.{endWord, endLines, changedLine, changedLines, sameBytes, alike, bothStopped, notAlike, alikeIf, verdict, verdictLine, reportLines}
 
@@ -21,7 +21,7 @@ watchdogs-worked = (refl, refl, refl, refl, refl)
 
 pub tables-worked :
     (tableOf 5 (bytes "10010") ≡ 1 ∷ 0 ∷ 0 ∷ 1 ∷ 0 ∷ replicate 32 0) × (tableOf 5 (bytes "1001") ≡ []) × (tableOf 5 (bytes "100100") ≡ []) × (tableOf 5 (bytes "10012") ≡ [])
-unfolding tableOf isDigit01 all bytes
+unfolding tableOf isBinaryDigit all bytes
 tables-worked = (refl, refl, refl, refl)
 
 pub refusals-worked :

@@ -74,7 +74,7 @@ reportLines vars table e ladderTable listTable =
 abbrev pub mostReport : ℕ
 mostReport = 64 * (mostVariables + 512)
 
--- two tables and buffers for the list, "of the largest size allowed"
+-- two tables, and buffers for the list that "have the largest size allowed"
 abbrev pub lentFor : List ℕ → Lent
 lentFor table = lends table table (blank mostInstructions mostRecords)
 

@@ -6,7 +6,7 @@ use mathlib.Core.Option.{none, some}
 use mathlib.Core.List.{List, [], _∷_}
 use lib.Dec.{leb, leb→le}
 use mir.Facts.{and-yes}
-use lib.ListN.{length, take, drop, replicate, length-replicate}
+use lib.ListN.{length, take, drop, replicate}
 use lib.Seq.{length-take-le}
 use Rattle.questions.specs.Tests.{all}
 use Rattle.questions.specs.Questions.{Answer, Refusal, firstNo, longEnough, question1, question13}
@@ -36,15 +36,12 @@ use Rattle.printing.specs.Laws.Puts.{put-then}
 use Rattle.program_definitions.specs.Lines.{firstLine, textAfter, variablesOf, mostKept}
 use Rattle.program_definitions.specs.Outcome.{Outcome, Done}
 use Rattle.program_definitions.specs.Printout.{countLine, blank, listPrinted, keptPrinted, textPrinted, outcome}
-use Rattle.program_definitions.specs.Laws.Outcomes.{text-done, refusal-done}
+use Rattle.program_definitions.specs.Laws.Outcomes.{text-done, refusal-done, room-of}
 use Rattle.program_definitions.specs.declared.Printed.{Printed}
 use Rattle.program_definitions.specs.declared.Printed.the-variants.{Placed, Refused}
 use Rattle.program_numbers.specs.Parts.{numberBy, NumberTaken}
 use Rattle.program_numbers.specs.declared.Lined.{Lined}
 use Rattle.program_numbers.proofs.Lines.{line-value, kept-text}
-
-room-of : (n size x : ℕ) → n ≤ length (replicate size x) → n ≤ size
-room-of n size x h = subst (λ k. n ≤ k) (length-replicate size x) h
 
 -- ---- Listing
 

@@ -1,3 +1,2 @@
--- The lines before the text in ladder-scan's input. What the functions promise: Parts. The definitions worked: Examples.
+-- The lines before the text in ladder-scan's input. What the functions promise: Parts.
 pub mod Parts
-pub mod Examples

@@ -8,7 +8,7 @@ use lib.ListN.{length, take, drop, set, replicate}
 use Rattle.questions.specs.Bytes.{byte}
 use Rattle.questions.specs.Questions.{mostVariables}
 use Rattle.table.specs.State.{tableSize}
-use Rattle.program_definitions.specs.Lines.{firstLine, textAfter, isDigit01, tableOf}
+use Rattle.program_definitions.specs.Lines.{firstLine, textAfter, isBinaryDigit, tableOf}
 use Rattle.program_scan_lines.specs.declared.Variables.{Variables}
 use Rattle.program_scan_lines.specs.declared.VariablesTaken.{VariablesTaken}
 
@@ -17,7 +17,7 @@ noVariables = record { count = 0; legal = true }
 
 -- the byte is one of V zeros and ones
 unfoldable pub taken : Variables → ℕ → ℕ → Bool
-taken v vars b = v .legal && (ltb (v .count) vars && isDigit01 b)
+taken v vars b = v .legal && (ltb (v .count) vars && isBinaryDigit b)
 
 unfoldable pub nextVariable : Variables → ℕ → ℕ → Variables
 nextVariable v vars b = elim (taken v vars b) [ true ↦ record { count = v .count + 1; legal = true } | false ↦ record { count = 0; legal = false } ]

@@ -2,7 +2,7 @@
 -- what they held. Assumes nothing.
 use Prim.Native.Nat.{ℕ, _+_, _≤_, _<_, min}
 use native.Mathlib.Omega.{arith}
-use mathlib.Core.Path.{_≡_, refl, sym, ap, subst, _∙_}
+use mathlib.Core.Path.{_≡_, refl, sym, ap, _∙_}
 use mathlib.Core.Bool.{Bool, true, false}
 use mathlib.Core.Option.{none, some}
 use mathlib.Core.List.{List, _∷_, _++_}
@@ -32,14 +32,12 @@ use Rattle.translation_definitions.specs.Laws.Boths.{laterQuestions, ladder-bef
 use Rattle.translation_definitions.specs.declared.BothEnds.{BothEnds as EndsStruct}
 use Rattle.translation_definitions.specs.declared.BothScanned.{BothScanned}
 use Rattle.translation_definitions.specs.declared.BothScanned.the-variants.{Scanned, Refused}
+use Rattle.program_definitions.specs.Laws.Outcomes.{room-of}
 use Rattle.program_definitions.specs.Outcome.{printed, refused}
 use Rattle.program_definitions.specs.Printout.{blank}
 use Rattle.program_definitions.specs.Scanout.{lentFor, reportLines, keptScanned, textScanned}
 
 -- ---- Read
-
-room-of : (n size x : ℕ) → n ≤ length (replicate size x) → n ≤ size
-room-of n size x h = subst (λ k. n ≤ k) (length-replicate size x) h
 
 module _ (vars : ℕ) (text : List ℕ) {r : TextRead} {after : Buffers} (done : ReadDone (readText vars text (blank 8192 256)) r after) where
   read-answer : (c : KeptStruct) → r ≡ KeptCase c → readText vars text (blank 8192 256) .answer ≡ kept (c .words) (c .rungs)

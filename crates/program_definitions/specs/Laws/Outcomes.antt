@@ -1,9 +1,9 @@
--- Laws of an outcome put into a buffer, by its cases, and of its output. Assumes nothing.
+-- Laws of an outcome put into a buffer, by its cases, and of its output; room in a blank buffer. Assumes nothing.
 use Prim.Native.Nat.{ℕ, _≤_}
 use native.Mathlib.Omega.{arith}
 use mathlib.Core.Path.{_≡_, refl, sym, ap, subst, _∙_}
 use mathlib.Core.List.{List}
-use lib.ListN.{length}
+use lib.ListN.{length, replicate, length-replicate}
 use Rattle.questions.specs.Refusals.{refusalOf}
 use Rattle.questions.specs.declared.Refusal.{Refusal as RefusalCase}
 use Rattle.printing.specs.Put.{Put}
@@ -61,3 +61,7 @@ placed-within (printed text) most short before r after d n e =
     let s : d .bytes ≡ n = same-placed (sym (d .answer) ∙ e) in
     omega (arith, short text refl, d .put .end, s)
 placed-within (refused refusal) most short before r after d n e = absurd (not-placed (sym e ∙ d .answer))
+
+-- what a call wrote into a blank buffer is no longer than the buffer
+pub room-of : (n size x : ℕ) → n ≤ length (replicate size x) → n ≤ size
+room-of n size x h = subst (λ k. n ≤ k) (length-replicate size x) h
