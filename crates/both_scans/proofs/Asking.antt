@@ -4,7 +4,7 @@ use native.Mathlib.Omega.{arith}
 use mathlib.Core.Path.{_≡_, refl, sym, ap, _∙_}
 use mathlib.Core.Bool.{true, false}
 use mathlib.Core.Option.{none, some}
-use mathlib.Core.List.{List, [], _∷_}
+use mathlib.Core.List.{List, [], _∷_, _++_}
 use lib.Dec.{leb}
 use lib.ListN.{length}
 use borrow.Author.Tests.{eq-eqb, ne-eqb}
@@ -21,7 +21,7 @@ use Rattle.ladder_definitions.specs.Kept.{Kept}
 use Rattle.ladder_definitions.specs.Questions.{ladderOf, ladderAnswer}
 use Rattle.translation_definitions.specs.Translate.{translate}
 use Rattle.translation_definitions.specs.TranslateKept.{listBuffers}
-use Rattle.translation_definitions.specs.BothScans.{Lent, copyQuestion, bothQuestions, pairedWatchdog}
+use Rattle.translation_definitions.specs.BothScans.{Lent, copyQuestion, tablesQuestions, bothQuestions, pairedWatchdog}
 use Rattle.translation_definitions.specs.Laws.Boths.{ladder-before, paired-legal}
 use Rattle.both_scans.specs.Parts.{bothAsked, askedWatchdog, chosenWatchdog}
 use Rattle.both_scans.specs.declared.ListWatchdog.{ListWatchdog}
@@ -72,9 +72,7 @@ exchanged (some r) a b later e f = refl
 
 module _ (vars : ℕ) (k : Kept) (table : List ℕ) (lent : Lent) (n : ℕ) where
   abbrev early : List Answer
-  early =
-      ladderAnswer vars k ∷ question11 (stateOf vars table) ∷ copyQuestion (length table) (length (lent .ladderTable)) ∷ copyQuestion (length table) (length (lent .listTable))
-      ∷ question12 mostRungWatchdog n ∷ []
+  early = ladderAnswer vars k ∷ tablesQuestions vars table (length (lent .ladderTable)) (length (lent .listTable)) ++ question12 mostRungWatchdog n ∷ []
 
   abbrev pub room : Answer
   room = question13 (needs (listBuffers (translate vars (ladderOf k))) (lent .buffers))
@@ -84,8 +82,8 @@ module _ (vars : ℕ) (k : Kept) (table : List ℕ) (lent : Lent) (n : ℕ) wher
   unfolding bothAsked
   by-asked w =
       ladder-before vars k table lent n w
-      ∙ first-append (ladderAnswer vars k ∷ question11 (stateOf vars table) ∷ copyQuestion (length table) (length (lent .ladderTable))
-      ∷ copyQuestion (length table) (length (lent .listTable)) ∷ question12 mostRungWatchdog n ∷ question12 mostInstructionWatchdog w ∷ []) (room ∷ [])
+      ∙ first-append (ladderAnswer vars k ∷ tablesQuestions vars table (length (lent .ladderTable)) (length (lent .listTable))
+      ++ question12 mostRungWatchdog n ∷ question12 mostInstructionWatchdog w ∷ []) (room ∷ [])
 
   early-legal : firstNo early ≡ none → question12 mostInstructionWatchdog (pairedWatchdog vars k table n) ≡ none
   early-legal e =

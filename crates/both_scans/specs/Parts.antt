@@ -6,8 +6,6 @@ use mathlib.Core.List.{List, [], _∷_, _++_}
 use lib.ListN.{length, take, drop}
 use Rattle.questions.specs.Questions.{Answer, firstNo, question12, mostRungWatchdog, mostInstructionWatchdog}
 use Rattle.table.specs.Halt.{Halt}
-use Rattle.table.specs.State.{stateOf}
-use Rattle.table.specs.Questions.{question11}
 use Rattle.rungs.specs.Records.{RungRecord}
 use Rattle.ladder_definitions.specs.Kept.{Kept}
 use Rattle.ladder_definitions.specs.Questions.{ladderAnswer}
@@ -17,7 +15,7 @@ use Rattle.ladder_definitions.specs.declared.LadderScanned.the-variants.{Ended 
 use Rattle.list_definitions.specs.ListScan.{callListScan, ListScanDone}
 use Rattle.list_definitions.specs.declared.ListScanned.{ListScanned}
 use Rattle.list_definitions.specs.declared.ListScanned.the-variants.{Ended as ListEnded, Stopped as ListStopped, Refused as ListRefused}
-use Rattle.translation_definitions.specs.BothScans.{copyQuestion, haltOf, instructionWatchdog, pairedWatchdog}
+use Rattle.translation_definitions.specs.BothScans.{tablesQuestions, haltOf, instructionWatchdog, pairedWatchdog}
 use Rattle.translation_definitions.specs.declared.Counts.{Counts as CountsStruct}
 use Rattle.translation_definitions.specs.declared.BothEnds.{BothEnds as EndsStruct}
 use Rattle.both_scans.specs.declared.ListWatchdog.{ListWatchdog}
@@ -32,8 +30,7 @@ copied table lent = take (length lent) table ++ drop (length table) lent
 -- the questions before 13, over the lengths of the two lent tables
 unfoldable pub bothAsked : ℕ → Kept → List ℕ → ℕ → ℕ → ℕ → ℕ → Answer
 bothAsked vars k table ladderBytes listBytes n w =
-    firstNo (ladderAnswer vars k ∷ question11 (stateOf vars table) ∷ copyQuestion (length table) ladderBytes ∷ copyQuestion (length table) listBytes
-    ∷ question12 mostRungWatchdog n ∷ question12 mostInstructionWatchdog w ∷ [])
+    firstNo (ladderAnswer vars k ∷ tablesQuestions vars table ladderBytes listBytes ++ question12 mostRungWatchdog n ∷ question12 mostInstructionWatchdog w ∷ [])
 
 -- the watchdog that question 12 is put to
 unfoldable pub askedWatchdog : ListWatchdog → ℕ

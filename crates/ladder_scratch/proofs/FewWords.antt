@@ -8,17 +8,11 @@ use lib.Dec.{leb}
 use lib.ListN.{length, length-append}
 use borrow.Author.Tests.{le-leb}
 use Rattle.table.specs.State.{scratchBytes}
-use Rattle.ladder_definitions.specs.Tree.{contact, contactn, Front, input, frontAnd, frontOr, Rear, output, rearAnd, rearOr, Rung}
+use Rattle.ladder_definitions.specs.Tree.{Front, input, frontAnd, frontOr, Rear, output, rearAnd, rearOr, Rung}
+use Rattle.ladder_definitions.specs.Laws.Scratch.{join-few}
 use Rattle.ladder_definitions.specs.Kept.{frontWords, rearWords, rungWords}
-use Rattle.ladder_definitions.specs.Questions.{joinScratch, frontScratch, rearScratch, rungScratch}
+use Rattle.ladder_definitions.specs.Questions.{frontScratch, rearScratch, rungScratch}
 use Rattle.ladder_scratch.specs.Measuring.{RungMeasured, FewAsked}
-
-join-few : (f : Front) (n : ℕ) → joinScratch f n ≤ n + 1
-unfolding joinScratch
-join-few (input (contact v)) n = omega arith
-join-few (input (contactn v)) n = omega arith
-join-few (frontAnd f g) n = omega arith
-join-few (frontOr f g) n = omega arith
 
 front-few : (f : Front) → 2 * frontScratch f + 1 ≤ length (frontWords f)
 unfolding frontScratch frontWords

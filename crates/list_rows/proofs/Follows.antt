@@ -11,6 +11,7 @@ use Rattle.questions.specs.Tests.{bit}
 use Rattle.rungs.specs.Records.{RungRecord, offsets}
 use Rattle.rows.specs.Rows.{noRecord, recordAt}
 use Rattle.list_machine.specs.Parts.{startsHere, ascending, before}
+use Rattle.list_machine.specs.Laws.Runs.{starts-few}
 use Rattle.list_machine.specs.Laws.Seeks.{before-most, between-all, go-up, go-down, carried-on}
 use Rattle.list_rows.specs.Parts.{placeOf, Begins, RowFollowed, seekFrom, middleOf, halved, placeAt}
 use Rattle.list_rows.specs.declared.RowPlace.{RowPlace}
@@ -31,21 +32,13 @@ module _ (rs : List RungRecord) (k i : ℕ) (h : k < length rs) where
   above : ascending 0 (offsets rs) → i ≤ getD (offsets rs) k 0 → before (offsets rs) i ≤ k
   above a l = let e = offsets-length rs in go-down (offsets rs) i 0 (length (offsets rs)) k (between-all (offsets rs) i) (omega arith) (omega arith) l .most a
 
-starts-most : (os : List ℕ) (next i : ℕ) → startsHere os next i ≤ 1
-unfolding startsHere
-starts-most os next i = go (ltb next (length os) && eqb (getD os next 0) i)
-  where
-    go : (b : Bool) → bit b ≤ 1
-    go true = omega arith
-    go false = omega arith
-
 -- a record that begins at an index is passed at the next one
 passed : (rs : List RungRecord) (k i : ℕ) → k < length rs → ascending 0 (offsets rs) → getD (offsets rs) k 0 ≡ i → before (offsets rs) (i + 1) ≡ k + 1
 passed rs k i h a e =
     let low = below rs k (i + 1) h a (omega arith) in
     let here = above rs k i h a (omega arith) in
     let next = carried-on 0 rs i a .next in
-    let one = starts-most (offsets rs) (before (offsets rs) i) i in
+    let one = starts-few (offsets rs) (before (offsets rs) i) i in
     omega arith
 
 -- a place that enters a record

@@ -10,7 +10,7 @@ use lib.Dec.{eqb, leb}
 use lib.ListN.{length, take, drop, replicate, length-append, length-replicate}
 use lib.Seq.{length-take-le, take-at}
 use borrow.Author.Tests.{leb-true, leb-false, ne-eqb}
-use Rattle.questions.specs.Questions.{Answer, Refusal, ask, firstNo}
+use Rattle.questions.specs.Questions.{Answer, ask, firstNo}
 use Rattle.questions.specs.Refusals.{refusalOf}
 use Rattle.questions.specs.declared.Refusal.{Refusal as RefusalCase}
 use Rattle.questions.specs.Laws.Answers.{first-yes, vars-in-range}
@@ -28,7 +28,7 @@ use Rattle.text_definitions.specs.declared.Counts.{Counts as KeptStruct}
 use Rattle.text_definitions.specs.declared.TextRead.the-variants.{Kept as KeptCase, Refused as ReadRefusedCase}
 use Rattle.translation_definitions.specs.BothScans.{Lent, lends, BothEnds, BothAnswer, both, refused as bothRefused}
 use Rattle.translation_definitions.specs.BothScans.{bothQuestions, pairedWatchdog, pairedScans, endsIn, bothScannedAnswer, BothScansDone}
-use Rattle.translation_definitions.specs.Laws.Boths.{laterQuestions, ladder-before, both-ends, both-left, both-refused, both-scanned}
+use Rattle.translation_definitions.specs.Laws.Boths.{not-refused, laterQuestions, ladder-before, both-ends, both-left, both-refused, both-scanned}
 use Rattle.translation_definitions.specs.declared.BothEnds.{BothEnds as EndsStruct}
 use Rattle.translation_definitions.specs.declared.BothScanned.{BothScanned}
 use Rattle.translation_definitions.specs.declared.BothScanned.the-variants.{Scanned, Refused}
@@ -90,9 +90,6 @@ not-long h k e = omega arith
 long-table : (vars : ℕ) (table : List ℕ) → vars ≤ 1024 → 1056 < length table → question11 (stateOf vars table) ≡ ask 11 false
 unfolding question11 tableInRange
 long-table vars table h k = let e : eqb (length table) (vars + 32) ≡ false = ne-eqb _ _ (not-long h k) in rw e refl
-
-not-refused : {e : BothEnds} {x : Refusal} → _≡_ {A = BothAnswer} (both e) (bothRefused x) → ⊥
-not-refused e = let z : _≡_ {A = ℕ} 0 1 = cc in omega arith
 
 same-ends : {e d : BothEnds} → _≡_ {A = BothAnswer} (both e) (both d) → e ≡ d
 same-ends q = cc

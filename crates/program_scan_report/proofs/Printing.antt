@@ -8,10 +8,11 @@ use mathlib.Core.List.{List, [], _∷_, _++_}
 use lib.Dec.{T, eqb}
 use lib.ListN.{length, getD, take, drop, length-append}
 use Rattle.questions.specs.Bytes.{bytes, decimal}
-use Rattle.table.specs.Halt.{Halt, Ended, Stopped}
+use Rattle.table.specs.Halt.{Ended, Stopped}
 use Rattle.printing.specs.Put.{Put}
 use Rattle.printing.specs.Laws.Puts.{put-then, Left, all-left, left-none, left-more, decimal-long, decimal-most}
 use Rattle.translation_definitions.specs.BothScans.{BothEnds, haltOf}
+use Rattle.program_definitions.specs.Laws.Bounds.{word-short}
 use Rattle.program_definitions.specs.Scanout.{endWord, endLines, changedLine, changedLines, Verdict, verdictLine}
 use Rattle.program_scan_report.specs.Parts.{verdictIn}
 use Rattle.program_scan_report.specs.declared.Verdict.{Verdict as VerdictCase}
@@ -26,11 +27,6 @@ module _ {l : List ℕ} {i : ℕ} {r : ℕ} {x : List ℕ} where
   pub end-false : (b : Bool) → b ≡ false → Put l i (bytes "Stopped") r x → Put l i (endWord (haltOf b)) r x
   unfolding endWord haltOf
   end-false b e p = rw e p
-
-pub word-long : (h : Halt) → length (endWord h) ≤ 7
-unfolding endWord bytes
-word-long Ended = omega arith
-word-long Stopped = omega arith
 
 module _ {l : List ℕ} {i m1 m2 m3 m4 m5 m6 m7 m8 m9 m10 r : ℕ} {x1 x2 x3 x4 x5 x6 x7 x8 x9 x10 y : List ℕ} where
   pub ends-put : (e : BothEnds)
@@ -206,8 +202,8 @@ pub ends-reach : {l : List ℕ} {r : ℕ} {x : List ℕ} (e : BothEnds) → Put 
     → e .ladder .rungs < 2 ^ 64 → e .list .rungs < 2 ^ 64 → e .list .instructions < 2 ^ 64 → r ≤ 1000
 unfolding endLines bytes
 ends-reach e p hk hr hi =
-    let w = word-long (e .ladderHalt) in
-    let w′ = word-long (e .listHalt) in
+    let w = word-short (e .ladderHalt) in
+    let w′ = word-short (e .listHalt) in
     let dk = decimal-most (e .ladder .rungs) hk in
     let dr = decimal-most (e .list .rungs) hr in
     let di = decimal-most (e .list .instructions) hi in

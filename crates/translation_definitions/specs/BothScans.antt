@@ -39,17 +39,20 @@ lends ladderTable listTable buffers = record { ladderTable = ladderTable; listTa
 unfoldable pub copyQuestion : ℕ → ℕ → Answer
 copyQuestion bytes lent = ask 11 (eqb lent bytes)
 
+-- 11 of the table, and of the two copies, which are lent so many bytes
+abbrev pub tablesQuestions : ℕ → List ℕ → ℕ → ℕ → List Answer
+tablesQuestions vars table ladderBytes listBytes =
+    question11 (stateOf vars table) ∷ copyQuestion (length table) ladderBytes ∷ copyQuestion (length table) listBytes ∷ []
+
 -- 1 and 4 to 9 of the ladder, 11 of the table and of each copy, 12 of the rung watchdog n and of the instruction watchdog w, 13 of the list's buffers
 unfoldable pub bothQuestions : ℕ → Kept → List ℕ → Lent → ℕ → ℕ → List Answer
 bothQuestions vars k table lent n w =
     question1 vars ∷ ladderQuestions vars k
-    ++ question11 (stateOf vars table)
-    ∷ copyQuestion (length table) (length (lent .ladderTable))
-    ∷ copyQuestion (length table) (length (lent .listTable))
-    ∷ question12 mostRungWatchdog n
+    ++ (tablesQuestions vars table (length (lent .ladderTable)) (length (lent .listTable))
+    ++ question12 mostRungWatchdog n
     ∷ question12 mostInstructionWatchdog w
     ∷ question13 (needs (listBuffers (translate vars (ladderOf k))) (lent .buffers))
-    ∷ []
+    ∷ [])
 
 -- Translate's counts, and how each scan halted, with its counts
 pub record BothEnds : Type 0 where

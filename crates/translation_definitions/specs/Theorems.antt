@@ -7,7 +7,7 @@ use mathlib.Core.List.{List, map, flatMap}
 use lib.Dec.{T}
 use lib.ListN.{length}
 use Rattle.questions.specs.Tests.{all}
-use Rattle.questions.specs.Questions.{yes, question12, mostRungWatchdog, mostInstructionWatchdog}
+use Rattle.questions.specs.Questions.{Refusal, yes, question12, mostRungWatchdog, mostInstructionWatchdog}
 use Rattle.questions.specs.Laws.Answers.{ask-passed, passed-ask, each-passed}
 use Rattle.table.specs.State.{State, stateOf, tableSize}
 use Rattle.table.specs.Questions.{question11, Legal}
@@ -31,9 +31,9 @@ use Rattle.translation_definitions.specs.RowsAgree.{keptIn, RowsAgree}
 use Rattle.translation_definitions.specs.Laws.Lists.{start, records-are, start-near, translated-agrees}
 use Rattle.translation_definitions.specs.Laws.Legal.{list-in-range, list-decodes, watchdog-in-range, codes-in-range, codes-short}
 use Rattle.translation_definitions.specs.Laws.Exact.{codes-within}
-use Rattle.translation_definitions.specs.BothScans.{Lent, bothScans, pairedScans}
-use Rattle.translation_definitions.specs.BothAgree.{BothPromise, PairedPromise}
-use Rattle.translation_definitions.specs.Laws.Boths.{both-alike, paired-alike}
+use Rattle.translation_definitions.specs.BothScans.{Lent, BothEnds, both, refused, bothScans, pairedScans}
+use Rattle.translation_definitions.specs.BothAgree.{BothGiven, BothPromise, PairedPromise}
+use Rattle.translation_definitions.specs.Laws.Boths.{both-given, both-runs, refusal-leaves, both-alike, paired-alike}
 use Rattle.translation_definitions.specs.Laws.Calls.{scans-alike, calls-alike}
 use Rattle.translation_definitions.specs.ManyScans.{Scan, ManyGiven, ManyAgree}
 use Rattle.translation_definitions.specs.Laws.Many.{many-alike}
@@ -100,6 +100,15 @@ both-agree vars kept table lent n w given legal = both-alike vars kept table len
 pub paired-agree : (vars : ℕ) (kept : Kept) (table : List ℕ) (lent : Lent) (n : ℕ)
     → PairedPromise vars kept table lent n (pairedScans vars kept table lent n .answer) (pairedScans vars kept table lent n .lent)
 paired-agree vars kept table lent n given = paired-alike vars kept table lent n given
+
+-- Both scans run exactly where ladder, table, copies, watchdogs and room are as demand 3 has them; else a question is refused, and all that was lent stays.
+pub both-exactly : (vars : ℕ) (kept : Kept) (table : List ℕ) (lent : Lent) (n w : ℕ)
+    → ((e : BothEnds) × (bothScans vars kept table lent n w .answer ≡ both e)) ↔ (BothGiven vars kept table lent n × (question12 mostInstructionWatchdog w ≡ yes))
+both-exactly vars kept table lent n w = ((λ x. both-given vars kept table lent n w (x .0) (x .1)), (λ x. both-runs vars kept table lent n (x .0) w (x .1)))
+
+pub both-refusal-leaves : (vars : ℕ) (kept : Kept) (table : List ℕ) (lent : Lent) (n w : ℕ) (r : Refusal)
+    → bothScans vars kept table lent n w .answer ≡ refused r → bothScans vars kept table lent n w .lent ≡ lent
+both-refusal-leaves vars kept table lent n w r e = refusal-leaves vars kept table lent n w r e
 
 -- Beyond demand 3: over any number of scans, an input phase before each, a ladder and its list agree after every one. Of Translate it takes scans-agree alone.
 pub many-scans : (vars : ℕ) (kept : Kept) (scans : List Scan) (t u : List ℕ) → ManyGiven vars kept scans t u → ManyAgree vars kept scans t u

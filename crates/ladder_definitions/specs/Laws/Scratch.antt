@@ -1,5 +1,6 @@
--- A ladder neither reads nor writes scratch. Assumes nothing.
-use Prim.Native.Nat.{ℕ, zero, suc, _+_}
+-- A ladder neither reads nor writes scratch; what a joined front takes of it. Assumes nothing.
+use Prim.Native.Nat.{ℕ, zero, suc, _+_, _≤_}
+use native.Mathlib.Omega.{arith}
 use mathlib.Core.Path.{_≡_, refl, sym, ap}
 use mathlib.Core.Bool.{Bool, true, false, not, _&&_}
 use mathlib.Core.List.{[], _∷_}
@@ -13,7 +14,7 @@ use Rattle.table.specs.Laws.Alike.{Alike, value-alike, write-both, ScratchStays
 use Rattle.rungs.specs.Records.{search}
 use Rattle.ladder_definitions.specs.Tree.{contact, contactn, Front, input, frontAnd, frontOr, Output, coil, coiln, jump, jumpn, Rear, output, rearAnd, rearOr, Rung, Ladder, labels, frontAll, rearAll, rungAll, inputVariable, outputNames}
 use Rattle.ladder_definitions.specs.Meaning.{Worked, workInput, workFront, Run, onward, jumped, left, jumpIf, unlessJumped, runOutput, runRear, runRung, from, follow, LadderResult, scanFrom, scanLadder}
-use Rattle.ladder_definitions.specs.Questions.{inputBelow, namedBelow, outputBelow, rungBelow}
+use Rattle.ladder_definitions.specs.Questions.{inputBelow, namedBelow, outputBelow, rungBelow, joinScratch}
 
 -- rungs that follow are of the ladder
 pub all-follow : (test : Rung → Bool) (gs rest : Ladder) (x : Run) → T (all test gs) → T (all test rest) → T (all test (follow gs rest x))
@@ -170,3 +171,12 @@ scan-from-stays gs (suc n) k (g ∷ rest) s b c =
 pub scan-stays : (gs : Ladder) (n : ℕ) (s : State) → T (all (rungBelow (s .vars)) gs) → ScratchStays s (scanLadder gs n s .state)
 unfolding scanLadder
 scan-stays gs n s b = scan-from-stays gs n 0 gs s b b
+
+-- ---- a front joined takes at most one scratch byte more
+
+pub join-few : (f : Front) (n : ℕ) → joinScratch f n ≤ n + 1
+unfolding joinScratch
+join-few (input (contact v)) n = omega arith
+join-few (input (contactn v)) n = omega arith
+join-few (frontAnd f g) n = omega arith
+join-few (frontOr f g) n = omega arith

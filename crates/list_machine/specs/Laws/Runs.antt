@@ -11,7 +11,7 @@ use lib.Dec.{T, eqb, leb, ltb}
 use lib.ListN.{length, getD, getElem?, length-map}
 use borrow.Author.Tests.{ltb-true, leb-true, leb-false, eqb-true, eqb-false}
 use Rattle.questions.specs.Tests.{bit, all}
-use Rattle.questions.specs.Laws.Tests.{all-head, all-tail}
+use Rattle.questions.specs.Laws.Tests.{all-head, all-tail, bit-few}
 use Rattle.table.specs.State.{State, withBytes}
 use Rattle.rungs.specs.Records.{RungRecord, offsets, isStart}
 use Rattle.list_definitions.specs.Instruction.{Instr, instrWord, instrFits, decodeInstr, decodeCode}
@@ -54,10 +54,6 @@ module _ (ws : List ℕ) (is : List Instr) (d : decodeCode ws ≡ some is) where
   at-end k h = let l = same-length in past-end is k (omega arith)
 
 -- ---- the next record
-
-bit-few : (b : Bool) → bit b ≤ 1
-bit-few true = omega arith
-bit-few false = omega arith
 
 pub starts-few : (os : List ℕ) (next i : ℕ) → startsHere os next i ≤ 1
 unfolding startsHere

@@ -42,7 +42,7 @@ pub data Verdicts (e : BothEnds) (l t : List ℕ) : Type 0 where
 
 module _ (vars : ℕ) (k : Kept) (table : List ℕ) (n : ℕ) (e : BothEnds) (q : pairedScans vars k table (lentFor table) n .answer ≡ both e) where
   agree : PairedAgree vars k (lentFor table .buffers) n (pairedScans vars k table (lentFor table) n .answer) (pairedScans vars k table (lentFor table) n .lent)
-  agree = paired-agree vars k table (lentFor table) n (both-given vars k table (lentFor table) n _ e q)
+  agree = paired-agree vars k table (lentFor table) n (both-given vars k table (lentFor table) n _ e q .0)
 
   same-ends : agree .ran .ends ≡ e
   same-ends = let z : both (agree .ran .ends) ≡ both e = sym (agree .ran .answered) ∙ q in cc

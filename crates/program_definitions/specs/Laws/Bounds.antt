@@ -195,7 +195,7 @@ lines-short v (b ∷ bs) (l ∷ ls) (t ∷ ts) h p q r =
     let x = then (elim (eqb l b && eqb t b) as (λ _. List ℕ) [ true ↦ [] | false ↦ changedLine v b l t ]) (changedLines (suc v) bs ls ts) line rest in
     omega (arith, x)
 
-word-short : (h : Halt) → length (endWord h) ≤ 7
+pub word-short : (h : Halt) → length (endWord h) ≤ 7
 unfolding endWord bytes
 word-short Ended = omega arith
 word-short Stopped = omega arith
@@ -269,7 +269,7 @@ module _ (vars : ℕ) (k : Kept) (table : List ℕ) (n : ℕ) where
       go : (a : BothAnswer) → pairedScans vars k table (lentFor table) n .answer ≡ a → length t ≤ 98304
       go (scansRefused r) a = let z : keptScanned vars k table n ≡ refused r = rw (a, keptScanned) refl in absurd (no-text r t (sym z ∙ q))
       go (both e) a =
-          let given = both-given vars k table (lentFor table) n w e a in
+          let given = both-given vars k table (lentFor table) n w e a .0 in
           let is = both-scanned vars k table (lentFor table) n w
           (asked-yes vars k table (lentFor table) n given w (paired-legal vars k table n (given .given .accepted) (given .given .watchdog))) in
           rw (← (same-text (sym (ap scannedBy is) ∙ q))) (report-short given)

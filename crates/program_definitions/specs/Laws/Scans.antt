@@ -6,7 +6,7 @@ use mathlib.Core.Bool.{Bool, true, false, not, _&&_}
 use mathlib.Core.Option.{Option, none, some}
 use mathlib.Core.List.{[], _∷_}
 use lib.ListN.{getElem?}
-use Rattle.questions.specs.Tests.{bit}
+use Rattle.questions.specs.Laws.Tests.{bit-few}
 use Rattle.table.specs.State.{State, write}
 use Rattle.rungs.specs.Records.{isStart}
 use Rattle.ladder_definitions.specs.Tree.{contact, contactn, Front, input, frontAnd, frontOr, Output, coil, coiln, jump, jumpn, Rear, output, rearAnd, rearOr, Rung, Ladder}
@@ -77,10 +77,6 @@ pub record Within (most : ℕ) (c : Counts) : Type 0 where
   pub instructions : c .instructions ≤ most
   pub rungs : c .rungs ≤ most
 
-bit-small : (b : Bool) → bit b ≤ 1
-bit-small true = omega arith
-bit-small false = omega arith
-
 module _ (l : InstructionList) where
   machine-within : (n most : ℕ) (m : Machine) (t : State) → m .counts .instructions + n ≤ most → m .counts .rungs + n ≤ most → Within most (scanMachine l n m t .counts)
   unfolding halted step count
@@ -90,7 +86,7 @@ module _ (l : InstructionList) where
       go none e = rw (scan-end l 0 m t e) (record { instructions = omega arith; rungs = omega arith })
       go (some i) e = rw (scan-stop l m t i e) (record { instructions = omega arith; rungs = omega arith })
   machine-within (suc n) most m t h k = go (getElem? (l .code) (m .index)) refl
-      (λ i. let b = bit-small (isStart (l .records) (m .index)) in
+      (λ i. let b = bit-few (isStart (l .records) (m .index)) in
       machine-within n most (step (l .records) i m t .0) (step (l .records) i m t .1) (omega arith) (omega (arith, b)))
     where
       go : (o : Option Instr) → getElem? (l .code) (m .index) ≡ o

@@ -6,7 +6,8 @@ use Rattle.list_definitions.specs.ListScan.{countsIn}
 use Rattle.printing.specs.Laws.Puts.{put-long}
 use Rattle.translation_definitions.specs.BothScans.{endsIn}
 use Rattle.printing.specs.Laws.Puts.{text-reach, number-reach}
-use Rattle.program_scan_report.proofs.Printing.{word-long, ends-put}
+use Rattle.program_definitions.specs.Laws.Bounds.{word-short}
+use Rattle.program_scan_report.proofs.Printing.{ends-put}
 use borrow.Author.Needs.{needs}
 use Rattle.program_scan_report.proofs.put_ends.Statement.{statement}
 use Rattle.program_scan_report.proofs.put_ends.Tie as tie
@@ -26,13 +27,13 @@ reach-1 : (c : tie.After-put-text) → c .put-text .result ≤ 21
 reach-1 c = text-reach 21 0 (c .put-text .ensures) (omega arith) (omega arith)
 
 reach-2 : (c : tie.After-put-end) → c .put-end .result ≤ 28
-reach-2 c = text-reach 7 21 (c .put-end .ensures) (word-long _) (reach-1 (c .before .before .before .before))
+reach-2 c = text-reach 7 21 (c .put-end .ensures) (word-short _) (reach-1 (c .before .before .before .before))
 
 reach-3 : (c : tie.After-put-text2) → c .put-text2 .result ≤ 29
 reach-3 c = text-reach 1 28 (c .put-text2 .ensures) (omega arith) (reach-2 (c .before .before .before .before .before))
 
 reach-4 : (c : tie.After-put-end2) → c .put-end2 .result ≤ 36
-reach-4 c = text-reach 7 29 (c .put-end2 .ensures) (word-long _) (reach-3 (c .before .before .before .before))
+reach-4 c = text-reach 7 29 (c .put-end2 .ensures) (word-short _) (reach-3 (c .before .before .before .before))
 
 reach-5 : (c : tie.After-put-text3) → c .put-text3 .result ≤ 43
 reach-5 c = text-reach 7 36 (c .put-text3 .ensures) (omega arith) (reach-4 (c .before .before .before .before .before))

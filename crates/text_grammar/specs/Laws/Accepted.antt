@@ -18,6 +18,7 @@ use Rattle.ladder_definitions.specs.Kept.{encode, decode, inputFits, outputFits
 use Rattle.ladder_definitions.specs.Questions.{joinScratch, frontScratch, rearScratch, rungScratch, scratchInRange, question4, question9}
 use Rattle.ladder_definitions.specs.Theorems.{decoded-exactly}
 use Rattle.ladder_definitions.specs.Laws.Accepting.{ladder-is, some-question4}
+use Rattle.ladder_definitions.specs.Laws.Scratch.{join-few}
 use Rattle.text_grammar.specs.Grammar.{IsNumber, nought, digits, IsFront, oneTerm, moreTerm, IsTerm, oneFactor, moreFactor, IsFactor, cNumber, nNumber, inRound, IsRear, oneBranch, moreBranch, IsBranch, atEnd, factorAnd, IsEnd, oNumber, qNumber, jNumber, kNumber, inSquare, IsLine, line, IsText, oneLine, moreLines, mostBrackets}
 
 number-fits : {w : List ℕ} {v : ℕ} → IsNumber w v → T (isOperand v)
@@ -44,18 +45,11 @@ record RearIn (n : ℕ) (r : Rear) : Type 0 where
   fit : T (rearFits r)
   own : rearScratch r ≤ n
 
-join-most : (f : Front) (n : ℕ) → joinScratch f n ≤ n + 1
-unfolding joinScratch
-join-most (input (contact v)) n = omega arith
-join-most (input (contactn v)) n = omega arith
-join-most (frontAnd f g) n = omega arith
-join-most (frontOr f g) n = omega arith
-
 -- a front joins within one byte more than its own
 joins : {n m : ℕ} {f : Front} → n + 1 ≤ m → FrontIn n f → Joined m f
 joins {f = f} l x =
     let o = x .own in
-    let j = join-most f (frontScratch f) in
+    let j = join-few f (frontScratch f) in
     record { front = record { fit = x .fit; own = omega arith }; join = omega arith }
 
 front-more : {n m : ℕ} {f : Front} → n ≤ m → FrontIn n f → FrontIn m f

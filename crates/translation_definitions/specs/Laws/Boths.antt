@@ -3,7 +3,7 @@ use Prim.Native.Nat.{ℕ, _*_}
 use native.Mathlib.Omega.{arith}
 use mathlib.Core.Path.{_≡_, refl, sym, ap, _∙_}
 use mathlib.Core.Option.{none, some}
-use mathlib.Core.List.{List, [], _∷_}
+use mathlib.Core.List.{List, [], _∷_, _++_}
 use borrow.Author.Tests.{eq-eqb}
 use lib.Dec.{eqb→eq}
 use lib.ListN.{length}
@@ -11,7 +11,6 @@ use Rattle.questions.specs.Questions.{Refusal, Answer, firstNo, ask, question12
 use Rattle.questions.specs.Laws.Answers.{ask-passed, first-yes, later-yes, watchdog-in-range, in-range-watchdog}
 use Rattle.table.specs.Halt.{Halt, Ended, Stopped}
 use Rattle.table.specs.State.{stateOf}
-use Rattle.table.specs.Questions.{question11}
 use Rattle.rungs.specs.Records.{longest}
 use Rattle.rungs.specs.Buffers.{needs, writtenOver}
 use Rattle.ladder_definitions.specs.Kept.{Kept}
@@ -24,12 +23,15 @@ use Rattle.list_definitions.specs.ListScan.{scanEnds as listEnds}
 use Rattle.translation_definitions.specs.Translate.{translate}
 use Rattle.translation_definitions.specs.TranslateKept.{countsOf, listBuffers}
 use Rattle.translation_definitions.specs.Calls.{CallsAlike}
-use Rattle.translation_definitions.specs.BothScans.{Lent, lends, BothEnds, BothAnswer, both, refused, copyQuestion, bothQuestions, bothScans, instructionWatchdog, pairedWatchdog}
+use Rattle.translation_definitions.specs.BothScans.{Lent, lends, BothEnds, BothAnswer, both, refused, copyQuestion, tablesQuestions, bothQuestions, bothScans, instructionWatchdog, pairedWatchdog}
 use Rattle.translation_definitions.specs.BothAgree.{BothGiven, BothRan, BothAgree, PairedAgree}
 use Rattle.translation_definitions.specs.Laws.Calls.{few-rungs, stopped-rungs, ladder-call, list-call, translate-call, scans-alike}
 use Rattle.translation_definitions.specs.Laws.Legal.{watchdog-in-range as most-in-range}
 
 -- ---- the questions
+
+pub not-refused : {e : BothEnds} {r : Refusal} → _≡_ {A = BothAnswer} (both e) (refused r) → ⊥
+not-refused q = let z : _≡_ {A = ℕ} 0 1 = cc in omega arith
 
 pub copy-long : (bytes lent : ℕ) → copyQuestion bytes lent ≡ none → lent ≡ bytes
 unfolding copyQuestion
@@ -39,8 +41,8 @@ module _ (vars : ℕ) (kept : Kept) (table : List ℕ) (lent : Lent) (n : ℕ) w
   -- 11 of the table and its copies, and what follows
   abbrev pub laterQuestions : ℕ → List Answer
   laterQuestions w =
-      question11 (stateOf vars table) ∷ copyQuestion (length table) (length (lent .ladderTable)) ∷ copyQuestion (length table) (length (lent .listTable))
-      ∷ question12 mostRungWatchdog n ∷ question12 mostInstructionWatchdog w ∷ question13 (needs (listBuffers (translate vars (ladderOf kept))) (lent .buffers)) ∷ []
+      tablesQuestions vars table (length (lent .ladderTable)) (length (lent .listTable))
+      ++ question12 mostRungWatchdog n ∷ question12 mostInstructionWatchdog w ∷ question13 (needs (listBuffers (translate vars (ladderOf kept))) (lent .buffers)) ∷ []
 
   pub ladder-before : (w : ℕ) → firstNo (bothQuestions vars kept table lent n w) ≡ firstNo (ladderAnswer vars kept ∷ laterQuestions w)
   unfolding bothQuestions
@@ -74,26 +76,34 @@ module _ (vars : ℕ) (kept : Kept) (table : List ℕ) (lent : Lent) (n : ℕ) w
   both-scanned w e = rw (e, bothScans)
 
   -- both scans ran: every question got a "yes"
-  pub both-given : (w : ℕ) (e : BothEnds) → bothScans vars kept table lent n w .answer ≡ both e → BothGiven vars kept table lent n
+  pub both-given : (w : ℕ) (e : BothEnds) → bothScans vars kept table lent n w .answer ≡ both e → BothGiven vars kept table lent n × (question12 mostInstructionWatchdog w ≡ none)
   both-given w e q = go (firstNo (bothQuestions vars kept table lent n w)) refl
     where
-      no-refusal : (r : Refusal) → _≡_ {A = BothAnswer} (refused r) (both e) → ⊥
-      no-refusal r z = let x : _≡_ {A = ℕ} 0 1 = cc in omega arith
-
-      go : (a : Answer) → firstNo (bothQuestions vars kept table lent n w) ≡ a → BothGiven vars kept table lent n
-      go (some r) a = absurd (no-refusal r (sym (ap (λ c. c .answer) (both-refused w r a)) ∙ q))
+      go : (a : Answer) → firstNo (bothQuestions vars kept table lent n w) ≡ a → BothGiven vars kept table lent n × (question12 mostInstructionWatchdog w ≡ none)
+      go (some r) a = absurd (not-refused (sym q ∙ ap (λ c. c .answer) (both-refused w r a)))
       go none a =
           let e4 = sym (ladder-before w) ∙ a in
           let e11 = later-yes _ _ e4 in
           let first = later-yes _ _ e11 in
           let second = later-yes _ _ first in
           let e12 = later-yes _ _ second in
-          let e13 = later-yes _ _ (later-yes _ _ e12) in
-          record {
-            given = record { accepted = first-yes _ _ e4; room = first-yes _ _ e13; legal = first-yes _ _ e11; watchdog = first-yes _ _ e12 };
-            ladder-copy = copy-long _ _ (first-yes _ _ first);
-            list-copy = copy-long _ _ (first-yes _ _ second);
-          }
+          let e12′ = later-yes _ _ e12 in
+          let e13 = later-yes _ _ e12′ in (
+            record {
+              given = record { accepted = first-yes _ _ e4; room = first-yes _ _ e13; legal = first-yes _ _ e11; watchdog = first-yes _ _ e12 };
+              ladder-copy = copy-long _ _ (first-yes _ _ first);
+              list-copy = copy-long _ _ (first-yes _ _ second);
+            },
+            first-yes _ _ e12′,
+          )
+
+  -- a refusal leaves all that was lent
+  pub refusal-leaves : (w : ℕ) (r : Refusal) → bothScans vars kept table lent n w .answer ≡ refused r → bothScans vars kept table lent n w .lent ≡ lent
+  refusal-leaves w r q = go (firstNo (bothQuestions vars kept table lent n w)) refl
+    where
+      go : (a : Answer) → firstNo (bothQuestions vars kept table lent n w) ≡ a → bothScans vars kept table lent n w .lent ≡ lent
+      go (some y) a = ap (λ c. c .lent) (both-refused w y a)
+      go none a = absurd (not-refused (sym (ap (λ c. c .answer) (both-scanned w a)) ∙ q))
 
 -- ---- k × L and 2 × n are legal
 
@@ -155,6 +165,9 @@ module _ (vars : ℕ) (kept : Kept) (table : List ℕ) (lent : Lent) (n : ℕ) (
           list-call vars kept table n (given .given .accepted) (given .given .legal) (given .given .watchdog) w h,
         ) at a in
         record { ran = ran; alike = rw is b }
+
+  pub both-runs : (w : ℕ) → question12 mostInstructionWatchdog w ≡ none → (e : BothEnds) × (bothScans vars kept table lent n w .answer ≡ both e)
+  both-runs w h = (both-ends vars kept table lent n w, ap (λ c. c .answer) (both-scanned vars kept table lent n w (asked-yes w h)))
 
   pub paired-alike : PairedAgree vars kept (lent .buffers) n (bothScans vars kept table lent n (pairedWatchdog vars kept table n) .answer)
       (bothScans vars kept table lent n (pairedWatchdog vars kept table n) .lent)
