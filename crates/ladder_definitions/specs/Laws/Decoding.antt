@@ -12,6 +12,7 @@ use mir.Facts.{and-yes, yes-and}
 use Rattle.questions.specs.Tests.{all}
 use Rattle.questions.specs.Laws.Tests.{none-some, T→true, all-head, all-tail, all-cons}
 use Rattle.rungs.specs.Records.{RungRecord, lay}
+use Rattle.rungs.specs.Laws.Numbers.{Firsts, _then_, past, every}
 use Rattle.ladder_definitions.specs.Tree.{Input, contact, contactn, Front, input, frontAnd, frontOr, Output, coil, coiln, jump, jumpn, Rear, output, rearAnd, rearOr, Rung, Ladder, frontAll, rearAll, rungAll, inputVariable, outputNames, number}
 use Rattle.rungs.specs.Words.{operands, word}
 use Rattle.ladder_definitions.specs.Kept.{inputKind, outputKind, inputWord, outputWord, frontWords, rearWords, rungWords, Trees, trees, putInput, putFront, putOutput, putRearAnd, putRearOr, noKind, kinds, decodeWords, oneRung, decodeRung, decodeFrom, inputFits, outputFits}
@@ -152,19 +153,21 @@ fits : (v : ℕ) → v < operands → T (ltb v operands)
 fits v h = lt→ltb v operands h
 
 put-word : (k o : ℕ) (ts us : Trees) → getD kinds k noKind o ts ≡ some us → Put (word k o) o ts us
-unfolding kinds inputWord inputKind inputVariable outputWord outputKind outputNames number frontWords inputFits outputFits frontAll
-put-word zero o ts us e = absurd (none-some e)
-put-word (suc zero) o ts us e = put-input 1 contact (λ v. refl) fits o ts us e
-put-word (suc (suc zero)) o ts us e = put-input 2 contactn (λ v. refl) fits o ts us e
-put-word (suc (suc (suc zero))) o ts us e = put-front 3 frontAnd (λ f g. refl) (λ f g. yes-and (frontFits f) (frontFits g)) o ts us e
-put-word (suc (suc (suc (suc zero)))) o ts us e = put-front 4 frontOr (λ f g. refl) (λ f g. yes-and (frontFits f) (frontFits g)) o ts us e
-put-word (suc (suc (suc (suc (suc zero))))) o ts us e = put-output 5 coil (λ v. refl) fits o ts us e
-put-word (suc (suc (suc (suc (suc (suc zero)))))) o ts us e = put-output 6 coiln (λ v. refl) fits o ts us e
-put-word (suc (suc (suc (suc (suc (suc (suc zero))))))) o ts us e = put-output 7 jump (λ v. refl) fits o ts us e
-put-word (suc (suc (suc (suc (suc (suc (suc (suc zero)))))))) o ts us e = put-output 8 jumpn (λ v. refl) fits o ts us e
-put-word (suc (suc (suc (suc (suc (suc (suc (suc (suc zero))))))))) o ts us e = put-rear-and o ts us e
-put-word (suc (suc (suc (suc (suc (suc (suc (suc (suc (suc zero)))))))))) o ts us e = put-rear-or o ts us e
-put-word (suc (suc (suc (suc (suc (suc (suc (suc (suc (suc (suc k))))))))))) o ts us e = absurd (none-some e)
+unfolding kinds inputWord inputKind inputVariable outputWord outputKind outputNames number frontWords inputFits outputFits frontAll Firsts past
+put-word = every 11 (λ k. (o : ℕ) (ts us : Trees) → getD kinds k noKind o ts ≡ some us → Put (word k o) o ts us)
+    ((λ o ts us e. absurd (none-some e))
+    then put-input 1 contact (λ v. refl) fits
+    then put-input 2 contactn (λ v. refl) fits
+    then put-front 3 frontAnd (λ f g. refl) (λ f g. yes-and (frontFits f) (frontFits g))
+    then put-front 4 frontOr (λ f g. refl) (λ f g. yes-and (frontFits f) (frontFits g))
+    then put-output 5 coil (λ v. refl) fits
+    then put-output 6 coiln (λ v. refl) fits
+    then put-output 7 jump (λ v. refl) fits
+    then put-output 8 jumpn (λ v. refl) fits
+    then put-rear-and
+    then put-rear-or
+    then tt)
+    (λ k o ts us e. absurd (none-some e))
 
 record Decoded (ws : List ℕ) (us : Trees) : Type 0 where
   words : ws ≡ wordsOf us

@@ -6,7 +6,7 @@ use native.Mathlib.Omega.{arith}
 use native.Mathlib.Decide.{decLe}
 use mathlib.Core.Path.{_≡_, refl, sym, ap, subst, _∙_}
 use mathlib.Core.Bool.{Bool, true, false, true≢false}
-use mathlib.Core.List.{List, _∷_, _++_, append-assoc}
+use mathlib.Core.List.{List, [], _∷_, _++_, append-assoc}
 use lib.Dec.{T, ltb→lt}
 use lib.ListN.{length, drop, getD, List·getD-eq-default}
 use lib.Seq.{drop-append-seam, drop-drop, getD-drop}
@@ -76,31 +76,29 @@ rear-kind-sort (rearAnd f r) = refl
 rear-kind-sort (rearOr a b) = refl
 
 -- kind and operand tell an input, and an output
+inputBy : ℕ → ℕ → Input
+inputBy k v = getD (contact ∷ contact ∷ contactn ∷ []) k contact v
+
+input-told : (i : Input) → inputBy (inputKind i) (inputVariable i) ≡ i
+unfolding inputBy inputKind inputVariable
+input-told (contact v) = refl
+input-told (contactn v) = refl
+
 same-input : (i j : Input) → inputKind i ≡ inputKind j → inputVariable i ≡ inputVariable j → i ≡ j
-unfolding inputKind inputVariable
-same-input (contact v) (contact u) k o = ap contact o
-same-input (contact v) (contactn u) k o = absurd (omega arith)
-same-input (contactn v) (contact u) k o = absurd (omega arith)
-same-input (contactn v) (contactn u) k o = ap contactn o
+same-input i j k v = sym (input-told i) ∙ rw (k, v) (input-told j)
+
+outputBy : ℕ → ℕ → Output
+outputBy k o = getD (coil ∷ coil ∷ coil ∷ coil ∷ coil ∷ coil ∷ coiln ∷ jump ∷ jumpn ∷ []) k coil o
+
+output-told : (o : Output) → outputBy (outputKind o) (number (outputNames o)) ≡ o
+unfolding outputBy outputKind outputNames number
+output-told (coil v) = refl
+output-told (coiln v) = refl
+output-told (jump l) = refl
+output-told (jumpn l) = refl
 
 same-output : (p q : Output) → outputKind p ≡ outputKind q → number (outputNames p) ≡ number (outputNames q) → p ≡ q
-unfolding outputKind outputNames number
-same-output (coil v) (coil u) k o = ap coil o
-same-output (coil v) (coiln u) k o = absurd (omega arith)
-same-output (coil v) (jump u) k o = absurd (omega arith)
-same-output (coil v) (jumpn u) k o = absurd (omega arith)
-same-output (coiln v) (coil u) k o = absurd (omega arith)
-same-output (coiln v) (coiln u) k o = ap coiln o
-same-output (coiln v) (jump u) k o = absurd (omega arith)
-same-output (coiln v) (jumpn u) k o = absurd (omega arith)
-same-output (jump v) (coil u) k o = absurd (omega arith)
-same-output (jump v) (coiln u) k o = absurd (omega arith)
-same-output (jump v) (jump u) k o = ap jump o
-same-output (jump v) (jumpn u) k o = absurd (omega arith)
-same-output (jumpn v) (coil u) k o = absurd (omega arith)
-same-output (jumpn v) (coiln u) k o = absurd (omega arith)
-same-output (jumpn v) (jump u) k o = absurd (omega arith)
-same-output (jumpn v) (jumpn u) k o = ap jumpn o
+same-output p q k o = sym (output-told p) ∙ rw (k, o) (output-told q)
 
 -- whether a front begins with a word of a sort, and whether a rear does
 abbrev pub startsFront : KindSort → Bool

@@ -12,7 +12,8 @@ use lib.Seq.{slice, take-add, drop-at, drop-drop, length-take-le}
 use borrow.Author.Tests.{eq-eqb, ne-eqb, le-leb}
 use Rattle.rungs.specs.Words.{numberOf, operandOf}
 use Rattle.rungs.specs.Records.{RungRecord}
-use Rattle.ladder_definitions.specs.Tree.{Input, Front, Output, Rung, Ladder}
+use Rattle.rungs.specs.Laws.Numbers.{Firsts, _then_, past, every}
+use Rattle.ladder_definitions.specs.Tree.{Input, contact, contactn, Front, frontAnd, frontOr, Output, coil, coiln, jump, jumpn, Rung, Ladder}
 use Rattle.ladder_definitions.specs.Kept.{Trees, trees, putInput, putFront, putOutput, putRearAnd, putRearOr, noKind, kinds, kindSorts, kindSort, decodeWords, oneRung, decodeRung, decodeFrom, decode}
 use Rattle.ladder_definitions.specs.Questions.{ladderOf, holdsLadder}
 use Rattle.ladder_kept.specs.Pending.{Pending, misplaced, pending, takeFront, splitFront, takeRear, frontRear, splitRear, pendingAfter, completes, holdsFrom}
@@ -90,19 +91,21 @@ rear-or-met (suc o) f r ts = refl
 
 -- a word is put before the trees that are pending after it, and before no others
 word-met : (k o f r : ℕ) (ts : Trees) → met (pendingAfter (kindSort k) o f r) ts ≡ decodedAs f r (getD kinds k noKind o ts)
-unfolding pendingAfter kindSort kindSorts kinds met decodedAs
-word-met zero o f r ts = refl
-word-met (suc zero) o f r ts = input-met _ o f r ts
-word-met (suc (suc zero)) o f r ts = input-met _ o f r ts
-word-met (suc (suc (suc zero))) o f r ts = front-met _ o f r ts
-word-met (suc (suc (suc (suc zero)))) o f r ts = front-met _ o f r ts
-word-met (suc (suc (suc (suc (suc zero))))) o f r ts = output-met _ o f r ts
-word-met (suc (suc (suc (suc (suc (suc zero)))))) o f r ts = output-met _ o f r ts
-word-met (suc (suc (suc (suc (suc (suc (suc zero))))))) o f r ts = output-met _ o f r ts
-word-met (suc (suc (suc (suc (suc (suc (suc (suc zero)))))))) o f r ts = output-met _ o f r ts
-word-met (suc (suc (suc (suc (suc (suc (suc (suc (suc zero))))))))) o f r ts = rear-and-met o f r ts
-word-met (suc (suc (suc (suc (suc (suc (suc (suc (suc (suc zero)))))))))) o f r ts = rear-or-met o f r ts
-word-met (suc (suc (suc (suc (suc (suc (suc (suc (suc (suc (suc k))))))))))) o f r ts = refl
+unfolding pendingAfter kindSort kindSorts kinds met decodedAs Firsts past
+word-met = every 11 (λ k. (o f r : ℕ) (ts : Trees) → met (pendingAfter (kindSort k) o f r) ts ≡ decodedAs f r (getD kinds k noKind o ts))
+    ((λ o f r ts. refl)
+    then input-met contact
+    then input-met contactn
+    then front-met frontAnd
+    then front-met frontOr
+    then output-met coil
+    then output-met coiln
+    then output-met jump
+    then output-met jumpn
+    then rear-and-met
+    then rear-or-met
+    then tt)
+    (λ k o f r ts. refl)
 
 completes-decoded : (f r : ℕ) (ws : List ℕ) → completes f r ws ≡ decodedAs f r (decodeWords ws)
 unfolding completes decodeWords decodedAs shaped met

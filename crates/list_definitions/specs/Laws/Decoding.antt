@@ -9,6 +9,7 @@ use lib.ListN.{getD}
 use Rattle.questions.specs.Tests.{all}
 use Rattle.questions.specs.Laws.Tests.{none-some, all-head, all-tail, all-cons}
 use Rattle.rungs.specs.Words.{operands, word, numberOf, operandOf, isOperand}
+use Rattle.rungs.specs.Laws.Numbers.{Firsts, _then_, past, every}
 use Rattle.list_definitions.specs.Instruction.{Instr, LD, LDN, ST, STN, AND, ANDN, OR, ORN, XOR, XORN, NOT, JMP, JMPC, JMPCN, operand, operandFits, instrFits, opOf, operandNumber, instrWord, noOp, op, onlyNot, ops, decodeInstr, decodeCode}
 
 decode-word : (k x : ℕ) → T (isOperand x) → decodeInstr (word k x) ≡ getD ops k noOp x
@@ -54,23 +55,25 @@ fit : (x : ℕ) → x < operands → T (isOperand x)
 fit x h = lt→ltb x operands h
 
 made-by : (k x : ℕ) (i : Instr) → getD ops k noOp x ≡ some i → Made k x i
-unfolding ops instrWord opOf operandNumber instrFits operand operandFits
-made-by zero x i e = absurd (none-some e)
-made-by (suc zero) x i e = made 1 LD (λ y. refl) fit x i e
-made-by (suc (suc zero)) x i e = made 2 LDN (λ y. refl) fit x i e
-made-by (suc (suc (suc zero))) x i e = made 3 ST (λ y. refl) fit x i e
-made-by (suc (suc (suc (suc zero)))) x i e = made 4 STN (λ y. refl) fit x i e
-made-by (suc (suc (suc (suc (suc zero))))) x i e = made 5 AND (λ y. refl) fit x i e
-made-by (suc (suc (suc (suc (suc (suc zero)))))) x i e = made 6 ANDN (λ y. refl) fit x i e
-made-by (suc (suc (suc (suc (suc (suc (suc zero))))))) x i e = made 7 OR (λ y. refl) fit x i e
-made-by (suc (suc (suc (suc (suc (suc (suc (suc zero)))))))) x i e = made 8 ORN (λ y. refl) fit x i e
-made-by (suc (suc (suc (suc (suc (suc (suc (suc (suc zero))))))))) x i e = made 9 XOR (λ y. refl) fit x i e
-made-by (suc (suc (suc (suc (suc (suc (suc (suc (suc (suc zero)))))))))) x i e = made 10 XORN (λ y. refl) fit x i e
-made-by (suc (suc (suc (suc (suc (suc (suc (suc (suc (suc (suc zero))))))))))) x i e = made-not x i e
-made-by (suc (suc (suc (suc (suc (suc (suc (suc (suc (suc (suc (suc zero)))))))))))) x i e = made 12 JMP (λ y. refl) fit x i e
-made-by (suc (suc (suc (suc (suc (suc (suc (suc (suc (suc (suc (suc (suc zero))))))))))))) x i e = made 13 JMPC (λ y. refl) fit x i e
-made-by (suc (suc (suc (suc (suc (suc (suc (suc (suc (suc (suc (suc (suc (suc zero)))))))))))))) x i e = made 14 JMPCN (λ y. refl) fit x i e
-made-by (suc (suc (suc (suc (suc (suc (suc (suc (suc (suc (suc (suc (suc (suc (suc k))))))))))))))) x i e = absurd (none-some e)
+unfolding ops instrWord opOf operandNumber instrFits operand operandFits Firsts past
+made-by = every 15 (λ k. (x : ℕ) (i : Instr) → getD ops k noOp x ≡ some i → Made k x i)
+    ((λ x i e. absurd (none-some e))
+    then made 1 LD (λ y. refl) fit
+    then made 2 LDN (λ y. refl) fit
+    then made 3 ST (λ y. refl) fit
+    then made 4 STN (λ y. refl) fit
+    then made 5 AND (λ y. refl) fit
+    then made 6 ANDN (λ y. refl) fit
+    then made 7 OR (λ y. refl) fit
+    then made 8 ORN (λ y. refl) fit
+    then made 9 XOR (λ y. refl) fit
+    then made 10 XORN (λ y. refl) fit
+    then made-not
+    then made 12 JMP (λ y. refl) fit
+    then made 13 JMPC (λ y. refl) fit
+    then made 14 JMPCN (λ y. refl) fit
+    then tt)
+    (λ k x i e. absurd (none-some e))
 
 pub instr-decoded : (w : ℕ) (i : Instr) → decodeInstr w ≡ some i → (w ≡ instrWord i) × T (instrFits i)
 unfolding decodeInstr

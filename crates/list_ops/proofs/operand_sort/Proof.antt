@@ -8,7 +8,7 @@ use Rattle.list_ops.proofs.operand_sort.Statement.{statement}
 use Rattle.list_ops.proofs.operand_sort.Tie as tie
 
 returns : tie.Need-returns
-unfolding sortIn
+unfolding sortIn ops
 returns c = no-sort _ (λ l h. omega arith)
 
 returns-2 : tie.Need-returns-2
@@ -24,7 +24,7 @@ unfolding sortIn
 returns-4 c = instruction-sort _ (omega arith) (omega arith)
 
 returns-5 : tie.Need-returns-5
-unfolding sortIn
+unfolding sortIn ops
 returns-5 c = no-sort _ (λ l h. omega arith)
 
 pub operand-sort-spec : {M : Type 1} → statement M

@@ -1,32 +1,24 @@
 -- Sorts of operands by tests of an op's number, and words in range by the sort of their op. Assumes nothing.
-use Prim.Native.Nat.{ℕ, zero, suc, _≤_}
+use Prim.Native.Nat.{ℕ, zero, suc, _≤_, _<_}
 use native.Mathlib.Omega.{arith}
-use native.Mathlib.Decide.{ℕ-discrete, decLe}
+use native.Mathlib.Decide.{ℕ-discrete, decLt}
 use mathlib.Core.Path.{_≡_, refl, sym, _∙_}
 use mathlib.Core.Bool.{Bool, false}
 use mathlib.Core.Option.{Option, none, some}
 use lib.Dec.{eqb, leb, ltb, eqb·suc-zero}
-use lib.ListN.{getD, List·getD-eq-default}
+use lib.ListN.{length, getD, List·getD-eq-default}
 use Rattle.rungs.specs.Words.{numberOf, operandOf}
+use Rattle.rungs.specs.Laws.Numbers.{Firsts, _then_, past, every}
 use Rattle.list_definitions.specs.Instruction.{Instr, operand, noOp, onlyNot, ops, decodeInstr, OperandSort, tableSort, nothingSort, instructionSort, noSort, sortOf, operandSort}
 use Rattle.list_definitions.specs.Questions.{operandInRange, instrInRange, wordInRange}
 use Rattle.list_ops.specs.Sorts.{sortIn}
 use Rattle.list_ops.specs.declared.OperandSort.{OperandSort as OperandSortCase}
 
 pub table-sort : (k : ℕ) → 1 ≤ k → k ≤ 10 → tableSort ≡ operandSort k
-unfolding operandSort ops operand sortOf
-table-sort zero l h = absurd (omega arith)
-table-sort (suc zero) l h = refl
-table-sort (suc (suc zero)) l h = refl
-table-sort (suc (suc (suc zero))) l h = refl
-table-sort (suc (suc (suc (suc zero)))) l h = refl
-table-sort (suc (suc (suc (suc (suc zero))))) l h = refl
-table-sort (suc (suc (suc (suc (suc (suc zero)))))) l h = refl
-table-sort (suc (suc (suc (suc (suc (suc (suc zero))))))) l h = refl
-table-sort (suc (suc (suc (suc (suc (suc (suc (suc zero)))))))) l h = refl
-table-sort (suc (suc (suc (suc (suc (suc (suc (suc (suc zero))))))))) l h = refl
-table-sort (suc (suc (suc (suc (suc (suc (suc (suc (suc (suc zero)))))))))) l h = refl
-table-sort (suc (suc (suc (suc (suc (suc (suc (suc (suc (suc (suc k))))))))))) l h = absurd (omega arith)
+unfolding operandSort ops operand sortOf Firsts past
+table-sort = every 11 (λ k. 1 ≤ k → k ≤ 10 → tableSort ≡ operandSort k)
+    ((λ l h. absurd (omega arith)) then (λ l h. refl) then (λ l h. refl) then (λ l h. refl) then (λ l h. refl) then (λ l h. refl) then (λ l h. refl) then (λ l h. refl) then (λ l h. refl) then (λ l h. refl) then (λ l h. refl) then tt)
+    (λ k l h. absurd (omega arith))
 
 pub instruction-sort : (k : ℕ) → 12 ≤ k → k ≤ 14 → instructionSort ≡ operandSort k
 unfolding operandSort ops operand sortOf
@@ -38,12 +30,12 @@ instruction-sort k l h = go (ℕ-discrete k 12) (ℕ-discrete k 13)
     go (no e) (no f) = let g : k ≡ 14 = omega arith in rw g refl
 
 -- before the first op and past the last there is no sort
-pub no-sort : (k : ℕ) → (1 ≤ k → k ≤ 14 → ⊥) → noSort ≡ operandSort k
+pub no-sort : (k : ℕ) → (1 ≤ k → k < length ops → ⊥) → noSort ≡ operandSort k
 unfolding operandSort ops
 no-sort zero h = refl
-no-sort (suc k) h = go (decLe (suc k) 14)
+no-sort (suc k) h = go (decLt (suc k) (length ops))
   where
-    go : Dec (suc k ≤ 14) → noSort ≡ operandSort (suc k)
+    go : Dec (suc k < length ops) → noSort ≡ operandSort (suc k)
     go (yes l) = absurd (h (omega arith) l)
     go (no l) = rw (List·getD-eq-default ops noOp {n = suc k} (omega arith), operandSort)
 
@@ -64,25 +56,16 @@ rangeBy : ℕ → ℕ → Option Instr → Bool
 rangeBy size n none = false
 rangeBy size n (some i) = instrInRange size n i
 
+of-not : (size n x : ℕ) → rangeBy size n (onlyNot x) ≡ eqb x 0
+unfolding rangeBy onlyNot operand operandInRange
+of-not size n zero = refl
+of-not size n (suc x) = sym (eqb·suc-zero x)
+
 of-op : (size n k x : ℕ) → rangeBy size n (getD ops k noOp x) ≡ sortInRange size n (operandSort k) x
-unfolding rangeBy sortInRange operandSort ops onlyNot operand sortOf operandInRange
-of-op size n zero x = refl
-of-op size n (suc zero) x = refl
-of-op size n (suc (suc zero)) x = refl
-of-op size n (suc (suc (suc zero))) x = refl
-of-op size n (suc (suc (suc (suc zero)))) x = refl
-of-op size n (suc (suc (suc (suc (suc zero))))) x = refl
-of-op size n (suc (suc (suc (suc (suc (suc zero)))))) x = refl
-of-op size n (suc (suc (suc (suc (suc (suc (suc zero))))))) x = refl
-of-op size n (suc (suc (suc (suc (suc (suc (suc (suc zero)))))))) x = refl
-of-op size n (suc (suc (suc (suc (suc (suc (suc (suc (suc zero))))))))) x = refl
-of-op size n (suc (suc (suc (suc (suc (suc (suc (suc (suc (suc zero)))))))))) x = refl
-of-op size n (suc (suc (suc (suc (suc (suc (suc (suc (suc (suc (suc zero))))))))))) zero = refl
-of-op size n (suc (suc (suc (suc (suc (suc (suc (suc (suc (suc (suc zero))))))))))) (suc x) = sym (eqb·suc-zero x)
-of-op size n (suc (suc (suc (suc (suc (suc (suc (suc (suc (suc (suc (suc zero)))))))))))) x = refl
-of-op size n (suc (suc (suc (suc (suc (suc (suc (suc (suc (suc (suc (suc (suc zero))))))))))))) x = refl
-of-op size n (suc (suc (suc (suc (suc (suc (suc (suc (suc (suc (suc (suc (suc (suc zero)))))))))))))) x = refl
-of-op size n (suc (suc (suc (suc (suc (suc (suc (suc (suc (suc (suc (suc (suc (suc (suc k))))))))))))))) x = refl
+unfolding rangeBy sortInRange operandSort ops onlyNot operand sortOf operandInRange Firsts past
+of-op size n = every 15 (λ k. (x : ℕ) → rangeBy size n (getD ops k noOp x) ≡ sortInRange size n (operandSort k) x)
+    ((λ x. refl) then (λ x. refl) then (λ x. refl) then (λ x. refl) then (λ x. refl) then (λ x. refl) then (λ x. refl) then (λ x. refl) then (λ x. refl) then (λ x. refl) then (λ x. refl) then of-not size n then (λ x. refl) then (λ x. refl) then (λ x. refl) then tt)
+    (λ k x. refl)
 
 pub word-by-sort : (size n w : ℕ) → wordInRange size n w ≡ sortInRange size n (operandSort (numberOf w)) (operandOf w)
 unfolding wordInRange decodeInstr rangeBy
