@@ -19,7 +19,7 @@ use Rattle.ladder_definitions.specs.Meaning.{scanLadder, scanFrom, runRung, run
 use Rattle.ladder_definitions.specs.Kept.{Kept, inputKind, outputKind, inputWord, outputWord, frontWords, rearWords, rungWords, encode, putInput, putFront, putOutput, putRearAnd, putRearOr, kinds, decodeWords, oneRung, decodeRung, decodeFrom, decode}
 use Rattle.ladder_definitions.specs.Questions.{ladderOf, holdsLadder, question4, sizesInRange, question5, inputBelow, outputBelow, question6, newLabels, question7, outputLeads, question8, joinScratch, frontScratch, rearScratch, rungScratch, scratchInRange, question9, namedBelow, namedLeads, ladderQuestions, ladderAnswer}
 use Rattle.ladder_definitions.specs.LadderScan.{callLadderScan, scanned, refused, scanEnds as ladderScanEnds, scanQuestions as ladderScanQuestions}
-use Rattle.text_grammar.specs.Reader.{mapP, bind, followed, digitOf, digitsFrom, numeralOf, chain, termBy, frontBy, factorBy, factorOf, termOf, frontOf, opensFactor, branchBy, rearBy, endBy, endOf, rearOf, lineOf, linesOf, textOf}
+use Rattle.text_grammar.specs.Reader.{mapP, bind, followed, digitOf, digitsFrom, numeralOf, chain, termBy, frontBy, factorBy, factorOf, termOf, frontOf, opensFactor, branchBy, rearBy, outputAt, endBy, endOf, rearOf, lineOf, linesOf, textOf}
 use Rattle.text_grammar.specs.Questions.{question3}
 use Rattle.text_definitions.specs.Read.{readText, kept, writtenKept, textLadder, refused as readRefused}
 use Rattle.list_definitions.specs.Instruction.{LD, LDN, ST, AND, ANDN, OR, JMPC, operand, opOf, operandNumber, onlyNot, ops, instrWord, decodeInstr, decodeCode, codeOf}
@@ -159,7 +159,7 @@ unfolding table listA outcomeA run asFar start room instructionWatchdog variable
     frontAll rearAll rungAll scanLadder scanFrom runRung runRear runOutput workFront workInput jumpIf unlessJumped from follow left
     inputKind inputVariable inputWord outputKind outputNames number outputWord frontWords rearWords rungWords encode putInput putFront putOutput putRearAnd putRearOr kinds decodeWords oneRung decodeRung decodeFrom decode
     ladderOf holdsLadder sizesInRange inputBelow namedBelow outputBelow newLabels namedLeads outputLeads joinScratch frontScratch rearScratch rungScratch scratchInRange ladderQuestions ladderAnswer callLadderScan ladderScanQuestions ladderScanEnds
-    mapP bind followed digitOf digitsFrom numeralOf chain termBy frontBy factorBy factorOf termOf frontOf opensFactor branchBy rearBy endBy endOf rearOf lineOf linesOf textOf
+    mapP bind followed digitOf digitsFrom numeralOf chain termBy frontBy factorBy factorOf termOf frontOf opensFactor branchBy rearBy outputAt endBy endOf rearOf lineOf linesOf textOf
     readText writtenKept textLadder operand opOf operandNumber onlyNot ops instrWord decodeInstr decodeCode codeOf scanList scanMachine begin fresh step count does halted
     operandInRange wordInRange recordsLaid listInRange listOf callListScan listScanQuestions listScanEnds F R join outputCode rungCode listRecords translate countsOf translateKept
 bench = refl
@@ -179,6 +179,6 @@ unfolding textJ roomJ bytes
     lay search present asBuffers needs written writtenOver flatMap
     frontAll rearAll rungAll inputKind inputVariable inputWord outputKind outputNames number outputWord frontWords rearWords rungWords encode
     sizesInRange inputBelow namedBelow outputBelow newLabels namedLeads outputLeads
-    mapP bind followed digitOf digitsFrom numeralOf chain termBy frontBy factorBy factorOf termOf frontOf opensFactor branchBy rearBy endBy endOf rearOf
+    mapP bind followed digitOf digitsFrom numeralOf chain termBy frontBy factorBy factorOf termOf frontOf opensFactor branchBy rearBy outputAt endBy endOf rearOf
     lineOf linesOf textOf readText textLadder
 J-worked = refl

@@ -12,7 +12,7 @@ use Rattle.ladder_definitions.specs.Tree.{frontAll, rearAll, rungAll, inputVari
 use Rattle.ladder_definitions.specs.Meaning.{scanLadder, scanFrom, runRung, runRear, runOutput, workFront, workInput, jumpIf, unlessJumped, from, follow, left}
 use Rattle.ladder_definitions.specs.Kept.{inputKind, outputKind, inputWord, outputWord, frontWords, rearWords, rungWords, encode, putInput, putFront, putOutput, putRearAnd, putRearOr, kinds, decodeWords, oneRung, decodeRung, decodeFrom, decode}
 use Rattle.ladder_definitions.specs.Questions.{ladderOf, holdsLadder, question4, sizesInRange, question5, inputBelow, outputBelow, question6, newLabels, question7, outputLeads, question8, joinScratch, frontScratch, rearScratch, rungScratch, scratchInRange, question9, namedBelow, namedLeads, ladderQuestions, ladderAnswer}
-use Rattle.text_grammar.specs.Reader.{mapP, bind, followed, digitOf, digitsFrom, numeralOf, chain, termBy, frontBy, factorBy, factorOf, termOf, frontOf, opensFactor, branchBy, rearBy, endBy, endOf, rearOf, lineOf, linesOf, textOf}
+use Rattle.text_grammar.specs.Reader.{mapP, bind, followed, digitOf, digitsFrom, numeralOf, chain, termBy, frontBy, factorBy, factorOf, termOf, frontOf, opensFactor, branchBy, rearBy, outputAt, endBy, endOf, rearOf, lineOf, linesOf, textOf}
 use Rattle.text_grammar.specs.Questions.{question3}
 use Rattle.text_definitions.specs.Read.{readText, writtenKept, textLadder}
 use Rattle.list_definitions.specs.Instruction.{operand, opOf, operandNumber, onlyNot, ops, instrWord, decodeInstr, decodeCode, codeOf}
@@ -36,7 +36,7 @@ unfolding output outcome textPrinted keptPrinted listPrinted countLine outputOf 
     frontAll rearAll rungAll inputKind inputVariable inputWord outputKind outputNames number outputWord frontWords rearWords rungWords encode putInput putFront putOutput putRearAnd putRearOr
     kinds decodeWords oneRung decodeRung decodeFrom decode ladderOf holdsLadder sizesInRange inputBelow outputBelow newLabels outputLeads joinScratch frontScratch rearScratch rungScratch
     scratchInRange namedBelow namedLeads ladderQuestions ladderAnswer
-    mapP bind followed digitOf digitsFrom numeralOf chain termBy frontBy factorBy factorOf termOf frontOf opensFactor branchBy rearBy endBy endOf rearOf lineOf linesOf textOf
+    mapP bind followed digitOf digitsFrom numeralOf chain termBy frontBy factorBy factorOf termOf frontOf opensFactor branchBy rearBy outputAt endBy endOf rearOf lineOf linesOf textOf
     readText writtenKept textLadder operand opOf operandNumber onlyNot ops instrWord decodeInstr decodeCode codeOf operandInRange wordInRange recordsLaid listInRange listOf
     listing fixedNames trimmed nameOf operandText instrLine labelLine rungLines listingLines ended listingText F R join outputCode rungCode listRecords translate countsOf translateKept
 A-printed = refl
@@ -53,7 +53,7 @@ unfolding scanOutput scanOutcome textScanned keptScanned reportLines endLines en
     frontAll rearAll rungAll inputKind inputVariable inputWord outputKind outputNames number outputWord frontWords rearWords rungWords encode putInput putFront putOutput putRearAnd putRearOr
     kinds decodeWords oneRung decodeRung decodeFrom decode ladderOf holdsLadder sizesInRange inputBelow outputBelow newLabels outputLeads joinScratch frontScratch rearScratch rungScratch
     scratchInRange namedBelow namedLeads ladderQuestions ladderAnswer
-    mapP bind followed digitOf digitsFrom numeralOf chain termBy frontBy factorBy factorOf termOf frontOf opensFactor branchBy rearBy endBy endOf rearOf lineOf linesOf textOf
+    mapP bind followed digitOf digitsFrom numeralOf chain termBy frontBy factorBy factorOf termOf frontOf opensFactor branchBy rearBy outputAt endBy endOf rearOf lineOf linesOf textOf
     readText writtenKept textLadder operand opOf operandNumber onlyNot ops instrWord decodeInstr decodeCode codeOf operandInRange wordInRange recordsLaid listInRange listOf
     F R join outputCode rungCode listRecords translate countsOf translateKept
 A-scanned = refl

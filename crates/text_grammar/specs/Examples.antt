@@ -4,7 +4,7 @@ use mathlib.Core.List.{List, [], _∷_, map}
 use Prim.Native.Nat.{ℕ}
 use Rattle.questions.specs.Bytes.{bytes}
 use Rattle.ladder_definitions.specs.Tree.{contact, contactn, Front, input, frontAnd, frontOr, coil, jump, Rear, output, rearAnd, rearOr, Ladder}
-use Rattle.text_grammar.specs.Reader.{Parse, read, stuck, mapP, bind, followed, digitOf, digitsFrom, numeralOf, chain, termBy, frontBy, factorBy, factorOf, termOf, frontOf, opensFactor, branchBy, rearBy, endBy, endOf, rearOf, rung, lineOf, linesOf, textOf}
+use Rattle.text_grammar.specs.Reader.{Parse, read, stuck, mapP, bind, followed, digitOf, digitsFrom, numeralOf, chain, termBy, frontBy, factorBy, factorOf, termOf, frontOf, opensFactor, branchBy, rearBy, outputAt, endBy, endOf, rearOf, rung, lineOf, linesOf, textOf}
 
 pub record Row : Type 0 where
   pub text : List ℕ
@@ -46,5 +46,5 @@ rows =
     ∷ []
 
 pub texts-read : map (λ (r : Row). textOf (r .text)) rows ≡ map (λ (r : Row). r .answer) rows
-unfolding rows bytes textOf linesOf lineOf rearOf endOf endBy rearBy branchBy opensFactor frontOf termOf factorOf factorBy frontBy termBy chain numeralOf digitsFrom digitOf followed bind mapP
+unfolding rows bytes textOf linesOf lineOf rearOf endOf endBy outputAt rearBy branchBy opensFactor frontOf termOf factorOf factorBy frontBy termBy chain numeralOf digitsFrom digitOf followed bind mapP
 texts-read = refl

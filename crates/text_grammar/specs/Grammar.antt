@@ -2,7 +2,7 @@
 use Prim.Native.Nat.{ℕ, suc, _+_, _*_, _≤_}
 use mathlib.Core.List.{List, [], _∷_, _++_}
 use Rattle.questions.specs.Bytes.{byte}
-use Rattle.ladder_definitions.specs.Tree.{contact, contactn, Front, input, frontAnd, frontOr, coil, coiln, jump, jumpn, Rear, output, rearAnd, rearOr, Rung, Ladder}
+use Rattle.ladder_definitions.specs.Tree.{contact, contactn, Front, input, frontAnd, frontOr, Output, coil, coiln, jump, jumpn, Rear, output, rearAnd, rearOr, Rung, Ladder}
 
 -- digits, of which the first is not 0, and their value
 pub data IsDigits : List ℕ → ℕ → Type 0 where
@@ -40,6 +40,13 @@ mutual
     nNumber : {d : ℕ} {s : List ℕ} {v : ℕ} → IsNumber s v → IsFactor d (byte "n" ∷ s) (input (contactn v))
     inRound : {d : ℕ} {s : List ℕ} {f : Front} → IsFront d s f → IsFactor (suc d) (byte "(" ∷ (s ++ byte ")" ∷ [])) f
 
+-- the letters of outputs, each with what it makes of its number: "o" a coil, "q" a negated coil, "j" a jump, "k" a negated jump
+pub data IsOutput : ℕ → (ℕ → Output) → Type 0 where
+  oLetter : IsOutput (byte "o") coil
+  qLetter : IsOutput (byte "q") coiln
+  jLetter : IsOutput (byte "j") jump
+  kLetter : IsOutput (byte "k") jumpn
+
 mutual
   -- rear = branch, then any number of "|" branch; to the right
   pub data IsRear : ℕ → List ℕ → Rear → Type 0 where
@@ -53,10 +60,7 @@ mutual
 
   -- end = ("o" "q" "j" or "k") number or "[" rear "]"
   pub data IsEnd : ℕ → List ℕ → Rear → Type 0 where
-    oNumber : {d : ℕ} {s : List ℕ} {v : ℕ} → IsNumber s v → IsEnd d (byte "o" ∷ s) (output (coil v))
-    qNumber : {d : ℕ} {s : List ℕ} {v : ℕ} → IsNumber s v → IsEnd d (byte "q" ∷ s) (output (coiln v))
-    jNumber : {d : ℕ} {s : List ℕ} {l : ℕ} → IsNumber s l → IsEnd d (byte "j" ∷ s) (output (jump l))
-    kNumber : {d : ℕ} {s : List ℕ} {l : ℕ} → IsNumber s l → IsEnd d (byte "k" ∷ s) (output (jumpn l))
+    outputNumber : {d b : ℕ} {make : ℕ → Output} {s : List ℕ} {v : ℕ} → IsOutput b make → IsNumber s v → IsEnd d (b ∷ s) (output (make v))
     inSquare : {d : ℕ} {s : List ℕ} {r : Rear} → IsRear d s r → IsEnd (suc d) (byte "[" ∷ (s ++ byte "]" ∷ [])) r
 
 -- line = number ":" front ">" rear LF; at most 15 brackets open together

@@ -1,4 +1,5 @@
 -- Proofs of what Theorems states. No contract cites these modules.
+pub mod Letters
 pub mod Spans
 pub mod Fits
 pub mod Complete

@@ -1,5 +1,6 @@
 -- The reader of a text: the ladder, or the place where reading is stuck. Assumes nothing.
 use mathlib.Core.Bool.{Bool, true, false}
+use mathlib.Core.Option.{Option, none, some}
 use mathlib.Core.List.{List, [], _∷_}
 use Prim.Native.Nat.{ℕ, zero, suc, _+_, _-_, _*_}
 use lib.Dec.{eqb, leb, ltb}
@@ -97,13 +98,21 @@ rearBy branch s zero at = stuck at
 rearBy branch s (suc k) at =
     bind (branch at) (λ n r. let more = mapP (rearOr r) (rearBy branch s k (n + 1)) in pick (eqb (getD s n 0) (byte "|")) more (read n r))
 
+-- what the letter of an output makes of its number; none where a byte is no such letter
+unfoldable pub outputAt : ℕ → Option (ℕ → Output)
+outputAt b =
+    pick (eqb b (byte "o")) (some coil)
+    (pick (eqb b (byte "q")) (some coiln)
+    (pick (eqb b (byte "j")) (some jump)
+    (pick (eqb b (byte "k")) (some jumpn) none)))
+
+-- the output that the letter at `at` begins; where no letter stands there, the other part
+abbrev pub outputOr : Option (ℕ → Output) → List ℕ → ℕ → Parse Rear → Parse Rear
+outputOr (some make) s at other = mapP (λ v. output (make v)) (numeralOf s (at + 1))
+outputOr none s at other = other
+
 unfoldable pub endBy : Parse Rear → List ℕ → ℕ → Parse Rear
-endBy inner s at =
-    let out : (ℕ → Output) → Parse Rear = λ make. mapP (λ v. output (make v)) (numeralOf s (at + 1)) in
-    pick (eqb (getD s at 0) (byte "o")) (out coil)
-    (pick (eqb (getD s at 0) (byte "q")) (out coiln)
-    (pick (eqb (getD s at 0) (byte "j")) (out jump)
-    (pick (eqb (getD s at 0) (byte "k")) (out jumpn) (pick (eqb (getD s at 0) (byte "[")) inner (stuck at)))))
+endBy inner s at = outputOr (outputAt (getD s at 0)) s at (pick (eqb (getD s at 0) (byte "[")) inner (stuck at))
 
 unfoldable pub endOf : ℕ → List ℕ → ℕ → Parse Rear
 endOf zero s at = endBy (stuck at) s at

@@ -5,6 +5,7 @@ ghost use Rattle.text_grammar.specs.Reader.{rearOf, branchOf, endOf, opensFacto
 ghost use Rattle.ladder_definitions.specs.Kept.{rearWords};
 ghost use Rattle.text_fronts.specs.Parts.{PartRead};
 ghost use Rattle.text_grammar.specs.Grammar.{mostBrackets};
+ghost use Rattle.text_rears.specs.Letters.{letterKind};
 use rungs::OPERANDS;
 use text_fronts::part::Parsed;
 
@@ -25,6 +26,19 @@ fn opens(b: u8) -> bool
     }
 }
 
+// The kind of the output that a letter begins; 0 where it begins none.
+fn output_kind(b: u8) -> u32
+    ensures { λ r. ⌜ r ≡ letterKind b ⌝ }
+{
+    match b {
+        b'o' => ladder_kinds::COIL,
+        b'q' => ladder_kinds::NEGATED_COIL,
+        b'j' => ladder_kinds::JUMP,
+        b'k' => ladder_kinds::NEGATED_JUMP,
+        _ => 0,
+    }
+}
+
 // The end of a branch: an output, or a rear in brackets.
 fn rear_end(text: &[u8], at: usize, depth: usize, rung: &mut [u32], put: usize) -> Parsed
     requires { ⌜ (depth ≤ mostBrackets) × (put < at) ⌝ }
@@ -32,17 +46,9 @@ fn rear_end(text: &[u8], at: usize, depth: usize, rung: &mut [u32], put: usize) 
         (now (rung .entry)) (now (rung .exit)) ⌝ }
 {
     let b = text_grammar::byte_at(text, at);
-    if b == b'o' {
-        return text_fronts::part::leaf(text, at, ladder_kinds::COIL, rung, put);
-    }
-    if b == b'q' {
-        return text_fronts::part::leaf(text, at, ladder_kinds::NEGATED_COIL, rung, put);
-    }
-    if b == b'j' {
-        return text_fronts::part::leaf(text, at, ladder_kinds::JUMP, rung, put);
-    }
-    if b == b'k' {
-        return text_fronts::part::leaf(text, at, ladder_kinds::NEGATED_JUMP, rung, put);
+    let kind = output_kind(b);
+    if kind != 0 {
+        return text_fronts::part::leaf(text, at, kind, rung, put);
     }
     if b != b'[' {
         return Parsed::Stuck { place: at };

@@ -13,13 +13,14 @@ use Rattle.questions.specs.Laws.Tests.{all-one, all-cons}
 use Rattle.questions.specs.Laws.Answers.{passed-ask}
 use Rattle.table.specs.State.{scratchBytes}
 use Rattle.rungs.specs.Words.{operands, isOperand}
-use Rattle.ladder_definitions.specs.Tree.{contact, contactn, Front, input, frontAnd, frontOr, coil, coiln, jump, jumpn, Rear, output, rearAnd, rearOr, frontAll, rearAll, rungAll, Rung, Ladder, inputVariable, outputNames, number}
+use Rattle.ladder_definitions.specs.Tree.{contact, contactn, Front, input, frontAnd, frontOr, Output, Rear, output, rearAnd, rearOr, frontAll, rearAll, rungAll, Rung, Ladder, inputVariable}
 use Rattle.ladder_definitions.specs.Kept.{encode, decode, inputFits, outputFits}
 use Rattle.ladder_definitions.specs.Questions.{joinScratch, frontScratch, rearScratch, rungScratch, scratchInRange, question4, question9}
 use Rattle.ladder_definitions.specs.Theorems.{decoded-exactly}
 use Rattle.ladder_definitions.specs.Laws.Accepting.{ladder-is, some-question4}
 use Rattle.ladder_definitions.specs.Laws.Scratch.{join-few}
-use Rattle.text_grammar.specs.Grammar.{IsNumber, nought, digits, IsFront, oneTerm, moreTerm, IsTerm, oneFactor, moreFactor, IsFactor, cNumber, nNumber, inRound, IsRear, oneBranch, moreBranch, IsBranch, atEnd, factorAnd, IsEnd, oNumber, qNumber, jNumber, kNumber, inSquare, IsLine, line, IsText, oneLine, moreLines, mostBrackets}
+use Rattle.text_grammar.specs.Grammar.{IsNumber, nought, digits, IsFront, oneTerm, moreTerm, IsTerm, oneFactor, moreFactor, IsFactor, cNumber, nNumber, inRound, IsRear, oneBranch, moreBranch, IsBranch, atEnd, factorAnd, IsEnd, outputNumber, inSquare, IsLine, line, IsText, oneLine, moreLines, mostBrackets}
+use Rattle.text_grammar.specs.Laws.Letters.{Letter, letter}
 
 number-fits : {w : List ℕ} {v : ℕ} → IsNumber w v → T (isOperand v)
 number-fits nought = lt→ltb 0 operands (omega arith)
@@ -74,21 +75,9 @@ or-in : {n : ℕ} {f g : Front} → FrontIn n f → Joined n g → FrontIn n (fr
 unfolding frontAll frontScratch
 or-in {f = f} {g = g} x y = let a = x .own in let b = y .join in record { fit = yes-and (frontFits f) (frontFits g) (x .fit) (y .front .fit); own = omega arith }
 
-coil-in : (n v : ℕ) → T (isOperand v) → RearIn n (output (coil v))
-unfolding rearAll outputFits outputNames number rearScratch
-coil-in n v h = record { fit = h; own = omega arith }
-
-coiln-in : (n v : ℕ) → T (isOperand v) → RearIn n (output (coiln v))
-unfolding rearAll outputFits outputNames number rearScratch
-coiln-in n v h = record { fit = h; own = omega arith }
-
-jump-in : (n l : ℕ) → T (isOperand l) → RearIn n (output (jump l))
-unfolding rearAll outputFits outputNames number rearScratch
-jump-in n l h = record { fit = h; own = omega arith }
-
-jumpn-in : (n l : ℕ) → T (isOperand l) → RearIn n (output (jumpn l))
-unfolding rearAll outputFits outputNames number rearScratch
-jumpn-in n l h = record { fit = h; own = omega arith }
+output-in : {b : ℕ} {make : ℕ → Output} (n v : ℕ) → Letter b make → T (isOperand v) → RearIn n (output (make v))
+unfolding rearAll outputFits rearScratch
+output-in n v x h = record { fit = rw (x .names v) h; own = omega arith }
 
 rear-and : {n : ℕ} {f : Front} {r : Rear} → Joined n f → RearIn n r → RearIn n (rearAnd f r)
 unfolding rearAll rearScratch
@@ -126,14 +115,8 @@ module _ (d : ℕ) (ends : (w : List ℕ) (r : Rear) → IsEnd d w r → RearIn 
   rear-in (moreBranch x y) = rear-or (branch-in x) (rear-in y)
 
 end-in : (d : ℕ) (w : List ℕ) (r : Rear) → IsEnd d w r → RearIn (2 * d) r
-end-in zero w r (oNumber {v = v} x) = coil-in (2 * zero) v (number-fits x)
-end-in zero w r (qNumber {v = v} x) = coiln-in (2 * zero) v (number-fits x)
-end-in zero w r (jNumber {l = l} x) = jump-in (2 * zero) l (number-fits x)
-end-in zero w r (kNumber {l = l} x) = jumpn-in (2 * zero) l (number-fits x)
-end-in (suc d) w r (oNumber {v = v} x) = coil-in (2 * suc d) v (number-fits x)
-end-in (suc d) w r (qNumber {v = v} x) = coiln-in (2 * suc d) v (number-fits x)
-end-in (suc d) w r (jNumber {l = l} x) = jump-in (2 * suc d) l (number-fits x)
-end-in (suc d) w r (kNumber {l = l} x) = jumpn-in (2 * suc d) l (number-fits x)
+end-in zero w r (outputNumber {v = v} x y) = output-in (2 * zero) v (letter x) (number-fits y)
+end-in (suc d) w r (outputNumber {v = v} x y) = output-in (2 * suc d) v (letter x) (number-fits y)
 end-in (suc d) w r (inSquare x) = rear-more (omega arith) (rear-in d (end-in d) x)
 
 line-fits : {w : List ℕ} {g : Rung} → IsLine w g → T (rungAll inputFits outputFits g)

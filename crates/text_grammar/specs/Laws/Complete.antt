@@ -7,9 +7,10 @@ use native.Mathlib.Omega.{arith}
 use borrow.Author.Tests.{eq-eqb, ne-eqb, lt-leb, lt-ltb, le-ltb}
 use lib.ListN.{length, getD, length-append}
 use lib.Seq.{drop-length}
-use Rattle.ladder_definitions.specs.Tree.{contact, contactn, Front, input, frontAnd, frontOr, coil, coiln, jump, jumpn, Rear, output, rearAnd, rearOr, Rung, Ladder}
-use Rattle.text_grammar.specs.Grammar.{IsDigits, first, next, IsNumber, nought, digits, IsFront, oneTerm, moreTerm, IsTerm, oneFactor, moreFactor, IsFactor, cNumber, nNumber, inRound, IsRear, oneBranch, moreBranch, IsBranch, atEnd, factorAnd, IsEnd, oNumber, qNumber, jNumber, kNumber, inSquare, IsLine, line, IsText, oneLine, moreLines, mostNumber, mostBrackets}
-use Rattle.text_grammar.specs.Reader.{Parse, read, mapP, bind, followed, digitOf, digitsFrom, numeralOf, chain, termBy, frontBy, factorBy, factorOf, termOf, frontOf, opensFactor, branchBy, rearBy, endBy, endOf, rearOf, rung, lineOf, linesOf, textOf}
+use Rattle.ladder_definitions.specs.Tree.{contact, contactn, Front, input, frontAnd, frontOr, Output, Rear, output, rearAnd, rearOr, Rung, Ladder}
+use Rattle.text_grammar.specs.Grammar.{IsDigits, first, next, IsNumber, nought, digits, IsFront, oneTerm, moreTerm, IsTerm, oneFactor, moreFactor, IsFactor, cNumber, nNumber, inRound, IsRear, oneBranch, moreBranch, IsBranch, atEnd, factorAnd, IsEnd, outputNumber, inSquare, IsLine, line, IsText, oneLine, moreLines, mostNumber, mostBrackets}
+use Rattle.text_grammar.specs.Reader.{Parse, read, mapP, bind, followed, digitOf, digitsFrom, numeralOf, chain, termBy, frontBy, factorBy, factorOf, termOf, frontOf, opensFactor, branchBy, rearBy, outputAt, endBy, endOf, rearOf, rung, lineOf, linesOf, textOf}
+use Rattle.text_grammar.specs.Laws.Letters.{Letter, letter}
 use Rattle.text_grammar.specs.Laws.Spans.{Span, inside, span-cut, span-head, span-tail, digit-of}
 
 low : (b : ℕ) → b < 48 → digitOf b ≡ 10
@@ -195,10 +196,7 @@ module _ (s : List ℕ) where
 
   end-opens : {d : ℕ} {w : List ℕ} {r : Rear} → IsEnd d w r → (at m : ℕ) → Span s at m w → opensFactor (getD s at 0) ≡ false
   unfolding opensFactor
-  end-opens (oNumber x) at m z = rw (span-head z) refl
-  end-opens (qNumber x) at m z = rw (span-head z) refl
-  end-opens (jNumber x) at m z = rw (span-head z) refl
-  end-opens (kNumber x) at m z = rw (span-head z) refl
+  end-opens (outputNumber x y) at m z = rw (span-head z) (letter x .noFactor)
   end-opens (inSquare x) at m z = rw (span-head z) refl
 
   module _ (d : ℕ) where
@@ -240,28 +238,14 @@ module _ (s : List ℕ) where
     unfolding RearRead rearWith rearOf
     rear-whole at m r h b = b (suc (length s)) (omega arith)
 
-  o-read : (d at m v : ℕ) → getD s at 0 ≡ 111 → numeralOf s (at + 1) ≡ read m v → endOf d s at ≡ read m (output (coil v))
+  -- ends by their first byte
+  output-read : {b : ℕ} {make : ℕ → Output} (d at m v : ℕ) → Letter b make → getD s at 0 ≡ b → numeralOf s (at + 1) ≡ read m v → endOf d s at ≡ read m (output (make v))
   unfolding endOf endBy mapP
-  o-read zero at m v b e = rw (b, e) refl
-  o-read (suc d) at m v b e = rw (b, e) refl
-
-  q-read : (d at m v : ℕ) → getD s at 0 ≡ 113 → numeralOf s (at + 1) ≡ read m v → endOf d s at ≡ read m (output (coiln v))
-  unfolding endOf endBy mapP
-  q-read zero at m v b e = rw (b, e) refl
-  q-read (suc d) at m v b e = rw (b, e) refl
-
-  j-read : (d at m v : ℕ) → getD s at 0 ≡ 106 → numeralOf s (at + 1) ≡ read m v → endOf d s at ≡ read m (output (jump v))
-  unfolding endOf endBy mapP
-  j-read zero at m v b e = rw (b, e) refl
-  j-read (suc d) at m v b e = rw (b, e) refl
-
-  k-read : (d at m v : ℕ) → getD s at 0 ≡ 107 → numeralOf s (at + 1) ≡ read m v → endOf d s at ≡ read m (output (jumpn v))
-  unfolding endOf endBy mapP
-  k-read zero at m v b e = rw (b, e) refl
-  k-read (suc d) at m v b e = rw (b, e) refl
+  output-read zero at m v x b e = rw (b, x .known, e) refl
+  output-read (suc d) at m v x b e = rw (b, x .known, e) refl
 
   square-read : (d at m : ℕ) (r : Rear) → getD s at 0 ≡ 91 → rearOf d s (at + 1) ≡ read m r → getD s m 0 ≡ 93 → endOf (suc d) s at ≡ read (m + 1) r
-  unfolding endOf endBy followed rearOf
+  unfolding endOf endBy outputAt followed rearOf
   square-read d at m r b e x = rw (b, e, eq-eqb _ _ x) refl
 
   pub past : (m b : ℕ) → getD s m 0 ≡ b → 0 < b → m + 1 ≤ length s
@@ -292,14 +276,8 @@ module _ (s : List ℕ) where
     rear-then {w} {r} x at m h z e a = rear-whole d at m r h (rear-runs x at m h z e a)
 
   end-read : (d : ℕ) (w : List ℕ) (r : Rear) → IsEnd d w r → (at m : ℕ) → Span s at m w → Ends m → endOf d s at ≡ read m r
-  end-read zero w r (oNumber {v = v} x) at m z e = o-read zero at m v (span-head z) (number-read x (at + 1) m (span-tail z) e)
-  end-read zero w r (qNumber {v = v} x) at m z e = q-read zero at m v (span-head z) (number-read x (at + 1) m (span-tail z) e)
-  end-read zero w r (jNumber {l = v} x) at m z e = j-read zero at m v (span-head z) (number-read x (at + 1) m (span-tail z) e)
-  end-read zero w r (kNumber {l = v} x) at m z e = k-read zero at m v (span-head z) (number-read x (at + 1) m (span-tail z) e)
-  end-read (suc d) w r (oNumber {v = v} x) at m z e = o-read (suc d) at m v (span-head z) (number-read x (at + 1) m (span-tail z) e)
-  end-read (suc d) w r (qNumber {v = v} x) at m z e = q-read (suc d) at m v (span-head z) (number-read x (at + 1) m (span-tail z) e)
-  end-read (suc d) w r (jNumber {l = v} x) at m z e = j-read (suc d) at m v (span-head z) (number-read x (at + 1) m (span-tail z) e)
-  end-read (suc d) w r (kNumber {l = v} x) at m z e = k-read (suc d) at m v (span-head z) (number-read x (at + 1) m (span-tail z) e)
+  end-read zero w r (outputNumber {v = v} x y) at m z e = output-read zero at m v (letter x) (span-head z) (number-read y (at + 1) m (span-tail z) e)
+  end-read (suc d) w r (outputNumber {v = v} x y) at m z e = output-read (suc d) at m v (letter x) (span-head z) (number-read y (at + 1) m (span-tail z) e)
   end-read (suc d) w r (inSquare {s = u} x) at m z e =
       let i = at + 1 + length u in
       let p = span-cut u (93 ∷ []) (span-tail z) in

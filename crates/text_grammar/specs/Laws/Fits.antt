@@ -1,15 +1,17 @@
 -- What is read is in the grammar, and what is read before the reader is stuck begins something of the grammar. Assumes nothing.
 use mathlib.Core.Path.{_≡_, refl}
 use mathlib.Core.Bool.{Bool, true, false}
+use mathlib.Core.Option.{Option, none, some}
 use mathlib.Core.List.{List, [], _∷_, _++_, append-assoc, append-nil}
 use Prim.Native.Nat.{ℕ, zero, suc, _+_, _*_, _≤_, _<_}
 use native.Mathlib.Omega.{arith}
 use borrow.Author.Tests.{eqb-true, eqb-false, leb-false, ltb-false}
 use lib.Dec.{eqb, leb, ltb}
 use lib.ListN.{length, getD}
-use Rattle.ladder_definitions.specs.Tree.{contact, contactn, Front, input, frontAnd, frontOr, Output, coil, coiln, jump, jumpn, Rear, output, rearAnd, rearOr, Rung, Ladder}
-use Rattle.text_grammar.specs.Grammar.{IsDigits, first, next, IsNumber, nought, digits, IsFront, oneTerm, moreTerm, IsTerm, oneFactor, moreFactor, IsFactor, cNumber, nNumber, inRound, IsRear, oneBranch, moreBranch, IsBranch, atEnd, factorAnd, IsEnd, oNumber, qNumber, jNumber, kNumber, inSquare, IsLine, line, IsText, oneLine, moreLines, mostNumber, mostBrackets}
-use Rattle.text_grammar.specs.Reader.{pick, Parse, read, stuck, mapP, bind, followed, digitOf, digitsFrom, numeralOf, chain, termBy, frontBy, factorBy, factorOf, frontOf, opensFactor, branchBy, rearBy, endBy, endOf, rearOf, rung, lineOf, linesOf, textOf}
+use Rattle.ladder_definitions.specs.Tree.{contact, contactn, Front, input, frontAnd, frontOr, Output, coil, Rear, output, rearAnd, rearOr, Rung, Ladder}
+use Rattle.text_grammar.specs.Grammar.{IsDigits, first, next, IsNumber, nought, digits, IsFront, oneTerm, moreTerm, IsTerm, oneFactor, moreFactor, IsFactor, cNumber, nNumber, inRound, IsRear, oneBranch, moreBranch, IsBranch, atEnd, factorAnd, oLetter, IsEnd, outputNumber, inSquare, IsLine, line, IsText, oneLine, moreLines, mostNumber, mostBrackets}
+use Rattle.text_grammar.specs.Reader.{pick, Parse, read, stuck, mapP, bind, followed, digitOf, digitsFrom, numeralOf, chain, termBy, frontBy, factorBy, factorOf, frontOf, opensFactor, branchBy, rearBy, outputAt, outputOr, endBy, endOf, rearOf, rung, lineOf, linesOf, textOf}
+use Rattle.text_grammar.specs.Laws.Letters.{letter, known-letter}
 use Rattle.text_grammar.specs.Laws.Spans.{Span, span-none, span-byte, span-join, span-snoc, digit-is}
 
 -- A reader's answer at a place, against what a nonterminal has: what is read belongs to it, and what stands before the place where the reader is stuck begins something that belongs to it.
@@ -154,20 +156,20 @@ module _ (s : List ℕ) where
   module _ (d : ℕ) (factor : ℕ → Parse Front) (end : ℕ → Parse Rear) (factors : (m : ℕ) → Fits (IsFactor d) s m (factor m)) (ends : (m : ℕ) → Fits (IsEnd d) s m (end m)) where
     pub branch-by-fits : (k at : ℕ) → Fits (IsBranch d) s at (branchBy factor end s k at)
     unfolding branchBy
-    branch-by-fits zero at = begins [] (111 ∷ 48 ∷ []) coil0 span-none (atEnd (oNumber nought))
+    branch-by-fits zero at = begins [] (111 ∷ 48 ∷ []) coil0 span-none (atEnd (outputNumber oLetter nought))
     branch-by-fits (suc k) at =
         let And : List ℕ → Front → Type 0 = λ w f. (v : List ℕ) (r : Rear) → IsBranch d v r → IsBranch d (w ++ v) (rearAnd f r) in
         let After : Front → List ℕ → Rear → Type 0 = λ f v b. (w : List ℕ) → And w f → IsBranch d (w ++ v) b in
         cases (Fits (IsBranch d) s at) (opensFactor (getD s at 0)) (bind (followed s 38 (factor at)) (λ m f. mapP (rearAnd f) (branchBy factor end s k m))) (end at)
         (λ t. fits-bind After (IsBranch d) (λ m f. mapP (rearAnd f) (branchBy factor end s k m)) (λ w v a b x y. y w x)
-        (λ f. (111 ∷ 48 ∷ [], rearAnd f coil0, λ w x. x (111 ∷ 48 ∷ []) coil0 (atEnd (oNumber nought))))
+        (λ f. (111 ∷ 48 ∷ [], rearAnd f coil0, λ w x. x (111 ∷ 48 ∷ []) coil0 (atEnd (outputNumber oLetter nought))))
         (fits-followed And 38 (omega arith) (λ w f x v r y. rw append-assoc (factorAnd x y)) (factors at))
         (λ m f. fits-map (After f) (rearAnd f) (λ v r x w y. y v r x) (branch-by-fits k m)))
         (λ t. fits-same (IsBranch d) (λ w a x. atEnd x) (ends at))
 
     pub rear-by-fits : (k l at : ℕ) → Fits (IsRear d) s at (rearBy (branchBy factor end s l) s k at)
     unfolding rearBy
-    rear-by-fits zero l at = begins [] (111 ∷ 48 ∷ []) coil0 span-none (oneBranch (atEnd (oNumber nought)))
+    rear-by-fits zero l at = begins [] (111 ∷ 48 ∷ []) coil0 span-none (oneBranch (atEnd (outputNumber oLetter nought)))
     rear-by-fits (suc k) l at =
         let After : Rear → List ℕ → Rear → Type 0 = λ r v b. (w : List ℕ) → IsBranch d w r → IsRear d (w ++ v) b in
         let more : ℕ → Rear → Parse Rear = λ m r. mapP (rearOr r) (rearBy (branchBy factor end s l) s k (m + 1)) in
@@ -178,22 +180,22 @@ module _ (s : List ℕ) where
         (λ t. fits-byte (After r) 124 (omega arith) (eqb-true _ _ t) (λ w a x. x) (fits-map (λ v b. After r (124 ∷ v) b) (rearOr r) (λ v q x w y. moreBranch y x) (rear-by-fits k l (m + 1))))
         (λ t. fits [] span-none (λ w x. rw append-nil (oneBranch x))))
 
+  output-fits : (d at : ℕ) (other : Parse Rear) (o : Option (ℕ → Output)) → outputAt (getD s at 0) ≡ o → Fits (IsEnd d) s at other → Fits (IsEnd d) s at (outputOr o s at other)
+  output-fits d at other (some make) e h =
+      let b = getD s at 0 in
+      let x = known-letter b make e in
+      fits-byte (IsEnd d) b (letter x .positive) refl (λ w a y. y) (fits-map (λ w a. IsEnd d (b ∷ w) a) (λ v. output (make v)) (λ w v y. outputNumber x y) (number-fits (at + 1)))
+  output-fits d at other none e h = h
+
   end-by-fits : (d at : ℕ) (inner : Parse Rear) → (getD s at 0 ≡ 91 → Fits (IsEnd d) s at inner) → Fits (IsEnd d) s at (endBy inner s at)
   unfolding endBy
   end-by-fits d at inner h =
-      let F = Fits (IsEnd d) s at in
-      let one : (b : ℕ) → 0 < b → (make : ℕ → Output) → ((w : List ℕ) (v : ℕ) → IsNumber w v → IsEnd d (b ∷ w) (output (make v))) → eqb (getD s at 0) b ≡ true
-      → F (mapP (λ v. output (make v)) (numeralOf s (at + 1))) =
-      λ b g make x t. fits-byte (IsEnd d) b g (eqb-true _ _ t) (λ w a y. y) (fits-map (λ w a. IsEnd d (b ∷ w) a) (λ v. output (make v)) x (number-fits (at + 1))) in
-      cases F (eqb (getD s at 0) 111) _ _ (one 111 (omega arith) coil (λ w v x. oNumber x)) (λ t.
-      cases F (eqb (getD s at 0) 113) _ _ (one 113 (omega arith) coiln (λ w v x. qNumber x)) (λ t.
-      cases F (eqb (getD s at 0) 106) _ _ (one 106 (omega arith) jump (λ w v x. jNumber x)) (λ t.
-      cases F (eqb (getD s at 0) 107) _ _ (one 107 (omega arith) jumpn (λ w v x. kNumber x)) (λ t.
-      cases F (eqb (getD s at 0) 91) inner (stuck at) (λ t. h (eqb-true _ _ t)) (λ t. begins [] (111 ∷ 48 ∷ []) coil0 span-none (oNumber nought))))))
+      output-fits d at (pick (eqb (getD s at 0) 91) inner (stuck at)) (outputAt (getD s at 0)) refl
+      (cases (Fits (IsEnd d) s at) (eqb (getD s at 0) 91) inner (stuck at) (λ t. h (eqb-true _ _ t)) (λ t. begins [] (111 ∷ 48 ∷ []) coil0 span-none (outputNumber oLetter nought)))
 
   pub end-fits : (d at : ℕ) → Fits (IsEnd d) s at (endOf d s at)
   unfolding endOf
-  end-fits zero at = end-by-fits zero at (stuck at) (λ e. begins [] (111 ∷ 48 ∷ []) coil0 span-none (oNumber nought))
+  end-fits zero at = end-by-fits zero at (stuck at) (λ e. begins [] (111 ∷ 48 ∷ []) coil0 span-none (outputNumber oLetter nought))
   end-fits (suc d) at =
       end-by-fits (suc d) at (followed s 93 (rearBy (branchBy (factorOf d s) (endOf d s) s (suc (length s))) s (suc (length s)) (at + 1))) (λ e.
       fits-byte (IsEnd (suc d)) 91 (omega arith) e (λ w a x. x)
@@ -221,7 +223,7 @@ module _ (s : List ℕ) where
   unfolding AfterLabel AfterFront
   rest-of-line l at =
       fits-bind (AfterFront l) (AfterLabel l) (λ m f. mapP (rung l f) (followed s 10 (rearOf mostBrackets s m))) (λ w v a b x y. x v b y)
-      (λ f. (111 ∷ 48 ∷ 10 ∷ [], rung l f coil0, λ w t y z. line {u = 111 ∷ 48 ∷ []} y z (oneBranch (atEnd (oNumber nought)))))
+      (λ f. (111 ∷ 48 ∷ 10 ∷ [], rung l f coil0, λ w t y z. line {u = 111 ∷ 48 ∷ []} y z (oneBranch (atEnd (outputNumber oLetter nought)))))
       (fits-followed (λ w f. (v : List ℕ) (g : Rung) → AfterFront l f v g → AfterLabel l (w ++ v) g) 62 (omega arith)
       (λ t f x v g y w z. rw append-assoc (y w t z x)) (front-fits mostBrackets at))
       (λ m f. rear-of-line l f m)
@@ -233,7 +235,7 @@ module _ (s : List ℕ) where
       (λ l. (
         99 ∷ 48 ∷ 62 ∷ 111 ∷ 48 ∷ 10 ∷ [],
         rung l (input (contact 0)) coil0,
-        λ w x. line {t = 99 ∷ 48 ∷ []} {u = 111 ∷ 48 ∷ []} x (oneTerm (oneFactor (cNumber nought))) (oneBranch (atEnd (oNumber nought))),
+        λ w x. line {t = 99 ∷ 48 ∷ []} {u = 111 ∷ 48 ∷ []} x (oneTerm (oneFactor (cNumber nought))) (oneBranch (atEnd (outputNumber oLetter nought))),
       ))
       (fits-followed (λ w l. (v : List ℕ) (g : Rung) → AfterLabel l v g → IsLine (w ++ v) g) 58 (omega arith) (λ w l x v g y. rw append-assoc (y w x)) (number-fits at))
       (λ m l. rest-of-line l m)
@@ -242,7 +244,7 @@ module _ (s : List ℕ) where
   unfolding linesOf
   lines-fit zero at =
       begins [] (48 ∷ 58 ∷ 99 ∷ 48 ∷ 62 ∷ 111 ∷ 48 ∷ 10 ∷ []) (rung 0 (input (contact 0)) coil0 ∷ []) span-none
-      (oneLine (line {s = 48 ∷ []} {t = 99 ∷ 48 ∷ []} {u = 111 ∷ 48 ∷ []} nought (oneTerm (oneFactor (cNumber nought))) (oneBranch (atEnd (oNumber nought)))))
+      (oneLine (line {s = 48 ∷ []} {t = 99 ∷ 48 ∷ []} {u = 111 ∷ 48 ∷ []} nought (oneTerm (oneFactor (cNumber nought))) (oneBranch (atEnd (outputNumber oLetter nought)))))
   lines-fit (suc k) at =
       let After : Rung → List ℕ → Ladder → Type 0 = λ g v gs. (w : List ℕ) → IsLine w g → IsText (w ++ v) gs in
       let more : ℕ → Rung → Parse Ladder = λ m g. mapP (λ gs. g ∷ gs) (linesOf s k m) in

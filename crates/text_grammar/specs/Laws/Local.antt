@@ -1,15 +1,16 @@
 -- A reader's answer rests on the bytes up to where it ends or is stuck, and on none after. Assumes nothing.
 use mathlib.Core.Path.{_≡_, refl, sym, ap, subst, _∙_}
 use mathlib.Core.Bool.{Bool, true, false}
+use mathlib.Core.Option.{Option, none, some}
 use mathlib.Core.List.{List, [], _∷_}
 use Prim.Native.Nat.{ℕ, zero, suc, _+_, _*_, _≤_, _<_}
 use native.Mathlib.Omega.{arith}
 use borrow.Author.Tests.{ne-eqb, eqb-true}
 use lib.Dec.{eqb, leb, ltb}
 use lib.ListN.{length, getD, List·getD-eq-default}
-use Rattle.ladder_definitions.specs.Tree.{contact, contactn, Front, input, frontAnd, frontOr, Output, coil, coiln, jump, jumpn, Rear, output, rearAnd, rearOr, Rung, Ladder}
+use Rattle.ladder_definitions.specs.Tree.{contact, contactn, Front, input, frontAnd, frontOr, Output, Rear, output, rearAnd, rearOr, Rung, Ladder}
 use Rattle.text_grammar.specs.Grammar.{IsLine, mostNumber, mostBrackets}
-use Rattle.text_grammar.specs.Reader.{pick, Parse, read, stuck, mapP, bind, followed, digitOf, digitsFrom, numeralOf, chain, termBy, frontBy, factorBy, factorOf, frontOf, opensFactor, branchBy, rearBy, endBy, endOf, rearOf, rung, lineOf, linesOf, textOf}
+use Rattle.text_grammar.specs.Reader.{pick, Parse, read, stuck, mapP, bind, followed, digitOf, digitsFrom, numeralOf, chain, termBy, frontBy, factorBy, factorOf, frontOf, opensFactor, branchBy, rearBy, outputAt, outputOr, endBy, endOf, rearOf, rung, lineOf, linesOf, textOf}
 use Rattle.text_grammar.specs.Laws.Fits.{Fits, fits, begins, number-fits, term-by-fits, front-by-fits, factor-fits, front-fits, branch-by-fits, rear-by-fits, rear-fits, end-fits, line-fits, lines-fit}
 use Rattle.text_grammar.specs.Laws.Complete.{past, line-some}
 
@@ -281,19 +282,23 @@ module _ (s t : List ℕ) where
     unfolding rearOf
     rear-same at h g = rear-by-same (suc (length s)) (suc (length t)) at (omega arith) (omega arith) h g
 
+  output-ahead : (at : ℕ) (o : Option (ℕ → Output)) (p : Parse Rear) → at ≤ reach p → at ≤ reach (outputOr o s at p)
+  output-ahead at (some make) p h = number-ahead at (λ v. output (make v))
+  output-ahead at none p h = h
+
+  output-same : (at : ℕ) (o : Option (ℕ → Output)) (p q : Parse Rear) → Same p q → Same (outputOr o s at p) (outputOr o t at q)
+  output-same at (some make) p q x = number-map at (λ v. output (make v))
+  output-same at none p q x = x
+
   end-by-same : (at : ℕ) (p q : Parse Rear) → at ≤ reach p → (getD s at 0 ≡ 91 → Alike s t at → Same p q) → Same (endBy p s at) (endBy q t at)
   unfolding endBy
   end-by-same at p q h x =
-      let out : (ℕ → Output) → ℕ → Rear = λ make v. output (make v) in
-      let r₁ = pick-reach (eqb (getD s at 0) 91) p (stuck at) at h (omega arith) in
-      let r₂ = pick-reach (eqb (getD s at 0) 107) _ _ at (number-ahead at (out jumpn)) r₁ in
-      let r₃ = pick-reach (eqb (getD s at 0) 106) _ _ at (number-ahead at (out jump)) r₂ in
-      let r₄ = pick-reach (eqb (getD s at 0) 113) _ _ at (number-ahead at (out coiln)) r₃ in
-      same-pick (λ b. eqb b 111) at _ _ _ _ (number-ahead at (out coil)) r₄ (λ e l. number-map at (out coil)) (λ e l.
-      same-pick (λ b. eqb b 113) at _ _ _ _ (number-ahead at (out coiln)) r₃ (λ e l. number-map at (out coiln)) (λ e l.
-      same-pick (λ b. eqb b 106) at _ _ _ _ (number-ahead at (out jump)) r₂ (λ e l. number-map at (out jump)) (λ e l.
-      same-pick (λ b. eqb b 107) at _ _ _ _ (number-ahead at (out jumpn)) r₁ (λ e l. number-map at (out jumpn)) (λ e l.
-      same-pick (λ b. eqb b 91) at p q (stuck at) (stuck at) h (omega arith) (λ e l. x (eqb-true _ _ e) l) (λ e l. same-refl (stuck at))))))
+      let other = pick (eqb (getD s at 0) 91) p (stuck at) in
+      let other′ = pick (eqb (getD t at 0) 91) q (stuck at) in
+      same-at at (λ b. outputOr (outputAt b) s at other) (λ b. outputOr (outputAt b) t at other′)
+      (output-ahead at (outputAt (getD s at 0)) other (pick-reach (eqb (getD s at 0) 91) p (stuck at) at h (omega arith)))
+      (λ l. output-same at (outputAt (getD s at 0)) other other′
+      (same-pick (λ b. eqb b 91) at p q (stuck at) (stuck at) h (omega arith) (λ e l. x (eqb-true _ _ e) l) (λ e l. same-refl (stuck at))))
 
   end-same : (d at : ℕ) → Same (endOf d s at) (endOf d t at)
   unfolding endOf

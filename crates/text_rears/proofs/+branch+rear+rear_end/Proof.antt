@@ -7,7 +7,8 @@ use lib.ListN.{length}
 use Rattle.text_grammar.specs.Laws.Spans.{inside}
 use Rattle.text_grammar.specs.Reader.{factorOf, branchBy, branchOf, endOf, rearBy, rearOf}
 use Rattle.text_fronts.proofs.Parts.{found, renamed, closed, not-closed, inner-stuck}
-use Rattle.text_rears.proofs.Ends.{branch-law, rear-law, end-o, end-q, end-j, end-k, end-none, end-deep, by-open}
+use Rattle.text_rears.proofs.Letters.{letter-requires}
+use Rattle.text_rears.proofs.Ends.{branch-law, rear-law, end-output, end-none, end-deep, by-open}
 use Rattle.text_rears.proofs.Rears.{Prefixed, prefix-none, branch-more, branch-short, branch-stuck, branch-end, branch-end-stuck, rear-more, rear-last, rear-stuck}
 use Prim.Native.Nat.{ℕ, _+_, _-_, _*_, _<_}
 use borrow.Fn.Kinds.{In}
@@ -25,6 +26,7 @@ use Rattle.text_grammar.proofs.byte_at.Reads as byte-at-reads
 use Rattle.text_fronts.proofs.front.factor.Reads as factor-reads
 use Rattle.text_fronts.proofs.part.leaf.Reads as leaf-reads
 use Rattle.text_rears.proofs.opens.Reads as opens-reads
+use Rattle.text_rears.proofs.output_kind.Reads as output-kind-reads
 use Rattle.text_fronts.proofs.words.insert.Reads as insert-reads
 use Rattle.rungs.proofs.put_word.Reads as put-word-reads
 use Rattle.text_rears.proofs.+branch+rear+rear_end.{statement}
@@ -76,7 +78,7 @@ abbrev rear-uses : ℕ → rear-lts.Claims
 rear-uses t = (branch-below t, branch.Post, byte-at-reads.Asked, byte-at-reads.Learnt, insert-reads.Asked, insert-reads.Learnt)
 
 abbrev rear-end-uses : ℕ → rear-end-lts.Claims
-rear-end-uses t = (byte-at-reads.Asked, byte-at-reads.Learnt, leaf-reads.Asked, leaf-reads.Learnt, rear-below t, rear.Post)
+rear-end-uses t = (byte-at-reads.Asked, byte-at-reads.Learnt, output-kind-reads.Asked, output-kind-reads.Learnt, leaf-reads.Asked, leaf-reads.Learnt, rear-below t, rear.Post)
 
 abbrev branch-Inv-loop : branch-lts.InvT-loop
 branch-Inv-loop text at depth rung₀ put next₀ count₀ rung next count =
@@ -337,11 +339,12 @@ rear-returns-2 t c =
 rear-end-byte-at-requires : (t : ℕ) → rear-end-lts.Need-byte-at-requires (rear-end-uses t) (rear-end-at t) rear-end.Post
 rear-end-byte-at-requires t c κs = tt
 
+rear-end-output-kind-requires : (t : ℕ) → rear-end-lts.Need-output-kind-requires (rear-end-uses t) (rear-end-at t) rear-end.Post
+rear-end-output-kind-requires t c κs = tt
+
 rear-end-leaf-requires : (t : ℕ) → rear-end-lts.Need-leaf-requires (rear-end-uses t) (rear-end-at t) rear-end.Post
 rear-end-leaf-requires t c κs =
-    let b = c .before .before .byte-at .ensures in
-    let i = c .before .if1 .taken in
-    (inside (c .before .before .before .before .before .args .text .now) _ (omega arith), omega arith)
+    letter-requires _ _ (c .before .before .output-kind .ensures) (c .before .before .before .before .before .before .args .text .now) _ (c .before .before .before .byte-at .ensures) (c .before .if1 .taken)
 
 rear-end-same-length : (t : ℕ) → rear-end-lts.Need-same-length (rear-end-uses t) (rear-end-at t) rear-end.Post
 rear-end-same-length t c = c .before .before .leaf .kept .1 .1 .1 .0
@@ -349,67 +352,21 @@ rear-end-same-length t c = c .before .before .leaf .kept .1 .1 .1 .0
 rear-end-returns : (t : ℕ) → rear-end-lts.Need-returns (rear-end-uses t) (rear-end-at t) rear-end.Post
 rear-end-returns t c =
     let a = c .before .before .before .before in
-    end-o _ _ _ _ (a .before .byte-at .ensures) (a .if1 .taken) _ _ _ _ (c .before .before .leaf .ensures)
-
-rear-end-leaf-requires-2 : (t : ℕ) → rear-end-lts.Need-leaf-requires-2 (rear-end-uses t) (rear-end-at t) rear-end.Post
-rear-end-leaf-requires-2 t c κs =
-    let b = c .before .before .before .byte-at .ensures in
-    let i = c .before .if2 .taken in
-    (inside (c .before .before .before .before .before .before .args .text .now) _ (omega arith), omega arith)
-
-rear-end-same-length-2 : (t : ℕ) → rear-end-lts.Need-same-length-2 (rear-end-uses t) (rear-end-at t) rear-end.Post
-rear-end-same-length-2 t c = c .before .before .leaf2 .kept .1 .1 .1 .0
+    end-output _ _ _ (a .before .before .byte-at .ensures) _ (a .before .output-kind .ensures) _ (a .if1 .taken) _ _ _ _ (c .before .before .leaf .ensures)
 
 rear-end-returns-2 : (t : ℕ) → rear-end-lts.Need-returns-2 (rear-end-uses t) (rear-end-at t) rear-end.Post
 rear-end-returns-2 t c =
-    let a = c .before .before .before .before in
-    end-q _ _ _ _ (a .before .before .byte-at .ensures) (a .before .if1 .left) (a .if2 .taken) _ _ _ _ (c .before .before .leaf2 .ensures)
-
-rear-end-leaf-requires-3 : (t : ℕ) → rear-end-lts.Need-leaf-requires-3 (rear-end-uses t) (rear-end-at t) rear-end.Post
-rear-end-leaf-requires-3 t c κs =
-    let b = c .before .before .before .before .byte-at .ensures in
-    let i = c .before .if3 .taken in
-    (inside (c .before .before .before .before .before .before .before .args .text .now) _ (omega arith), omega arith)
-
-rear-end-same-length-3 : (t : ℕ) → rear-end-lts.Need-same-length-3 (rear-end-uses t) (rear-end-at t) rear-end.Post
-rear-end-same-length-3 t c = c .before .before .leaf3 .kept .1 .1 .1 .0
+    end-none _ _ _ (c .before .before .before .byte-at .ensures) _ (c .before .before .output-kind .ensures) _ (c .before .if1 .left) (c .if2 .taken) _ _ _
 
 rear-end-returns-3 : (t : ℕ) → rear-end-lts.Need-returns-3 (rear-end-uses t) (rear-end-at t) rear-end.Post
 rear-end-returns-3 t c =
-    let a = c .before .before .before .before in
-    end-j _ _ _ _ (a .before .before .before .byte-at .ensures) (a .before .before .if1 .left) (a .before .if2 .left) (a .if3 .taken) _ _ _ _ (c .before .before .leaf3 .ensures)
-
-rear-end-leaf-requires-4 : (t : ℕ) → rear-end-lts.Need-leaf-requires-4 (rear-end-uses t) (rear-end-at t) rear-end.Post
-rear-end-leaf-requires-4 t c κs =
-    let b = c .before .before .before .before .before .byte-at .ensures in
-    let i = c .before .if4 .taken in
-    (inside (c .before .before .before .before .before .before .before .before .args .text .now) _ (omega arith), omega arith)
-
-rear-end-same-length-4 : (t : ℕ) → rear-end-lts.Need-same-length-4 (rear-end-uses t) (rear-end-at t) rear-end.Post
-rear-end-same-length-4 t c = c .before .before .leaf4 .kept .1 .1 .1 .0
-
-rear-end-returns-4 : (t : ℕ) → rear-end-lts.Need-returns-4 (rear-end-uses t) (rear-end-at t) rear-end.Post
-rear-end-returns-4 t c =
-    let a = c .before .before .before .before in
-    end-k _ _ _ _ (a .before .before .before .before .byte-at .ensures) (a .before .before .before .if1 .left) (a .before .before .if2 .left) (a .before .if3 .left)
-    (a .if4 .taken) _ _ _ _ (c .before .before .leaf4 .ensures)
-
-rear-end-returns-5 : (t : ℕ) → rear-end-lts.Need-returns-5 (rear-end-uses t) (rear-end-at t) rear-end.Post
-rear-end-returns-5 t c =
-    end-none _ _ _ _ (c .before .before .before .before .before .byte-at .ensures) (c .before .before .before .before .if1 .left) (c .before .before .before .if2 .left)
-    (c .before .before .if3 .left) (c .before .if4 .left) (c .if5 .taken) _ _ _
-
-rear-end-returns-6 : (t : ℕ) → rear-end-lts.Need-returns-6 (rear-end-uses t) (rear-end-at t) rear-end.Post
-rear-end-returns-6 t c =
-    end-deep _ _ _ _ (c .before .before .before .before .before .before .byte-at .ensures) (c .before .before .before .before .before .if1 .left)
-    (c .before .before .before .before .if2 .left) (c .before .before .before .if3 .left) (c .before .before .if4 .left) (c .before .if5 .left) (c .if6 .taken) _ _ _
+    end-deep _ _ _ (c .before .before .before .before .byte-at .ensures) _ (c .before .before .before .output-kind .ensures) _ (c .before .before .if1 .left) (c .before .if2 .left) (c .if3 .taken) _ _ _
 
 rear-end-add-rear : (t : ℕ) → rear-end-lts.Need-add-rear (rear-end-uses t) (rear-end-at t) rear-end.Post
 rear-end-add-rear t c =
-    let b = c .before .before .before .before .before .before .byte-at .ensures in
-    let o = c .before .if5 .left in
-    let i = inside (c .before .before .before .before .before .before .before .before .before .args .text .now)
-    (c .before .before .before .before .before .before .before .before .before .args .at) (omega arith) in
+    let b = c .before .before .before .before .byte-at .ensures in
+    let o = c .before .if2 .left in
+    let i = inside (c .before .before .before .before .before .before .before .args .text .now) (c .before .before .before .before .before .before .before .args .at) (omega arith) in
     omega arith
 
 rear-end-sub-rear : (t : ℕ) → rear-end-lts.Need-sub-rear (rear-end-uses t) (rear-end-at t) rear-end.Post
@@ -417,10 +374,9 @@ rear-end-sub-rear t c = omega arith
 
 rear-end-rear-requires : (t : ℕ) → rear-end-lts.Need-rear-requires (rear-end-uses t) (rear-end-at t) rear-end.Post
 rear-end-rear-requires t c κs =
-    let b = c .before .before .before .before .before .before .before .byte-at .ensures in
-    let o = c .before .before .if5 .left in
-    let i = inside (c .before .before .before .before .before .before .before .before .before .before .args .text .now)
-    (c .before .before .before .before .before .before .before .before .before .before .args .at) (omega arith) in
+    let b = c .before .before .before .before .before .byte-at .ensures in
+    let o = c .before .before .if2 .left in
+    let i = inside (c .before .before .before .before .before .before .before .before .args .text .now) (c .before .before .before .before .before .before .before .before .args .at) (omega arith) in
     (omega arith, (omega arith, omega arith))
 
 rear-end-enum-known-next : (t : ℕ) → rear-end-lts.Need-enum-known-next (rear-end-uses t) (rear-end-at t) rear-end.Post
@@ -429,51 +385,45 @@ rear-end-enum-known-next t c = search needs
 rear-end-byte-at-requires-2 : (t : ℕ) → rear-end-lts.Need-byte-at-requires-2 (rear-end-uses t) (rear-end-at t) rear-end.Post
 rear-end-byte-at-requires-2 t c κs = tt
 
-rear-end-add-t28 : (t : ℕ) → rear-end-lts.Need-add-t28 (rear-end-uses t) (rear-end-at t) rear-end.Post
-rear-end-add-t28 t c =
+rear-end-add-t23 : (t : ℕ) → rear-end-lts.Need-add-t23 (rear-end-uses t) (rear-end-at t) rear-end.Post
+rear-end-add-t23 t c =
     let a = c .before .before .before .before .before .before .before .before .before in
     let b = c .before .byte-at2 .ensures in
-    let o = c .if7 .taken in
-    let i = inside (a .before .before .before .before .before .before .before .before .before .args .text .now) (c .before .before .before .next .given .0 .0) (omega arith) in
+    let o = c .if4 .taken in
+    let i = inside (a .before .before .before .before .before .before .before .args .text .now) (c .before .before .before .next .given .0 .0) (omega arith) in
     omega arith
 
 rear-end-enum-known-place : (t : ℕ) → rear-end-lts.Need-enum-known-place (rear-end-uses t) (rear-end-at t) rear-end.Post
 rear-end-enum-known-place t c = search needs
 
-rear-end-same-length-5 : (t : ℕ) → rear-end-lts.Need-same-length-5 (rear-end-uses t) (rear-end-at t) rear-end.Post
-rear-end-same-length-5 t c = c .before .before .before .before .before .before .before .rear .kept .1 .1 .1 .0
+rear-end-same-length-2 : (t : ℕ) → rear-end-lts.Need-same-length-2 (rear-end-uses t) (rear-end-at t) rear-end.Post
+rear-end-same-length-2 t c = c .before .before .before .before .before .before .before .rear .kept .1 .1 .1 .0
 
-rear-end-returns-7 : (t : ℕ) → rear-end-lts.Need-returns-7 (rear-end-uses t) (rear-end-at t) rear-end.Post
-rear-end-returns-7 t c =
+rear-end-returns-4 : (t : ℕ) → rear-end-lts.Need-returns-4 (rear-end-uses t) (rear-end-at t) rear-end.Post
+rear-end-returns-4 t c =
     let a = c .before .before .before .before .before .before .before .before .before in
-    renamed _ _ _ _ _ _ _ _ _ (sym (by-open _ _ _ _ (a .before .before .before .before .before .before .byte-at .ensures) (a .before .before .before .before .before .if1 .left)
-    (a .before .before .before .before .if2 .left) (a .before .before .before .if3 .left) (a .before .before .if4 .left) (a .before .if5 .left) (a .if6 .left)))
+    renamed _ _ _ _ _ _ _ _ _ (sym (by-open _ _ _ (a .before .before .before .before .byte-at .ensures) _ (a .before .before .before .output-kind .ensures) _ (a .before .before .if1 .left) (a .before .if2 .left) (a .if3 .left)))
     (closed _ _ _ _ _ 93 (omega arith) (omega arith) _ _ _ _ _ _
-    (found _ _ _ _ _ _ _ _ _ (c .before .before .before .before .before .before .before .rear .ensures) (c .before .before .before .next .given .1))
-    (c .before .byte-at2 .ensures) (c .if7 .taken))
+    (found _ _ _ _ _ _ _ _ _ (c .before .before .before .before .before .before .before .rear .ensures) (c .before .before .before .next .given .1)) (c .before .byte-at2 .ensures) (c .if4 .taken))
 
-rear-end-same-length-6 : (t : ℕ) → rear-end-lts.Need-same-length-6 (rear-end-uses t) (rear-end-at t) rear-end.Post
-rear-end-same-length-6 t c = c .before .before .before .before .before .before .before .rear .kept .1 .1 .1 .0
+rear-end-same-length-3 : (t : ℕ) → rear-end-lts.Need-same-length-3 (rear-end-uses t) (rear-end-at t) rear-end.Post
+rear-end-same-length-3 t c = c .before .before .before .before .before .before .before .rear .kept .1 .1 .1 .0
 
-rear-end-returns-8 : (t : ℕ) → rear-end-lts.Need-returns-8 (rear-end-uses t) (rear-end-at t) rear-end.Post
-rear-end-returns-8 t c =
+rear-end-returns-5 : (t : ℕ) → rear-end-lts.Need-returns-5 (rear-end-uses t) (rear-end-at t) rear-end.Post
+rear-end-returns-5 t c =
     let a = c .before .before .before .before .before .before .before .before .before in
-    renamed _ _ _ _ _ _ _ _ _ (sym (by-open _ _ _ _ (a .before .before .before .before .before .before .byte-at .ensures) (a .before .before .before .before .before .if1 .left)
-    (a .before .before .before .before .if2 .left) (a .before .before .before .if3 .left) (a .before .before .if4 .left) (a .before .if5 .left) (a .if6 .left)))
+    renamed _ _ _ _ _ _ _ _ _ (sym (by-open _ _ _ (a .before .before .before .before .byte-at .ensures) _ (a .before .before .before .output-kind .ensures) _ (a .before .before .if1 .left) (a .before .if2 .left) (a .if3 .left)))
     (not-closed _ _ _ _ _ 93 (omega arith) (omega arith) _ _ _ _ _ _ _ _ _
-    (found _ _ _ _ _ _ _ _ _ (c .before .before .before .before .before .before .before .rear .ensures) (c .before .before .before .next .given .1))
-    (c .before .byte-at2 .ensures) (c .if7 .left))
+    (found _ _ _ _ _ _ _ _ _ (c .before .before .before .before .before .before .before .rear .ensures) (c .before .before .before .next .given .1)) (c .before .byte-at2 .ensures) (c .if4 .left))
 
-rear-end-same-length-7 : (t : ℕ) → rear-end-lts.Need-same-length-7 (rear-end-uses t) (rear-end-at t) rear-end.Post
-rear-end-same-length-7 t c = c .before .before .before .before .before .rear .kept .1 .1 .1 .0
+rear-end-same-length-4 : (t : ℕ) → rear-end-lts.Need-same-length-4 (rear-end-uses t) (rear-end-at t) rear-end.Post
+rear-end-same-length-4 t c = c .before .before .before .before .before .rear .kept .1 .1 .1 .0
 
-rear-end-returns-9 : (t : ℕ) → rear-end-lts.Need-returns-9 (rear-end-uses t) (rear-end-at t) rear-end.Post
-rear-end-returns-9 t c =
+rear-end-returns-6 : (t : ℕ) → rear-end-lts.Need-returns-6 (rear-end-uses t) (rear-end-at t) rear-end.Post
+rear-end-returns-6 t c =
     let a = c .before .before .before .before .before .before .before in
-    renamed _ _ _ _ _ _ _ _ _ (sym (by-open _ _ _ _ (a .before .before .before .before .before .before .byte-at .ensures) (a .before .before .before .before .before .if1 .left)
-    (a .before .before .before .before .if2 .left) (a .before .before .before .if3 .left) (a .before .before .if4 .left) (a .before .if5 .left) (a .if6 .left)))
-    (inner-stuck _ _ _ _ _ 93 (omega arith) (omega arith) _ _ _ _ _ _ _
-    (found _ _ _ _ _ _ _ _ _ (c .before .before .before .before .before .rear .ensures) (c .before .place .given .1)))
+    renamed _ _ _ _ _ _ _ _ _ (sym (by-open _ _ _ (a .before .before .before .before .byte-at .ensures) _ (a .before .before .before .output-kind .ensures) _ (a .before .before .if1 .left) (a .before .if2 .left) (a .if3 .left)))
+    (inner-stuck _ _ _ _ _ 93 (omega arith) (omega arith) _ _ _ _ _ _ _ (found _ _ _ _ _ _ _ _ _ (c .before .before .before .before .before .rear .ensures) (c .before .place .given .1)))
 
 pub +branch+rear+rear-end-spec : {M : Type 1} → statement M
 +branch+rear+rear-end-spec = close μ-branch μ-rear μ-rear-end (λ t. branch-lts.spec (branch-uses t)
@@ -537,30 +487,22 @@ pub +branch+rear+rear-end-spec : {M : Type 1} → statement M
     (rear-end-at t)
     rear-end.Post
     (rear-end-byte-at-requires t)
+    (rear-end-output-kind-requires t)
     (rear-end-leaf-requires t)
     (rear-end-same-length t)
     (rear-end-returns t)
-    (rear-end-leaf-requires-2 t)
-    (rear-end-same-length-2 t)
     (rear-end-returns-2 t)
-    (rear-end-leaf-requires-3 t)
-    (rear-end-same-length-3 t)
     (rear-end-returns-3 t)
-    (rear-end-leaf-requires-4 t)
-    (rear-end-same-length-4 t)
-    (rear-end-returns-4 t)
-    (rear-end-returns-5 t)
-    (rear-end-returns-6 t)
     (rear-end-add-rear t)
     (rear-end-sub-rear t)
     (rear-end-rear-requires t)
     (rear-end-enum-known-next t)
     (rear-end-byte-at-requires-2 t)
-    (rear-end-add-t28 t)
+    (rear-end-add-t23 t)
     (rear-end-enum-known-place t)
-    (rear-end-same-length-5 t)
-    (rear-end-returns-7 t)
-    (rear-end-same-length-6 t)
-    (rear-end-returns-8 t)
-    (rear-end-same-length-7 t)
-    (rear-end-returns-9 t)
+    (rear-end-same-length-2 t)
+    (rear-end-returns-4 t)
+    (rear-end-same-length-3 t)
+    (rear-end-returns-5 t)
+    (rear-end-same-length-4 t)
+    (rear-end-returns-6 t)
