@@ -7,16 +7,15 @@ use mathlib.Core.List.{List, [], _∷_, _++_, map, map-append}
 use lib.ListN.{length, length-append, length-map, getD, List·getD-eq-default, set}
 use Rattle.rungs.specs.Words.{word, numberOf, operandOf}
 use Rattle.rungs.specs.Records.{search}
-use Rattle.ladder_definitions.specs.Tree.{contact, contactn, Front, frontAnd, frontOr, inputVariable}
+use Rattle.ladder_definitions.specs.Tree.{Input, contact, contactn, Front, frontAnd, frontOr, inputVariable}
 use Rattle.ladder_definitions.specs.Kept.{inputKind, frontWords}
 use Rattle.ladder_definitions.specs.Held.{FrontAt}
-use Rattle.ladder_definitions.specs.Laws.Trees.{inside, that-input, parts-only, no-front}
+use Rattle.ladder_definitions.specs.Laws.Trees.{inside, front-cases, that-input}
 use Rattle.list_definitions.specs.Instruction.{Instr, LD, LDN, ST, AND, ANDN, OR, ORN, operand, opOf, operandNumber, instrWord}
 use Rattle.translation_definitions.specs.Translate.{F, join}
 use Rattle.translation_code.specs.Parts.{CodePut, Within, OnePut, FrontPut, Joins, JoinPut, startIn}
 use Rattle.translation_code.specs.declared.Positions.{Positions}
 use Rattle.questions.specs.Laws.Stores.{sets-append}
-use Rattle.translation_code.proofs.Sorts.{not-contact, not-front}
 
 -- ---- runs of instructions
 
@@ -67,6 +66,14 @@ pub joins-or : Joins 7 OR ORN
 unfolding instrWord opOf operand operandNumber
 joins-or = record { plain = λ v. refl; negated = λ v. refl }
 
+-- ---- a front
+
+-- a kind that no input has
+no-input : (k : ℕ) → (1 ≤ k → k < 3 → ⊥) → (i : Input) → k ≡ inputKind i → ⊥
+unfolding inputKind
+no-input k h (contact v) e = h (omega arith) (omega arith)
+no-input k h (contactn v) e = h (omega arith) (omega arith)
+
 abbrev FrontCode : ℕ → ℕ → ℕ → ℕ → Positions → List ℕ → List ℕ → Front → Type 0
 FrontCode vars at depth put r e x f = CodePut at (length (frontWords f)) put (F vars f depth) r e x
 
@@ -104,7 +111,7 @@ module _ (vars : ℕ) (ws : List ℕ) (at w : ℕ) (e : w ≡ getD ws at 0) (dep
   unfolding F frontWords
   front-and r s y m z k a b = record {
     within = joined-within ws at put r s (inside ws at w e (λ z. omega arith)) (a .within) (b .within);
-    done = parts-only ws at w e (FrontCode vars at depth put s y z) (not-contact (numberOf w) (λ l h. omega arith))
+    done = front-cases ws at w e (FrontCode vars at depth put s y z) (λ i q v. absurd (no-input (numberOf w) (λ l h. omega arith) i q))
         (λ f g q sf sg. parts 5 AND ANDN joins-and r s y m z a b f g sf sg _ (omega arith)) (λ f g q sf sg. absurd (omega arith));
   }
 
@@ -113,14 +120,16 @@ module _ (vars : ℕ) (ws : List ℕ) (at w : ℕ) (e : w ≡ getD ws at 0) (dep
   unfolding F frontWords
   front-or r s y m z k a b = record {
     within = joined-within ws at put r s (inside ws at w e (λ z. omega arith)) (a .within) (b .within);
-    done = parts-only ws at w e (FrontCode vars at depth put s y z) (not-contact (numberOf w) (λ l h. omega arith))
+    done = front-cases ws at w e (FrontCode vars at depth put s y z) (λ i q v. absurd (no-input (numberOf w) (λ l h. omega arith) i q))
         (λ f g q sf sg. absurd (omega arith)) (λ f g q sf sg. parts 7 OR ORN joins-or r s y m z a b f g sf sg _ (omega arith));
   }
 
   pub front-none : (y : List ℕ) → (1 ≤ numberOf w → numberOf w < 5 → ⊥) → FrontPut vars ws at depth put (record { next = at; put = put }) y y
   front-none y k = record {
     within = record { onward = omega arith; inside = omega arith; few = omega arith; on = omega arith };
-    done = no-front ws at w e (FrontCode vars at depth put (record { next = at; put = put }) y y) (not-front (numberOf w) k);
+    done = front-cases ws at w e (FrontCode vars at depth put (record { next = at; put = put }) y y)
+        (λ i q v. absurd (no-input (numberOf w) (λ l h. k l (omega arith)) i q))
+        (λ f g q sf sg. absurd (k (omega arith) (omega arith))) (λ f g q sf sg. absurd (k (omega arith) (omega arith)));
   }
 
   -- ---- a front that is joined
@@ -155,7 +164,8 @@ module _ (vars : ℕ) (ws : List ℕ) (at w : ℕ) (e : w ≡ getD ws at 0) (dep
   join-through op r y i o z k p a q = record {
     within = through-within ws at put r (a .within);
     done = λ f s.
-        parts-only ws at w e (λ f. FrontAt ws at f → JoinCode vars at op depth put (record { next = r .next; put = r .put + 1 }) y z f) (not-contact (numberOf w) k)
+        front-cases ws at w e (λ f. FrontAt ws at f → JoinCode vars at op depth put (record { next = r .next; put = r .put + 1 }) y z f)
+        (λ i u v. absurd (no-input (numberOf w) k i u))
         (λ f g u sf sg. through-code op r y i o z p a q (frontAnd f g)) (λ f g u sf sg. through-code op r y i o z p a q (frontOr f g)) f s s;
   }
 

@@ -1,4 +1,4 @@
 -- Laws that the proofs of functions cite.
 pub mod Fronts
+pub mod Outputs
 pub mod Rears
-pub mod Sorts

@@ -1,23 +1,23 @@
 -- Laws of the code of a rear and of a rung: the instructions that are put for a tree, from those that are put for its parts. Assumes nothing.
-use Prim.Native.Nat.{ℕ, _+_, _-_, _*_, _≤_, _<_, _^_}
+use Prim.Native.Nat.{ℕ, _+_, _-_, _≤_, _<_, _^_}
 use native.Mathlib.Omega.{arith}
 use native.Mathlib.Numerals.{add-one}
-use mathlib.Core.Path.{_≡_, refl, ap, _∙_}
+use mathlib.Core.Path.{_≡_, refl, sym, ap, _∙_}
+use mathlib.Core.Bool.{true, false, true≢false}
 use mathlib.Core.List.{List, _∷_, _++_}
 use lib.ListN.{length, length-append, getD, set}
 use Rattle.questions.specs.Questions.{mostVariables}
 use Rattle.table.specs.State.{scratchIndex}
-use Rattle.rungs.specs.Words.{word, numberOf, operandOf}
-use Rattle.ladder_definitions.specs.Tree.{coil, coiln, jump, jumpn, Rear, outputNames, number}
+use Rattle.rungs.specs.Words.{word, numberOf}
+use Rattle.ladder_definitions.specs.Tree.{Rear}
 use Rattle.ladder_definitions.specs.Questions.{mostWords}
-use Rattle.ladder_definitions.specs.Kept.{outputKind, kindSorts, kindSort, rearWords, rungWords}
-use Rattle.ladder_definitions.specs.Laws.Trees.{inside, that-output, rear-and-only, rear-or-only, no-rear, rung-only}
+use Rattle.ladder_definitions.specs.Kept.{outputSort, rearAndSort, rearOrSort, kindSorts, kindSort, rearWords, rungWords}
+use Rattle.ladder_definitions.specs.Laws.Trees.{inside, startsRear, output-only, rear-and-only, rear-or-only, no-rear, rung-only}
 use Rattle.list_definitions.specs.Instruction.{Instr, LD, ST, AND, ANDN, opOf, operand, operandNumber, instrWord}
-use Rattle.translation_definitions.specs.Translate.{R, outputCode, rungCode, codeBound}
-use Rattle.translation_code.specs.Parts.{CodePut, Within, OnePut, FrontPut, JoinPut, startIn, RearPut, RungPut}
+use Rattle.translation_definitions.specs.Translate.{R, rungCode, codeBound}
+use Rattle.translation_code.specs.Parts.{CodePut, Within, FrontPut, JoinPut, startIn, OutputInstruction, RearPut, RungPut}
 use Rattle.translation_code.specs.declared.Positions.{Positions}
-use Rattle.translation_code.proofs.Sorts.{not-rear}
-use Rattle.translation_code.proofs.Fronts.{code-after, one-within, joins-and}
+use Rattle.translation_code.proofs.Fronts.{code-after, joins-and}
 
 -- ---- instructions after instructions
 
@@ -47,93 +47,76 @@ Room vars ws at depth put = (vars ≤ mostVariables) × (length ws ≤ mostWords
 abbrev Enters : ℕ → ℕ → List ℕ → ℕ → ℕ → ℕ → Type 0
 Enters t vars ws at depth put = (length ws - at < t) × Room vars ws at depth put
 
+-- a rear's word stands among the words
+pub rear-inside : (ws : List ℕ) (at w : ℕ) → w ≡ getD ws at 0 → startsRear (kindSort (numberOf w)) ≡ true → at < length ws
+unfolding kindSort kindSorts
+rear-inside ws at w e k = inside ws at w e (λ z. true≢false (sym k ∙ rw z refl))
+
 module _ (t vars : ℕ) (ws : List ℕ) (at depth put w : ℕ) (e : w ≡ getD ws at 0) (h : (length ws - at ≡ t) × Room vars ws at depth put) (s : Positions) where
-  pub room-and : numberOf w ≡ 9 → Within ws (at + 1) 2 put s → Enters t vars ws (s .next) depth (s .put)
+  pub room-and : kindSort (numberOf w) ≡ rearAndSort → Within ws (at + 1) 2 put s → Enters t vars ws (s .next) depth (s .put)
   room-and k g =
-      let l = inside ws at w e (λ z. omega arith) in
+      let l = rear-inside ws at w e (ap startsRear k) in
       let go = g .onward in let gi = g .inside in let gf = g .few in
       (omega arith, (omega arith, omega arith, omega arith, omega arith))
 
-  pub room-or : numberOf w ≡ 10 → Within ws (at + 1) 0 (put + 1) s → Enters t vars ws (s .next) depth (s .put + 1)
+  pub room-or : kindSort (numberOf w) ≡ rearOrSort → Within ws (at + 1) 0 (put + 1) s → Enters t vars ws (s .next) depth (s .put + 1)
   room-or k g =
-      let l = inside ws at w e (λ z. omega arith) in
+      let l = rear-inside ws at w e (ap startsRear k) in
       let go = g .onward in let gi = g .inside in let gf = g .few in
       (omega arith, (omega arith, omega arith, omega arith, omega arith))
 
--- ---- a rear, by the kind of its word
+-- ---- a rear, by the sort of its word's kind
 
 module _ (vars : ℕ) (ws : List ℕ) (at depth : ℕ) (ls starts : List ℕ) (put w : ℕ) (e : w ≡ getD ws at 0) where
   abbrev Put : Positions → List ℕ → List ℕ → Rear → Type 0
   Put r a x k = CodePut at (length (rearWords k)) put (R vars (startIn ls starts) k depth) r a x
 
-  one-put : {op o : ℕ} {r : Positions} {a x : List ℕ} → 1 ≤ numberOf w → OnePut at put op o r a x → Within ws at 0 put r
-  one-put {op} {o} {r} {a} {x} k h = one-within ws at 0 put op o r a x (inside ws at w e (λ z. omega arith)) h
-
-  pub rear-coil : (r : Positions) (a x : List ℕ) → numberOf w ≡ 5 → OnePut at put 3 (operandOf w) r a x → RearPut vars ws at depth ls starts put r a x
-  unfolding rearWords R outputCode outputKind outputNames number instrWord opOf operand operandNumber
-  rear-coil r a x k h = record {
-    within = one-put (omega arith) h;
-    done = that-output ws at w e (Put r a x) (coil (operandOf w)) k refl (record { next = h .next; end = h .end; wrote = h .wrote });
+  pub rear-output : (i : ℕ) (a x : List ℕ) → kindSort (numberOf w) ≡ outputSort → OutputInstruction w ls starts i → x ≡ set a put i
+      → RearPut vars ws at depth ls starts put (record { next = at + 1; put = put + 1 }) a x
+  unfolding rearWords R
+  rear-output i a x k h q = record {
+    within =
+        let l = rear-inside ws at w e (ap startsRear k) in
+        record { onward = omega arith; inside = omega arith; few = omega arith; on = omega arith };
+    done = output-only ws at w e (Put (record { next = at + 1; put = put + 1 }) a x) k (λ o n v.
+        record { next = refl; end = refl; wrote = q ∙ ap (set a put) (h .same o n v) });
   }
 
-  pub rear-coiln : (r : Positions) (a x : List ℕ) → numberOf w ≡ 6 → OnePut at put 4 (operandOf w) r a x → RearPut vars ws at depth ls starts put r a x
-  unfolding rearWords R outputCode outputKind outputNames number instrWord opOf operand operandNumber
-  rear-coiln r a x k h = record {
-    within = one-put (omega arith) h;
-    done = that-output ws at w e (Put r a x) (coiln (operandOf w)) k refl (record { next = h .next; end = h .end; wrote = h .wrote });
-  }
-
-  pub rear-jump : (r : Positions) (a x : List ℕ) (t : ℕ) → numberOf w ≡ 7 → t ≡ startIn ls starts (operandOf w) → OnePut at put 13 t r a x
-      → RearPut vars ws at depth ls starts put r a x
-  unfolding rearWords R outputCode outputKind outputNames number instrWord opOf operand operandNumber
-  rear-jump r a x t k q h = record {
-    within = one-put (omega arith) h;
-    done = that-output ws at w e (Put r a x) (jump (operandOf w)) k refl (record { next = h .next; end = h .end; wrote = h .wrote ∙ ap (λ o. set a put (word 13 o)) q });
-  }
-
-  pub rear-jumpn : (r : Positions) (a x : List ℕ) (t : ℕ) → numberOf w ≡ 8 → t ≡ startIn ls starts (operandOf w) → OnePut at put 14 t r a x
-      → RearPut vars ws at depth ls starts put r a x
-  unfolding rearWords R outputCode outputKind outputNames number instrWord opOf operand operandNumber
-  rear-jumpn r a x t k q h = record {
-    within = one-put (omega arith) h;
-    done = that-output ws at w e (Put r a x) (jumpn (operandOf w)) k refl (record { next = h .next; end = h .end; wrote = h .wrote ∙ ap (λ o. set a put (word 14 o)) q });
-  }
-
-  pub rear-and : (j r : Positions) (a b x : List ℕ) → numberOf w ≡ 9 → JoinPut vars ws (at + 1) 5 depth put j a b
+  pub rear-and : (j r : Positions) (a b x : List ℕ) → kindSort (numberOf w) ≡ rearAndSort → JoinPut vars ws (at + 1) 5 depth put j a b
       → RearPut vars ws (j .next) depth ls starts (j .put) r b x → RearPut vars ws at depth ls starts put r a x
-  unfolding rearWords R kindSort kindSorts
+  unfolding rearWords R
   rear-and j r a b x k g h = record {
     within =
-        let l = inside ws at w e (λ z. omega arith) in
+        let l = rear-inside ws at w e (ap startsRear k) in
         let go = g .within .onward in let gi = g .within .inside in let gf = g .within .few in let gn = g .within .on in
         let ho = h .within .onward in let hi = h .within .inside in let hf = h .within .few in let hn = h .within .on in
         record { onward = omega arith; inside = omega arith; few = omega arith; on = omega arith };
-    done = rear-and-only ws at w e (Put r a x) (rw k refl) (λ f q u sf sq.
+    done = rear-and-only ws at w e (Put r a x) k (λ f q u sf sq.
         let y = g .done f sf AND ANDN joins-and in
         let z = h .done q (rw (← y .next) at sq) in
         rooted (simp length-append (omega arith)) (put-then y z));
   }
 
-  pub rear-or : (s r : Positions) (a b c d x : List ℕ) → numberOf w ≡ 10 → b ≡ set a put (word 3 (scratchIndex vars depth))
+  pub rear-or : (s r : Positions) (a b c d x : List ℕ) → kindSort (numberOf w) ≡ rearOrSort → b ≡ set a put (word 3 (scratchIndex vars depth))
       → RearPut vars ws (at + 1) (depth + 1) ls starts (put + 1) s b c → d ≡ set c (s .put) (word 1 (scratchIndex vars depth))
       → RearPut vars ws (s .next) depth ls starts (s .put + 1) r d x → RearPut vars ws at depth ls starts put r a x
-  unfolding rearWords R kindSort kindSorts instrWord opOf operand operandNumber
+  unfolding rearWords R instrWord opOf operand operandNumber
   rear-or s r a b c d x k st g ld h = record {
     within =
-        let l = inside ws at w e (λ z. omega arith) in
+        let l = rear-inside ws at w e (ap startsRear k) in
         let go = g .within .onward in let gi = g .within .inside in let gf = g .within .few in let gn = g .within .on in
         let ho = h .within .onward in let hi = h .within .inside in let hf = h .within .few in let hn = h .within .on in
         record { onward = omega arith; inside = omega arith; few = omega arith; on = omega arith };
-    done = rear-or-only ws at w e (Put r a x) (rw k refl) (λ p q u sp sq.
+    done = rear-or-only ws at w e (Put r a x) k (λ p q u sp sq.
         let y = g .done p sp in
         let z = h .done q (rw (← y .next) at sq) in
         rooted (simp length-append (omega arith)) (put-first {i = ST (scratchIndex vars depth)} refl st (put-then y (put-first {i = LD (scratchIndex vars depth)} refl ld z))));
   }
 
-  pub rear-none : (a : List ℕ) → (5 ≤ numberOf w → numberOf w < 11 → ⊥) → RearPut vars ws at depth ls starts put (record { next = at; put = put }) a a
+  pub rear-none : (a : List ℕ) → startsRear (kindSort (numberOf w)) ≡ false → RearPut vars ws at depth ls starts put (record { next = at; put = put }) a a
   rear-none a k = record {
     within = record { onward = omega arith; inside = omega arith; few = omega arith; on = omega arith };
-    done = no-rear ws at w e (Put (record { next = at; put = put }) a a) (not-rear (numberOf w) k);
+    done = no-rear ws at w e (Put (record { next = at; put = put }) a a) k;
   }
 
 -- ---- a rung

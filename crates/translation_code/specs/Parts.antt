@@ -1,17 +1,17 @@
 -- What the functions of this crate promise to each other. Nothing here is a sentence of document 01. Assumes nothing.
-use Prim.Native.Nat.{ℕ, _+_, _≤_, max}
+use Prim.Native.Nat.{ℕ, _+_, _≤_, _<_, max}
 use mathlib.Core.Path.{_≡_}
 use mathlib.Core.List.{List, map}
 use lib.ListN.{length, getD, set}
 use lib.Seq.{sets}
 use Rattle.table.specs.State.{scratchIndex}
-use Rattle.rungs.specs.Words.{word}
+use Rattle.rungs.specs.Words.{operands, word, numberOf, operandOf}
 use Rattle.rungs.specs.Records.{search}
-use Rattle.ladder_definitions.specs.Tree.{Front, Rear, Rung}
-use Rattle.ladder_definitions.specs.Kept.{frontWords, rearWords, rungWords}
+use Rattle.ladder_definitions.specs.Tree.{Front, Output, Rear, Rung, outputNames, number}
+use Rattle.ladder_definitions.specs.Kept.{outputKind, frontWords, rearWords, rungWords}
 use Rattle.ladder_definitions.specs.Held.{FrontAt, RearAt, RungAt}
-use Rattle.list_definitions.specs.Instruction.{Instr, instrWord}
-use Rattle.translation_definitions.specs.Translate.{F, R, join, rungCode, codeBound}
+use Rattle.list_definitions.specs.Instruction.{Instr, opOf, instrWord}
+use Rattle.translation_definitions.specs.Translate.{F, join, outputCode, R, rungCode, codeBound}
 use Rattle.translation_code.specs.declared.Positions.{Positions}
 
 -- some instructions put from `put` on, for a part of n words from `at` on
@@ -49,6 +49,15 @@ pub record JoinPut (vars : ℕ) (ws : List ℕ) (at op depth put : ℕ) (r : Pos
 -- where the rung with label l begins, by the labels and their starts
 unfoldable pub startIn : List ℕ → List ℕ → ℕ → ℕ
 startIn ls starts l = getD starts (search l ls) 0
+
+-- the op of an output's instruction, for the outputs of a kind
+pub record OutputOp (kind op : ℕ) : Type 0 where
+  pub few : op < operands
+  pub same : (o : Output) → kind ≡ outputKind o → (start : ℕ → ℕ) → op ≡ opOf (outputCode start o)
+
+-- the word of an output's instruction, for the output whose kind and operand the word w has
+pub record OutputInstruction (w : ℕ) (ls starts : List ℕ) (instruction : ℕ) : Type 0 where
+  pub same : (o : Output) → numberOf w ≡ outputKind o → operandOf w ≡ number (outputNames o) → instruction ≡ instrWord (outputCode (startIn ls starts) o)
 
 pub record RearPut (vars : ℕ) (ws : List ℕ) (at depth : ℕ) (ls starts : List ℕ) (put : ℕ) (r : Positions) (e x : List ℕ) : Type 0 where
   pub within : Within ws at 0 put r

@@ -8,7 +8,8 @@ ghost use Rattle.questions.specs.Questions.{mostVariables};
 ghost use Rattle.rungs.specs.Words.{operands, word};
 ghost use Rattle.ladder_definitions.specs.Questions.{mostWords};
 ghost use Rattle.translation_definitions.specs.Translate.{codeBound};
-ghost use Rattle.translation_code.specs.Parts.{OnePut, FrontPut, JoinPut, RearPut, RungPut, startIn};
+ghost use Rattle.translation_code.specs.Parts.{OnePut, FrontPut, JoinPut, OutputOp, OutputInstruction, RearPut, RungPut, startIn};
+use ladder_kinds::KindSort;
 use rungs::OPERANDS;
 
 // The position after a part's words, and after its instructions.
@@ -125,6 +126,32 @@ fn start_of(labels: &[u16], starts: &[u16], label: u32) -> u32
     }
 }
 
+// The op of an output's instruction, by the kind of its word; 0 for any other kind. The compiler makes a table of these arms.
+fn output_op(kind: u32) -> u32
+    ensures { λ r. ⌜ OutputOp kind r ⌝ }
+{
+    match kind {
+        ladder_kinds::COIL => list_ops::ST,
+        ladder_kinds::NEGATED_COIL => list_ops::STN,
+        ladder_kinds::JUMP => list_ops::JMPC,
+        ladder_kinds::NEGATED_JUMP => list_ops::JMPCN,
+        _ => 0,
+    }
+}
+
+// The instruction of an output, by its word. A label stands for the start of its rung.
+fn output_code(word: u32, labels: &[u16], starts: &[u16]) -> u32
+    ensures { λ r. ⌜ OutputInstruction word (now (labels .entry)) (now (starts .entry)) r ⌝ }
+{
+    let op = output_op(word / OPERANDS);
+    let operand = word % OPERANDS;
+    if ladder_kinds::names_label(word / OPERANDS) {
+        op * OPERANDS + start_of(labels, starts, operand)
+    } else {
+        op * OPERANDS + operand
+    }
+}
+
 // R: the rear whose words begin at a position.
 fn rear_code(
     vars: u32,
@@ -142,59 +169,26 @@ fn rear_code(
         (now (code .entry)) (now (code .exit)) ⌝ }
 {
     let word = rungs::word_at(words, at);
-    match word / OPERANDS {
-        ladder_kinds::COIL => put_one(code, put, at, list_ops::ST, word % OPERANDS),
-        ladder_kinds::NEGATED_COIL => put_one(code, put, at, list_ops::STN, word % OPERANDS),
-        ladder_kinds::JUMP => put_one(
-            code,
-            put,
-            at,
-            list_ops::JMPC,
-            start_of(labels, starts, word % OPERANDS),
-        ),
-        ladder_kinds::NEGATED_JUMP => put_one(
-            code,
-            put,
-            at,
-            list_ops::JMPCN,
-            start_of(labels, starts, word % OPERANDS),
-        ),
-        ladder_kinds::REAR_AND => {
-            let joined = join_code(vars, words, at + 1, list_ops::AND, depth, code, put);
-            rear_code(
-                vars,
-                words,
-                joined.next,
-                depth,
-                labels,
-                starts,
-                code,
-                joined.put,
-            )
+    match ladder_kinds::sort_of(word / OPERANDS) {
+        KindSort::Output => {
+            rungs::put_word(code, put, output_code(word, labels, starts));
+            Positions {
+                next: at + 1,
+                put: put + 1,
+            }
         }
-        ladder_kinds::REAR_OR => {
+        KindSort::RearAnd => {
+            let joined = join_code(vars, words, at + 1, list_ops::AND, depth, code, put);
+            let Positions { next, put } = joined;
+            rear_code(vars, words, next, depth, labels, starts, code, put)
+        }
+        KindSort::RearOr => {
+            let inner = depth + 1;
             put_instruction(code, put, list_ops::ST, vars + depth);
-            let first = rear_code(
-                vars,
-                words,
-                at + 1,
-                depth + 1,
-                labels,
-                starts,
-                code,
-                put + 1,
-            );
-            put_instruction(code, first.put, list_ops::LD, vars + depth);
-            rear_code(
-                vars,
-                words,
-                first.next,
-                depth,
-                labels,
-                starts,
-                code,
-                first.put + 1,
-            )
+            let first = rear_code(vars, words, at + 1, inner, labels, starts, code, put + 1);
+            let Positions { next, put } = first;
+            put_instruction(code, put, list_ops::LD, vars + depth);
+            rear_code(vars, words, next, depth, labels, starts, code, put + 1)
         }
         _ => Positions { next: at, put },
     }

@@ -97,7 +97,7 @@ output-told (coiln v) = refl
 output-told (jump l) = refl
 output-told (jumpn l) = refl
 
-same-output : (p q : Output) → outputKind p ≡ outputKind q → number (outputNames p) ≡ number (outputNames q) → p ≡ q
+pub same-output : (p q : Output) → outputKind p ≡ outputKind q → number (outputNames p) ≡ number (outputNames q) → p ≡ q
 same-output p q k o = sym (output-told p) ∙ rw (k, o) (output-told q)
 
 -- whether a front begins with a word of a sort, and whether a rear does

@@ -1,0 +1,33 @@
+-- `translation_code::output_op` meets its contract: each kind of output has its arm's op. Assumes nothing.
+use native.Mathlib.Omega.{arith}
+use mathlib.Core.Path.{_≡_}
+use Rattle.ladder_definitions.specs.Tree.{Output, coil, coiln, jump, jumpn}
+use Rattle.ladder_definitions.specs.Kept.{outputKind}
+use Rattle.translation_code.proofs.Outputs.{coil-op, coiln-op, jump-op, jumpn-op, no-op}
+use Rattle.translation_code.proofs.output_op.Statement.{statement}
+use Rattle.translation_code.proofs.output_op.Tie as tie
+
+returns : tie.Need-returns
+returns c = rw (c .match .keys1) coil-op
+
+returns-2 : tie.Need-returns-2
+returns-2 c = rw (c .match .keys2) coiln-op
+
+returns-3 : tie.Need-returns-3
+returns-3 c = rw (c .match .keys3) jump-op
+
+returns-4 : tie.Need-returns-4
+returns-4 c = rw (c .match .keys4) jumpn-op
+
+returns-5 : tie.Need-returns-5
+unfolding outputKind
+returns-5 c = no-op _ other
+  where
+    other : (o : Output) → c .before .args .kind ≡ outputKind o → ⊥
+    other (coil v) e = omega arith
+    other (coiln v) e = omega arith
+    other (jump l) e = omega arith
+    other (jumpn l) e = omega arith
+
+pub output-op-spec : {M : Type 1} → statement M
+output-op-spec = tie.close (tie.spec returns returns-2 returns-3 returns-4 returns-5)
