@@ -1,21 +1,20 @@
 -- Laws of one word of a walk: what working and running a tree gives, from what working and running its parts gives. Assumes nothing.
 use Prim.Native.Nat.{ℕ, _+_}
 use native.Mathlib.Omega.{arith}
-use mathlib.Core.Path.{_≡_, refl, sym}
+use mathlib.Core.Path.{_≡_, refl, sym, subst, _∙_}
 use mathlib.Core.Bool.{Bool, true, false, not, _&&_}
 use mathlib.Core.List.{List}
 use lib.ListN.{length, length-append, getD}
-use Rattle.table.specs.State.{valueAt, value, writtenAt, write}
+use Rattle.table.specs.State.{State, withBytes, valueAt, value, writtenAt, write}
 use Rattle.rungs.specs.Words.{numberOf, operandOf}
-use Rattle.ladder_definitions.specs.Tree.{Input, contact, contactn, Front, input, Output, coil, coiln, jump, jumpn, Rear, rearAnd, rearOr, inputVariable, outputNames, number}
-use Rattle.ladder_definitions.specs.Meaning.{workInput, workFront, jumpIf, runOutput, unlessJumped, runRear, runRung}
-use Rattle.ladder_definitions.specs.Kept.{inputKind, outputKind, joinedSort, rearAndSort, rearOrSort, kindSorts, kindSort, frontWords, rearWords, rungWords}
-use Rattle.ladder_walk.specs.Walking.{FrontDone, FrontWorked, Root, PartsJoined, runOf, RunDone, RearRun, RungRun}
-use Rattle.ladder_definitions.specs.Roots.{rearKind}
+use Rattle.ladder_definitions.specs.Tree.{Input, contact, contactn, input, Output, coil, coiln, jump, jumpn, Rear, inputVariable, outputNames, number}
+use Rattle.ladder_definitions.specs.Meaning.{workInput, workFront, onward, jumped, jumpIf, runOutput, unlessJumped, runRear, runRung}
+use Rattle.ladder_definitions.specs.Kept.{inputKind, outputKind, joinedSort, outputSort, rearAndSort, rearOrSort, kindSorts, kindSort, frontWords, rearWords, rungWords}
+use Rattle.ladder_walk.specs.Walking.{FrontDone, FrontWorked, Root, PartsJoined, runOf, RunDone, OutputRun, RearRun, RungRun}
 use Rattle.ladder_walk.specs.declared.Worked.{Worked}
 use Rattle.ladder_walk.specs.declared.Ran.{Ran}
 use Rattle.ladder_walk.specs.declared.Ran.the-variants.{Onward, Jumped}
-use Rattle.ladder_definitions.specs.Laws.Trees.{front-cases, that-input, parts-only, rear-cases, that-output, rear-and-only, rear-or-only, rung-only}
+use Rattle.ladder_definitions.specs.Laws.Trees.{same-output, startsRear, front-cases, that-input, parts-only, output-only, rear-and-only, rear-or-only, no-rear, rung-only}
 
 module _ (ws : List ℕ) (at w : ℕ) (t : List ℕ) (e : w ≡ getD ws at 0) where
   pub worked-contact : numberOf w ≡ inputKind (contact (operandOf w)) → (b : Bool) → b ≡ valueAt t (operandOf w) → FrontWorked ws at t (record { value = b; next = at + 1 }) t
@@ -64,10 +63,7 @@ module _ (ws : List ℕ) (at w : ℕ) (t : List ℕ) (e : w ≡ getD ws at 0) wh
       inputs (contact v) z o = absurd (k v z)
       inputs (contactn v) z o = absurd (l v z)
 
--- ---- rears
-
-abbrev Done : ℕ → Bool → List ℕ → Ran → List ℕ → Rear → Type 0
-Done at p t r u k = RunDone at (length (rearWords k)) (runRear k p) t r u
+-- ---- outputs
 
 same-end : (x y : ℕ) → Onward x ≡ Onward y → x ≡ y
 same-end x y e = cc
@@ -75,54 +71,61 @@ same-end x y e = cc
 no-end : {A : Type 0} (l e : ℕ) → Jumped l ≡ Onward e → A
 no-end l e q = let z : _≡_ {A = ℕ} 0 1 = cc in absurd (omega arith)
 
-pub no-output : (k : ℕ) → ((v : ℕ) → k ≡ outputKind (coil v) → ⊥) → ((v : ℕ) → k ≡ outputKind (coiln v) → ⊥) → ((l : ℕ) → k ≡ outputKind (jump l) → ⊥)
-    → ((l : ℕ) → k ≡ outputKind (jumpn l) → ⊥) → (o : Output) → k ≡ outputKind o → ⊥
-no-output k a b c d (coil v) e = a v e
-no-output k a b c d (coiln v) e = b v e
-no-output k a b c d (jump l) e = c l e
-no-output k a b c d (jumpn l) e = d l e
+module _ (w next : ℕ) (p : Bool) (t : List ℕ) where
+  -- the output that the word tells
+  module _ (o : Output) (k : numberOf w ≡ outputKind o) (v : operandOf w ≡ number (outputNames o)) where
+    ran-that : (r : Ran) (u : List ℕ) → ((e : ℕ) → r ≡ Onward e → e ≡ next) → ((s : State) → runOutput o p (withBytes s t) ≡ runOf r (withBytes s u)) → OutputRun w next p t r u
+    ran-that r u h d = record {
+      onward = h;
+      same = λ q l n s. subst (λ (x : Output). runOutput x p (withBytes s t) ≡ runOf r (withBytes s u)) (same-output o q (sym k ∙ l) (sym v ∙ n)) (d s);
+    }
+
+    ran-onward : (u : List ℕ) → ((s : State) → runOutput o p (withBytes s t) ≡ onward (withBytes s u)) → OutputRun w next p t (Onward next) u
+    unfolding runOf
+    ran-onward u d = ran-that (Onward next) u (λ e z. sym (same-end next e z)) d
+
+    ran-jumped : (l : ℕ) → ((s : State) → runOutput o p (withBytes s t) ≡ jumped l (withBytes s t)) → OutputRun w next p t (Jumped l) t
+    unfolding runOf
+    ran-jumped l d = ran-that (Jumped l) t (λ e z. no-end l e z) d
+
+  pub ran-coil : (u : List ℕ) → numberOf w ≡ outputKind (coil (operandOf w)) → u ≡ writtenAt t (operandOf w) p → OutputRun w next p t (Onward next) u
+  unfolding runOutput write outputNames number
+  ran-coil u k q = ran-onward (coil (operandOf w)) k refl u (λ s. rw q refl)
+
+  pub ran-coiln : (u : List ℕ) → numberOf w ≡ outputKind (coiln (operandOf w)) → u ≡ writtenAt t (operandOf w) (not p) → OutputRun w next p t (Onward next) u
+  unfolding runOutput write outputNames number
+  ran-coiln u k q = ran-onward (coiln (operandOf w)) k refl u (λ s. rw q refl)
+
+  pub jump-taken : numberOf w ≡ outputKind (jump (operandOf w)) → p ≡ true → OutputRun w next p t (Jumped (operandOf w)) t
+  unfolding runOutput jumpIf outputNames number
+  jump-taken k q = ran-jumped (jump (operandOf w)) k refl (operandOf w) (λ s. rw q refl)
+
+  pub jump-left : numberOf w ≡ outputKind (jump (operandOf w)) → p ≡ false → OutputRun w next p t (Onward next) t
+  unfolding runOutput jumpIf outputNames number
+  jump-left k q = ran-onward (jump (operandOf w)) k refl t (λ s. rw q refl)
+
+  pub jumpn-taken : numberOf w ≡ outputKind (jumpn (operandOf w)) → p ≡ false → OutputRun w next p t (Jumped (operandOf w)) t
+  unfolding runOutput jumpIf outputNames number
+  jumpn-taken k q = ran-jumped (jumpn (operandOf w)) k refl (operandOf w) (λ s. rw q refl)
+
+  pub jumpn-left : numberOf w ≡ outputKind (jumpn (operandOf w)) → p ≡ true → OutputRun w next p t (Onward next) t
+  unfolding runOutput jumpIf outputNames number
+  jumpn-left k q = ran-onward (jumpn (operandOf w)) k refl t (λ s. rw q refl)
+
+  pub no-output : ((o : Output) → numberOf w ≡ outputKind o → ⊥) → OutputRun w next p t (Onward next) t
+  no-output k = record { onward = λ e z. sym (same-end next e z); same = λ o l n s. absurd (k o l) }
+
+-- ---- rears
+
+abbrev Done : ℕ → Bool → List ℕ → Ran → List ℕ → Rear → Type 0
+Done at p t r u k = RunDone at (length (rearWords k)) (runRear k p) t r u
 
 module _ (ws : List ℕ) (at w : ℕ) (p : Bool) (t : List ℕ) (e : w ≡ getD ws at 0) where
-  pub ran-coil : (u : List ℕ) → numberOf w ≡ outputKind (coil (operandOf w)) → u ≡ writtenAt t (operandOf w) p → RearRun ws at p t (Onward (at + 1)) u
-  unfolding runRear runOutput write runOf rearWords outputNames number
-  ran-coil u k q = record {
-    onward = λ n z. let h = same-end (at + 1) n z in omega arith;
-    done = that-output ws at w e (Done at p t (Onward (at + 1)) u) (coil (operandOf w)) k refl (record { same = λ s. rw q refl; next = λ n z. sym (same-end (at + 1) n z) });
-  }
-
-  pub ran-coiln : (u : List ℕ) → numberOf w ≡ outputKind (coiln (operandOf w)) → u ≡ writtenAt t (operandOf w) (not p) → RearRun ws at p t (Onward (at + 1)) u
-  unfolding runRear runOutput write runOf rearWords outputNames number
-  ran-coiln u k q = record {
-    onward = λ n z. let h = same-end (at + 1) n z in omega arith;
-    done = that-output ws at w e (Done at p t (Onward (at + 1)) u) (coiln (operandOf w)) k refl (record { same = λ s. rw q refl; next = λ n z. sym (same-end (at + 1) n z) });
-  }
-
-  pub jump-taken : numberOf w ≡ outputKind (jump (operandOf w)) → p ≡ true → RearRun ws at p t (Jumped (operandOf w)) t
-  unfolding runRear runOutput jumpIf runOf outputNames number
-  jump-taken k q = record {
-    onward = λ n z. no-end (operandOf w) n z;
-    done = that-output ws at w e (Done at p t (Jumped (operandOf w)) t) (jump (operandOf w)) k refl (record { same = λ s. rw q refl; next = λ n z. no-end (operandOf w) n z });
-  }
-
-  pub jump-left : numberOf w ≡ outputKind (jump (operandOf w)) → p ≡ false → RearRun ws at p t (Onward (at + 1)) t
-  unfolding runRear runOutput jumpIf runOf rearWords outputNames number
-  jump-left k q = record {
-    onward = λ n z. let h = same-end (at + 1) n z in omega arith;
-    done = that-output ws at w e (Done at p t (Onward (at + 1)) t) (jump (operandOf w)) k refl (record { same = λ s. rw q refl; next = λ n z. sym (same-end (at + 1) n z) });
-  }
-
-  pub jumpn-taken : numberOf w ≡ outputKind (jumpn (operandOf w)) → p ≡ false → RearRun ws at p t (Jumped (operandOf w)) t
-  unfolding runRear runOutput jumpIf runOf outputNames number
-  jumpn-taken k q = record {
-    onward = λ n z. no-end (operandOf w) n z;
-    done = that-output ws at w e (Done at p t (Jumped (operandOf w)) t) (jumpn (operandOf w)) k refl (record { same = λ s. rw q refl; next = λ n z. no-end (operandOf w) n z });
-  }
-
-  pub jumpn-left : numberOf w ≡ outputKind (jumpn (operandOf w)) → p ≡ true → RearRun ws at p t (Onward (at + 1)) t
-  unfolding runRear runOutput jumpIf runOf rearWords outputNames number
-  jumpn-left k q = record {
-    onward = λ n z. let h = same-end (at + 1) n z in omega arith;
-    done = that-output ws at w e (Done at p t (Onward (at + 1)) t) (jumpn (operandOf w)) k refl (record { same = λ s. rw q refl; next = λ n z. sym (same-end (at + 1) n z) });
+  pub ran-output : (r : Ran) (u : List ℕ) → kindSort (numberOf w) ≡ outputSort → OutputRun w (at + 1) p t r u → RearRun ws at p t r u
+  unfolding runRear rearWords
+  ran-output r u k a = record {
+    onward = λ n z. let h = a .onward n z in omega arith;
+    done = output-only ws at w e (Done at p t r u) k (λ o q v. record { same = a .same o q v; next = a .onward });
   }
 
   pub ran-and : (front : Worked) (u : List ℕ) (r : Ran) (v : List ℕ) → kindSort (numberOf w) ≡ rearAndSort → FrontWorked ws (at + 1) t front u
@@ -153,12 +156,8 @@ module _ (ws : List ℕ) (at w : ℕ) (p : Bool) (t : List ℕ) (e : w ≡ getD 
     done = rear-or-only ws at w e (Done at p t (Jumped l) u) k (λ f g z sf sg. record { same = λ s. rw (a .done f sf .same s, o) refl; next = λ n z. no-end l n z });
   }
 
-  pub ran-none : ((o : Output) → numberOf w ≡ outputKind o → ⊥) → ((f : Front) (r : Rear) → numberOf w ≡ rearKind (rearAnd f r) → ⊥)
-      → ((a b : Rear) → numberOf w ≡ rearKind (rearOr a b) → ⊥) → RearRun ws at p t (Onward at) t
-  ran-none k l m = record {
-    onward = λ n z. let h = same-end at n z in omega arith;
-    done = rear-cases ws at w e (Done at p t (Onward at) t) (λ o z v. absurd (k o z)) (λ f r z sf sr. absurd (l f r z)) (λ a b z sa sb. absurd (m a b z));
-  }
+  pub ran-none : startsRear (kindSort (numberOf w)) ≡ false → RearRun ws at p t (Onward at) t
+  ran-none n = record { onward = λ m z. let h = same-end at m z in omega arith; done = no-rear ws at w e (Done at p t (Onward at) t) n }
 
 -- ---- rungs
 

@@ -5,10 +5,10 @@ use mathlib.Core.Bool.{Bool, _&&_, _||_}
 use mathlib.Core.List.{List}
 use lib.ListN.{length, getD}
 use Rattle.table.specs.State.{State, withBytes}
-use Rattle.rungs.specs.Words.{numberOf}
-use Rattle.ladder_definitions.specs.Tree.{Front, frontAnd, frontOr, Rear, Rung}
-use Rattle.ladder_definitions.specs.Meaning.{workFront, Run, onward, jumped, runRear, runRung}
-use Rattle.ladder_definitions.specs.Kept.{joinedSort, kindSort, frontWords, rearWords, rungWords}
+use Rattle.rungs.specs.Words.{numberOf, operandOf}
+use Rattle.ladder_definitions.specs.Tree.{Front, frontAnd, frontOr, Output, Rear, Rung, outputNames, number}
+use Rattle.ladder_definitions.specs.Meaning.{workFront, Run, onward, jumped, runOutput, runRear, runRung}
+use Rattle.ladder_definitions.specs.Kept.{outputKind, joinedSort, kindSort, frontWords, rearWords, rungWords}
 use Rattle.ladder_definitions.specs.Held.{FrontAt, RearAt, RungAt}
 use Rattle.ladder_walk.specs.declared.Worked.{Worked}
 use Rattle.ladder_walk.specs.declared.Ran.{Ran}
@@ -53,6 +53,11 @@ runOf (Jumped l) s = jumped l s
 pub record RunDone (at n : ℕ) (run : State → Run) (t : List ℕ) (r : Ran) (u : List ℕ) : Type 0 where
   pub same : (s : State) → run (withBytes s t) ≡ runOf r (withBytes s u)
   pub next : (e : ℕ) → r ≡ Onward e → e ≡ at + n
+
+-- the output that has a word's kind and operand, run in any state with the bytes t: what it leaves, and where it ends if it takes no jump
+pub record OutputRun (w next : ℕ) (power : Bool) (t : List ℕ) (r : Ran) (u : List ℕ) : Type 0 where
+  pub onward : (e : ℕ) → r ≡ Onward e → e ≡ next
+  pub same : (o : Output) → numberOf w ≡ outputKind o → operandOf w ≡ number (outputNames o) → (s : State) → runOutput o power (withBytes s t) ≡ runOf r (withBytes s u)
 
 pub record RearRun (ws : List ℕ) (at : ℕ) (power : Bool) (t : List ℕ) (r : Ran) (u : List ℕ) : Type 0 where
   pub onward : (e : ℕ) → r ≡ Onward e → at ≤ e

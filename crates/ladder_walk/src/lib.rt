@@ -1,6 +1,6 @@
 // A rung worked along the prefix order of its kept words: a tree is its root word, then its first part, then its second.
 // Words that hold no tree are passed over from the first that has no place there.
-ghost use Rattle.ladder_walk.specs.Walking.{ContactWorked, PartsJoined, RootsPassed, FrontWorked, RearRun, RungRun};
+ghost use Rattle.ladder_walk.specs.Walking.{ContactWorked, PartsJoined, RootsPassed, FrontWorked, OutputRun, RearRun, RungRun};
 use ladder_kinds::KindSort;
 
 pub mod scan;
@@ -91,40 +91,53 @@ fn front_at(words: &[u32], from: usize, table: &[u8]) -> Worked
     first
 }
 
-// The rear whose words begin at a position, with a power.
-fn rear_at(words: &[u32], at: usize, power: bool, table: &mut [u8]) -> Ran
-    ensures { λ r. ⌜ RearRun (now (words .entry)) at power (now (table .entry)) r (now (table .exit)) ⌝ }
+// The output of a word, with a power: on to the position after the word, or away by a jump to a label.
+fn run_output(word: u32, next: usize, power: bool, table: &mut [u8]) -> Ran
+    ensures { λ r. ⌜ OutputRun word next power (now (table .entry)) r (now (table .exit)) ⌝ }
 {
-    let word = rungs::word_at(words, at);
     let operand = word % rungs::OPERANDS;
     match word / rungs::OPERANDS {
         ladder_kinds::COIL => {
             table::write(table, operand as usize, power);
-            Ran::Onward(at + 1)
+            Ran::Onward(next)
         }
         ladder_kinds::NEGATED_COIL => {
             table::write(table, operand as usize, !power);
-            Ran::Onward(at + 1)
+            Ran::Onward(next)
         }
         ladder_kinds::JUMP => {
             if power {
                 Ran::Jumped(operand)
             } else {
-                Ran::Onward(at + 1)
+                Ran::Onward(next)
             }
         }
         ladder_kinds::NEGATED_JUMP => {
             if power {
-                Ran::Onward(at + 1)
+                Ran::Onward(next)
             } else {
                 Ran::Jumped(operand)
             }
         }
-        ladder_kinds::REAR_AND => {
+        _ => Ran::Onward(next),
+    }
+}
+
+// The rear whose words begin at a position, with a power.
+fn rear_at(words: &[u32], at: usize, power: bool, table: &mut [u8]) -> Ran
+    ensures { λ r. ⌜ RearRun (now (words .entry)) at power (now (table .entry)) r (now (table .exit)) ⌝ }
+{
+    let word = rungs::word_at(words, at);
+    match ladder_kinds::sort_of(word / rungs::OPERANDS) {
+        // Returned at once: as the value of the match it would take ten machine instructions more.
+        KindSort::Output => {
+            return run_output(word, at + 1, power, table);
+        }
+        KindSort::RearAnd => {
             let front = front_at(words, at + 1, table);
             rear_at(words, front.next, power & front.value, table)
         }
-        ladder_kinds::REAR_OR => match rear_at(words, at + 1, power, table) {
+        KindSort::RearOr => match rear_at(words, at + 1, power, table) {
             Ran::Onward(next) => rear_at(words, next, power, table),
             Ran::Jumped(label) => Ran::Jumped(label),
         },

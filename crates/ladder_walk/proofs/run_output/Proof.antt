@@ -1,0 +1,80 @@
+-- `ladder_walk::run_output` meets its contract: the word's kind and operand tell the output, and each arm runs its own. Assumes nothing.
+use native.Mathlib.Omega.{arith}
+use mathlib.Core.Path.{_≡_}
+use borrow.Author.Needs.{needs}
+use Rattle.rungs.specs.Words.{numberOf}
+use Rattle.ladder_definitions.specs.Tree.{Output, coil, coiln, jump, jumpn}
+use Rattle.ladder_definitions.specs.Kept.{outputKind}
+use Rattle.ladder_walk.proofs.Walks.{ran-coil, ran-coiln, jump-taken, jump-left, jumpn-taken, jumpn-left, no-output}
+use Rattle.ladder_walk.proofs.run_output.Statement.{statement}
+use Rattle.ladder_walk.proofs.run_output.Tie as tie
+
+cast-write : tie.Need-cast-write
+cast-write c = search needs
+
+write-requires : tie.Need-write-requires
+write-requires c κs = search needs
+
+cast-write-2 : tie.Need-cast-write-2
+cast-write-2 c = search needs
+
+write-requires-2 : tie.Need-write-requires-2
+write-requires-2 c κs = search needs
+
+same-length : tie.Need-same-length
+same-length c = search needs
+
+returns : tie.Need-returns
+unfolding outputKind
+returns c = ran-coil _ _ _ _ _ (c .before .before .before .before .match .keys1) (c .before .before .write .ensures)
+
+same-length-2 : tie.Need-same-length-2
+same-length-2 c = search needs
+
+returns-2 : tie.Need-returns-2
+unfolding outputKind
+returns-2 c = ran-coiln _ _ _ _ _ (c .before .before .before .before .match .keys2) (c .before .before .write2 .ensures)
+
+returns-3 : tie.Need-returns-3
+unfolding outputKind
+returns-3 c = jump-taken _ _ _ _ (c .before .match .keys3) (c .if1 .taken)
+
+returns-4 : tie.Need-returns-4
+unfolding outputKind
+returns-4 c = jump-left _ _ _ _ (c .before .match .keys3) (c .if1 .left)
+
+returns-5 : tie.Need-returns-5
+unfolding outputKind
+returns-5 c = jumpn-left _ _ _ _ (c .before .match .keys4) (c .if2 .taken)
+
+returns-6 : tie.Need-returns-6
+unfolding outputKind
+returns-6 c = jumpn-taken _ _ _ _ (c .before .match .keys4) (c .if2 .left)
+
+returns-7 : tie.Need-returns-7
+unfolding outputKind
+returns-7 c = no-output _ _ _ _ none
+  where
+    none : (o : Output) → numberOf (c .before .before .args .word) ≡ outputKind o → ⊥
+    none (coil v) e = omega arith
+    none (coiln v) e = omega arith
+    none (jump l) e = omega arith
+    none (jumpn l) e = omega arith
+
+pub run-output-spec : {M : Type 1} → statement M
+run-output-spec =
+    tie.close
+    (tie.spec
+    cast-write
+    write-requires
+    cast-write-2
+    write-requires-2
+    same-length
+    returns
+    same-length-2
+    returns-2
+    returns-3
+    returns-4
+    returns-5
+    returns-6
+    returns-7)
