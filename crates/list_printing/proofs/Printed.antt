@@ -152,8 +152,8 @@ word-parts w d =
     (omega (arith, s .0), omega (arith, s .0))
 
 pub word-op : (w : ℕ) → Decodes w → (1 ≤ numberOf w) × (numberOf w ≤ length fixedNames)
-unfolding fixedNames bytes
-word-op w d = op-known w (d .instr) (d .same)
+unfolding fixedNames bytes ops
+word-op w d = let known = op-known w (d .instr) (d .same) in (known .0, omega arith)
 
 pub word-line : (vars w : ℕ) → Decodes w → wordLine vars w ≡ nameOf fixedNames (numberOf w) ++ operandBy vars (numberOf w) (operandOf w) ++ 10 ∷ []
 unfolding wordLine instrOf ended instrLine

@@ -1,10 +1,10 @@
--- `list_machine::carry_out` meets its contract: an arm for each op, and the last for JMPCN, the one op that is left. Assumes nothing.
+-- `list_machine::carry_out` meets its contract: an arm for each op, and the last for a word that holds no instruction. Assumes nothing.
 use mathlib.Core.Path.{refl}
 use mathlib.Core.Bool.{xor}
 use Rattle.table.specs.State.{valueAt, value, writtenAt, write}
-use Rattle.list_definitions.specs.Instruction.{LD, LDN, ST, STN, AND, ANDN, OR, ORN, XOR, XORN, JMP, JMPC, ops}
+use Rattle.list_definitions.specs.Instruction.{LD, LDN, ST, STN, AND, ANDN, OR, ORN, XOR, XORN, JMP, JMPC, JMPCN, ops}
 use Rattle.list_definitions.specs.Machine.{does}
-use Rattle.list_machine.proofs.Steps.{last-op, arm, arm-last, arm-not}
+use Rattle.list_machine.proofs.Steps.{noneTo, arm, arm-not, arm-other}
 use borrow.Author.Needs.{needs}
 use Rattle.list_machine.proofs.carry_out.Statement.{statement}
 use Rattle.list_machine.proofs.carry_out.Tie as tie
@@ -13,132 +13,174 @@ cast-operand : tie.Need-cast-operand
 cast-operand c = search needs
 
 value-requires : tie.Need-value-requires
-value-requires c κs = search needs
+value-requires c κs = tt
+
+after-requires : tie.Need-after-requires
+after-requires c κs = tt
 
 value-requires-2 : tie.Need-value-requires-2
-value-requires-2 c κs = search needs
+value-requires-2 c κs = tt
+
+after-requires-2 : tie.Need-after-requires-2
+after-requires-2 c κs = tt
 
 write-requires : tie.Need-write-requires
-write-requires c κs = search needs
+write-requires c κs = tt
+
+after-requires-3 : tie.Need-after-requires-3
+after-requires-3 c κs = tt
 
 write-requires-2 : tie.Need-write-requires-2
-write-requires-2 c κs = search needs
+write-requires-2 c κs = tt
+
+after-requires-4 : tie.Need-after-requires-4
+after-requires-4 c κs = tt
 
 value-requires-3 : tie.Need-value-requires-3
-value-requires-3 c κs = search needs
+value-requires-3 c κs = tt
+
+after-requires-5 : tie.Need-after-requires-5
+after-requires-5 c κs = tt
 
 value-requires-4 : tie.Need-value-requires-4
-value-requires-4 c κs = search needs
+value-requires-4 c κs = tt
+
+after-requires-6 : tie.Need-after-requires-6
+after-requires-6 c κs = tt
 
 value-requires-5 : tie.Need-value-requires-5
-value-requires-5 c κs = search needs
+value-requires-5 c κs = tt
+
+after-requires-7 : tie.Need-after-requires-7
+after-requires-7 c κs = tt
 
 value-requires-6 : tie.Need-value-requires-6
-value-requires-6 c κs = search needs
+value-requires-6 c κs = tt
+
+after-requires-8 : tie.Need-after-requires-8
+after-requires-8 c κs = tt
 
 value-requires-7 : tie.Need-value-requires-7
-value-requires-7 c κs = search needs
+value-requires-7 c κs = tt
+
+after-requires-9 : tie.Need-after-requires-9
+after-requires-9 c κs = tt
 
 value-requires-8 : tie.Need-value-requires-8
-value-requires-8 c κs = search needs
+value-requires-8 c κs = tt
+
+after-requires-10 : tie.Need-after-requires-10
+after-requires-10 c κs = tt
+
+after-requires-11 : tie.Need-after-requires-11
+after-requires-11 c κs = tt
+
+after-requires-12 : tie.Need-after-requires-12
+after-requires-12 c κs = tt
+
+choose-requires : tie.Need-choose-requires
+choose-requires c κs = tt
+
+after-requires-13 : tie.Need-after-requires-13
+after-requires-13 c κs = tt
+
+choose-requires-2 : tie.Need-choose-requires-2
+choose-requires-2 c κs = tt
+
+after-requires-14 : tie.Need-after-requires-14
+after-requires-14 c κs = tt
+
+after-requires-15 : tie.Need-after-requires-15
+after-requires-15 c κs = tt
 
 same-length : tie.Need-same-length
 same-length c = search needs
 
 returns : tie.Need-returns
-unfolding ops does value valueAt write writtenAt
-returns c = arm _ _ _ _ 1 (c .before .before .match .keys1) LD refl _ _ _ (λ s pc q. rw (c .value .ensures, q))
+unfolding ops does value valueAt
+returns c = arm (c .before .before .before .match .keys1) LD refl (c .after .ensures) (λ s pc q. rw (c .before .value .ensures, q))
 
 same-length-2 : tie.Need-same-length-2
 same-length-2 c = search needs
 
 returns-2 : tie.Need-returns-2
-unfolding ops does value valueAt write writtenAt
-returns-2 c = arm _ _ _ _ 2 (c .before .before .match .keys2) LDN refl _ _ _ (λ s pc q. rw (c .value2 .ensures, q))
+unfolding ops does value valueAt
+returns-2 c = arm (c .before .before .before .match .keys2) LDN refl (c .after2 .ensures) (λ s pc q. rw (c .before .value2 .ensures, q))
 
 same-length-3 : tie.Need-same-length-3
 same-length-3 c = search needs
 
 returns-3 : tie.Need-returns-3
-unfolding ops does value valueAt write writtenAt
-returns-3 c = arm _ _ _ _ 3 (c .before .before .before .before .match .keys3) ST refl _ _ _ (λ s pc q. rw (c .before .before .write .ensures, q))
+unfolding ops does write writtenAt
+returns-3 c = arm (c .before .before .before .before .before .match .keys3) ST refl (c .after3 .ensures) (λ s pc q. rw (c .before .before .before .write .ensures, q))
 
 same-length-4 : tie.Need-same-length-4
 same-length-4 c = search needs
 
 returns-4 : tie.Need-returns-4
-unfolding ops does value valueAt write writtenAt
-returns-4 c = arm _ _ _ _ 4 (c .before .before .before .before .match .keys4) STN refl _ _ _ (λ s pc q. rw (c .before .before .write2 .ensures, q))
+unfolding ops does write writtenAt
+returns-4 c = arm (c .before .before .before .before .before .match .keys4) STN refl (c .after4 .ensures) (λ s pc q. rw (c .before .before .before .write2 .ensures, q))
 
 same-length-5 : tie.Need-same-length-5
 same-length-5 c = search needs
 
 returns-5 : tie.Need-returns-5
-unfolding ops does value valueAt write writtenAt
-returns-5 c = arm _ _ _ _ 5 (c .before .before .match .keys5) AND refl _ _ _ (λ s pc q. rw (c .value3 .ensures, q))
+unfolding ops does value valueAt
+returns-5 c = arm (c .before .before .before .match .keys5) AND refl (c .after5 .ensures) (λ s pc q. rw (c .before .value3 .ensures, q))
 
 same-length-6 : tie.Need-same-length-6
 same-length-6 c = search needs
 
 returns-6 : tie.Need-returns-6
-unfolding ops does value valueAt write writtenAt
-returns-6 c = arm _ _ _ _ 6 (c .before .before .match .keys6) ANDN refl _ _ _ (λ s pc q. rw (c .value4 .ensures, q))
+unfolding ops does value valueAt
+returns-6 c = arm (c .before .before .before .match .keys6) ANDN refl (c .after6 .ensures) (λ s pc q. rw (c .before .value4 .ensures, q))
 
 same-length-7 : tie.Need-same-length-7
 same-length-7 c = search needs
 
 returns-7 : tie.Need-returns-7
-unfolding ops does value valueAt write writtenAt
-returns-7 c = arm _ _ _ _ 7 (c .before .before .match .keys7) OR refl _ _ _ (λ s pc q. rw (c .value5 .ensures, q))
+unfolding ops does value valueAt
+returns-7 c = arm (c .before .before .before .match .keys7) OR refl (c .after7 .ensures) (λ s pc q. rw (c .before .value5 .ensures, q))
 
 same-length-8 : tie.Need-same-length-8
 same-length-8 c = search needs
 
 returns-8 : tie.Need-returns-8
-unfolding ops does value valueAt write writtenAt
-returns-8 c = arm _ _ _ _ 8 (c .before .before .match .keys8) ORN refl _ _ _ (λ s pc q. rw (c .value6 .ensures, q))
+unfolding ops does value valueAt
+returns-8 c = arm (c .before .before .before .match .keys8) ORN refl (c .after8 .ensures) (λ s pc q. rw (c .before .value6 .ensures, q))
 
 same-length-9 : tie.Need-same-length-9
 same-length-9 c = search needs
 
 returns-9 : tie.Need-returns-9
-unfolding ops does xor value valueAt write writtenAt
-returns-9 c = arm _ _ _ _ 9 (c .before .before .match .keys9) XOR refl _ _ _ (λ s pc q. rw (c .value7 .ensures, q))
+unfolding ops does xor value valueAt
+returns-9 c = arm (c .before .before .before .match .keys9) XOR refl (c .after9 .ensures) (λ s pc q. rw (c .before .value7 .ensures, q))
 
 same-length-10 : tie.Need-same-length-10
 same-length-10 c = search needs
 
 returns-10 : tie.Need-returns-10
-unfolding ops does xor value valueAt write writtenAt
-returns-10 c = arm _ _ _ _ 10 (c .before .before .match .keys10) XORN refl _ _ _ (λ s pc q. rw (c .value8 .ensures, q))
+unfolding ops does xor value valueAt
+returns-10 c = arm (c .before .before .before .match .keys10) XORN refl (c .after10 .ensures) (λ s pc q. rw (c .before .value8 .ensures, q))
 
 returns-11 : tie.Need-returns-11
-unfolding ops does value valueAt write writtenAt
-returns-11 c = arm-not _ _ _ _ (c .match .keys11)
+returns-11 c = arm-not (c .before .match .keys11) (c .after11 .ensures)
 
 returns-12 : tie.Need-returns-12
-unfolding ops does value valueAt write writtenAt
-returns-12 c = arm _ _ _ _ 12 (c .match .keys12) JMP refl _ _ _ (λ s pc q. refl)
+unfolding ops does
+returns-12 c = arm (c .before .match .keys12) JMP refl (c .after12 .ensures) (λ s pc q. refl)
 
 returns-13 : tie.Need-returns-13
-unfolding ops does value valueAt write writtenAt
-returns-13 c = arm _ _ _ _ 13 (c .before .match .keys13) JMPC refl _ _ _ (λ s pc q. rw (c .if1 .taken))
+unfolding ops does
+returns-13 c = arm (c .before .before .match .keys13) JMPC refl (c .after13 .ensures) (λ s pc q. rw (c .before .choose .ensures, q))
 
 returns-14 : tie.Need-returns-14
-unfolding ops does value valueAt write writtenAt
-returns-14 c = arm _ _ _ _ 13 (c .before .match .keys13) JMPC refl _ _ _ (λ s pc q. rw (c .if1 .left, q))
+unfolding ops does
+returns-14 c = arm (c .before .before .match .keys14) JMPCN refl (c .after14 .ensures) (λ s pc q. rw (c .before .choose2 .ensures, q))
 
 returns-15 : tie.Need-returns-15
-unfolding ops does value valueAt write writtenAt
-returns-15 c =
-    let n = c .before .match .rest in
-    arm-last _ _ _ _ (last-op _ (n .0 .0 .0 .0 .0 .0 .0 .0 .0 .0 .0 .0 .1) (n .0 .0 .0 .0 .0 .0 .0 .0 .0 .0 .0 .1) (n .0 .0 .0 .0 .0 .0 .0 .0 .0 .0 .1) (n .0 .0 .0 .0 .0 .0 .0 .0 .0 .1) (n .0 .0 .0 .0 .0 .0 .0 .0 .1) (n .0 .0 .0 .0 .0 .0 .0 .1) (n .0 .0 .0 .0 .0 .0 .1) (n .0 .0 .0 .0 .0 .1) (n .0 .0 .0 .0 .1) (n .0 .0 .0 .1) (n .0 .0 .1) (n .0 .1) (n .1)) _ _ _ (λ s pc q. rw (c .if2 .taken, q))
-
-returns-16 : tie.Need-returns-16
-unfolding ops does value valueAt write writtenAt
-returns-16 c =
-    let n = c .before .match .rest in
-    arm-last _ _ _ _ (last-op _ (n .0 .0 .0 .0 .0 .0 .0 .0 .0 .0 .0 .0 .1) (n .0 .0 .0 .0 .0 .0 .0 .0 .0 .0 .0 .1) (n .0 .0 .0 .0 .0 .0 .0 .0 .0 .0 .1) (n .0 .0 .0 .0 .0 .0 .0 .0 .0 .1) (n .0 .0 .0 .0 .0 .0 .0 .0 .1) (n .0 .0 .0 .0 .0 .0 .0 .1) (n .0 .0 .0 .0 .0 .0 .1) (n .0 .0 .0 .0 .0 .1) (n .0 .0 .0 .0 .1) (n .0 .0 .0 .1) (n .0 .0 .1) (n .0 .1) (n .1)) _ _ _ (λ s pc q. rw (c .if2 .left))
+unfolding ops noneTo
+returns-15 c = arm-other (c .before .match .rest)
 
 pub carry-out-spec : {M : Type 1} → statement M
 carry-out-spec =
@@ -146,15 +188,32 @@ carry-out-spec =
     (tie.spec
     cast-operand
     value-requires
+    after-requires
     value-requires-2
+    after-requires-2
     write-requires
+    after-requires-3
     write-requires-2
+    after-requires-4
     value-requires-3
+    after-requires-5
     value-requires-4
+    after-requires-6
     value-requires-5
+    after-requires-7
     value-requires-6
+    after-requires-8
     value-requires-7
+    after-requires-9
     value-requires-8
+    after-requires-10
+    after-requires-11
+    after-requires-12
+    choose-requires
+    after-requires-13
+    choose-requires-2
+    after-requires-14
+    after-requires-15
     same-length
     returns
     same-length-2
@@ -179,5 +238,4 @@ carry-out-spec =
     returns-12
     returns-13
     returns-14
-    returns-15
-    returns-16)
+    returns-15)
