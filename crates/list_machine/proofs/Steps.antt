@@ -10,6 +10,7 @@ use lib.ListN.{length, getD, List·getD-eq-default}
 use Rattle.questions.specs.Laws.Tests.{none-some}
 use Rattle.table.specs.State.{State, withBytes}
 use Rattle.rungs.specs.Words.{numberOf, operandOf}
+use Rattle.rungs.specs.Laws.Numbers.{noneTo, past-all}
 use Rattle.list_definitions.specs.Instruction.{Instr, NOT, noOp, onlyNot, ops, decodeInstr}
 use Rattle.list_definitions.specs.Machine.{does, count, step}
 use Rattle.list_definitions.specs.ListScan.{countsIn}
@@ -26,16 +27,6 @@ op-known w i e = go (numberOf w) refl (decLe (length ops) (numberOf w))
     go k q (yes h) = absurd (none-some (ap (λ make. make (operandOf w)) (sym (List·getD-eq-default ops noOp {n = numberOf w} h)) ∙ e))
     go zero q (no h) = absurd (none-some (rw q at e))
     go (suc k) q (no h) = (omega arith, omega arith)
-
--- k is none of 1 to n
-unfoldable pub noneTo : ℕ → ℕ → Type 0
-noneTo k zero = Unit {0}
-noneTo k (suc n) = noneTo k n × (k ≡ suc n → ⊥)
-
-past-all : (k n : ℕ) → noneTo k n → 1 ≤ k → n < k
-unfolding noneTo
-past-all k zero differs lo = lo
-past-all k (suc n) differs lo = let h = past-all k n (differs .0) lo in omega (arith, differs .1)
 
 module _ {w : ℕ} {v : Bool} {following : ℕ} {t : List ℕ} {r : Effect} {u : List ℕ} where
   -- an op that makes the instruction `make x` of its operand x

@@ -1,8 +1,12 @@
 -- `ladder_kinds::sort_of` meets its contract: each kind has its arm's sort, and no other kind has one. Assumes nothing.
-use Prim.Native.Nat.{ℕ, zero, suc}
-use mathlib.Core.Path.{_≡_, refl}
-use Rattle.ladder_definitions.specs.Kept.{noSort, kindSorts, kindSort}
+use Prim.Native.Nat.{_-_}
+use native.Mathlib.Omega.{arith}
+use mathlib.Core.Path.{refl}
+use lib.ListN.{length}
+use Rattle.rungs.specs.Laws.Numbers.{noneTo, past-all}
+use Rattle.ladder_definitions.specs.Kept.{kindSorts, kindSort}
 use Rattle.ladder_kinds.specs.Kinds.{sortIn}
+use Rattle.ladder_kinds.specs.Laws.Sorts.{no-sort}
 use Rattle.ladder_kinds.proofs.sort_of.Statement.{statement}
 use Rattle.ladder_kinds.proofs.sort_of.Tie as tie
 
@@ -46,24 +50,9 @@ returns-10 : tie.Need-returns-10
 unfolding sortIn kindSort kindSorts
 returns-10 c = rw (c .match .keys10) refl
 
-no-kind : (k : ℕ) → (k ≡ 1 → ⊥) → (k ≡ 2 → ⊥) → (k ≡ 3 → ⊥) → (k ≡ 4 → ⊥) → (k ≡ 5 → ⊥) → (k ≡ 6 → ⊥) → (k ≡ 7 → ⊥) → (k ≡ 8 → ⊥) → (k ≡ 9 → ⊥) → (k ≡ 10 → ⊥) → noSort ≡ kindSort k
-unfolding kindSort kindSorts
-no-kind zero a b d e f g h i j l = refl
-no-kind (suc zero) a b d e f g h i j l = absurd (a refl)
-no-kind (suc (suc zero)) a b d e f g h i j l = absurd (b refl)
-no-kind (suc (suc (suc zero))) a b d e f g h i j l = absurd (d refl)
-no-kind (suc (suc (suc (suc zero)))) a b d e f g h i j l = absurd (e refl)
-no-kind (suc (suc (suc (suc (suc zero))))) a b d e f g h i j l = absurd (f refl)
-no-kind (suc (suc (suc (suc (suc (suc zero)))))) a b d e f g h i j l = absurd (g refl)
-no-kind (suc (suc (suc (suc (suc (suc (suc zero))))))) a b d e f g h i j l = absurd (h refl)
-no-kind (suc (suc (suc (suc (suc (suc (suc (suc zero)))))))) a b d e f g h i j l = absurd (i refl)
-no-kind (suc (suc (suc (suc (suc (suc (suc (suc (suc zero))))))))) a b d e f g h i j l = absurd (j refl)
-no-kind (suc (suc (suc (suc (suc (suc (suc (suc (suc (suc zero)))))))))) a b d e f g h i j l = absurd (l refl)
-no-kind (suc (suc (suc (suc (suc (suc (suc (suc (suc (suc (suc k))))))))))) a b d e f g h i j l = refl
-
 returns-11 : tie.Need-returns-11
-unfolding sortIn
-returns-11 c = no-kind _ (c .match .rest .0 .0 .0 .0 .0 .0 .0 .0 .0 .1) (c .match .rest .0 .0 .0 .0 .0 .0 .0 .0 .1) (c .match .rest .0 .0 .0 .0 .0 .0 .0 .1) (c .match .rest .0 .0 .0 .0 .0 .0 .1) (c .match .rest .0 .0 .0 .0 .0 .1) (c .match .rest .0 .0 .0 .0 .1) (c .match .rest .0 .0 .0 .1) (c .match .rest .0 .0 .1) (c .match .rest .0 .1) (c .match .rest .1)
+unfolding sortIn kindSorts noneTo
+returns-11 c = no-sort _ (λ l h. let past = past-all _ (length kindSorts - 1) (c .match .rest) l in omega arith)
 
 pub sort-of-spec : {M : Type 1} → statement M
 sort-of-spec = tie.close (tie.spec returns returns-2 returns-3 returns-4 returns-5 returns-6 returns-7 returns-8 returns-9 returns-10 returns-11)

@@ -2,9 +2,10 @@
 use mathlib.Core.Path.{refl}
 use mathlib.Core.Bool.{xor}
 use Rattle.table.specs.State.{valueAt, value, writtenAt, write}
+use Rattle.rungs.specs.Laws.Numbers.{noneTo}
 use Rattle.list_definitions.specs.Instruction.{LD, LDN, ST, STN, AND, ANDN, OR, ORN, XOR, XORN, JMP, JMPC, JMPCN, ops}
 use Rattle.list_definitions.specs.Machine.{does}
-use Rattle.list_machine.proofs.Steps.{noneTo, arm, arm-not, arm-other}
+use Rattle.list_machine.proofs.Steps.{arm, arm-not, arm-other}
 use borrow.Author.Needs.{needs}
 use Rattle.list_machine.proofs.carry_out.Statement.{statement}
 use Rattle.list_machine.proofs.carry_out.Tie as tie
