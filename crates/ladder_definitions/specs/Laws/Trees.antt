@@ -221,10 +221,6 @@ module _ (ws : List ℕ) (at w : ℕ) (e : w ≡ getD ws at 0) where
         → (r : Rear) → RearAt ws at r → P r
     output-only k p = rear-cases p (λ f r q sf sr. other-rear (rearAnd f r) q (λ z. let n : _≡_ {A = ℕ} 0 1 = cc in omega arith)) (λ a b q sa sb. other-rear (rearOr a b) q (λ z. let n : _≡_ {A = ℕ} 0 1 = cc in omega arith))
 
-    pub that-output : (o : Output) → numberOf w ≡ outputKind o → operandOf w ≡ number (outputNames o) → P (output o) → (r : Rear) → RearAt ws at r → P r
-    that-output o k v p =
-        output-only (ap kindSort k ∙ rear-kind-sort (output o)) (λ j l u. subst (λ (x : Output). P (output x)) (same-output o j (sym k ∙ l) (sym v ∙ u)) p)
-
     pub rear-and-only : kindSort (numberOf w) ≡ rearAndSort → FrontAndRear → (r : Rear) → RearAt ws at r → P r
     rear-and-only k p = rear-cases (λ o q v. other-rear (output o) q (λ z. let n : _≡_ {A = ℕ} 0 1 = cc in omega arith)) p (λ a b q sa sb. other-rear (rearOr a b) q (λ z. let n : _≡_ {A = ℕ} 0 1 = cc in omega arith))
 

@@ -1,6 +1,6 @@
 -- The list of an accepted ladder is one that List scan takes: question 10 gets a "yes", and so does question 12 for k × L. Assumes nothing.
 use mathlib.Core.Path.{_≡_, _∙_}
-use mathlib.Core.Bool.{Bool, true, _&&_}
+use mathlib.Core.Bool.{true, _&&_}
 use mathlib.Core.Option.{none, some}
 use mathlib.Core.List.{List, [], _∷_, _++_, flatMap, map}
 use Prim.Native.Nat.{ℕ, _+_, _*_, _≤_, _<_}

@@ -1,6 +1,6 @@
 -- Agreement over any number of scans, from demand 3's record for one scan: a ladder scan does not read scratch, and a list scan leaves a legal table legal.
 -- Assumes nothing.
-use Prim.Native.Nat.{ℕ, zero, suc, _+_}
+use Prim.Native.Nat.{ℕ, zero, suc}
 use native.Mathlib.Omega.{arith}
 use mathlib.Core.Path.{_≡_, refl, sym, ap, _∙_}
 use mathlib.Core.Bool.{Bool, true, false}
