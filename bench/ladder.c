@@ -41,7 +41,7 @@ static size_t rear_end(const uint32_t *w, size_t at, size_t end)
     while (owed > 0) {
         if (at >= end) return 0;
         uint32_t k = kind(w[at]);
-        if (k >= 5 && k <= 8) { owed--; at++; }
+        if ((k >= 5 && k <= 8) || k == 11 || k == 12) { owed--; at++; }
         else if (k == 9 && operand(w[at]) == 0) { at = front_end(w, at + 1, end); if (at == 0) return 0; }
         else if (k == 10 && operand(w[at]) == 0) { owed++; at++; }
         else return 0;
@@ -86,7 +86,7 @@ static unsigned front_scratch(const uint32_t *w, size_t *at)
 static unsigned rear_scratch(const uint32_t *w, size_t *at)
 {
     uint32_t k = kind(w[(*at)++]);
-    if (k <= 8) return 0;
+    if (k != 9 && k != 10) return 0;
     if (k == 9) {
         int contact = is_contact(w[*at]);
         unsigned f = front_scratch(w, at);
@@ -104,7 +104,7 @@ static No asked(uint32_t vars, const uint32_t *w, size_t n, const Rung *r, size_
     for (size_t i = 0; i < m; i++)
         for (size_t j = r[i].offset; j < r[i].offset + r[i].length; j++) {
             uint32_t k = kind(w[j]);
-            if ((k == 1 || k == 2 || k == 5 || k == 6) && operand(w[j]) >= vars) return no(6, i);
+            if ((k == 1 || k == 2 || k == 5 || k == 6 || k == 11 || k == 12) && operand(w[j]) >= vars) return no(6, i);
         }
     for (size_t j = 0; j < m; j++)
         for (size_t i = 0; i < j; i++) if (r[i].label == r[j].label) return no(7, j);
@@ -156,6 +156,8 @@ static int32_t run_rear(const uint32_t *w, size_t *at, int power, uint8_t *t)
     case 6: t[operand(word)] = !power; return -1;
     case 7: return power ? (int32_t)operand(word) : -1;
     case 8: return power ? -1 : (int32_t)operand(word);
+    case 11: if (power) t[operand(word)] = 1; return -1;
+    case 12: if (power) t[operand(word)] = 0; return -1;
     case 9: { int f = front_value(w, at, t); return run_rear(w, at, power & f, t); }
     default: { int32_t a = run_rear(w, at, power, t); return a >= 0 ? a : run_rear(w, at, power, t); }
     }
@@ -185,7 +187,7 @@ static Scan ladder_scan(uint32_t vars, const uint32_t *w, size_t n, const Rung *
 
 /* ---- lists */
 
-enum { LD = 1, LDN, ST, STN, AND, ANDN, OR, ORN, XOR, XORN, NOT, JMP, JMPC, JMPCN };
+enum { LD = 1, LDN, ST, STN, AND, ANDN, OR, ORN, XOR, XORN, NOT, JMP, JMPC, JMPCN, S, R };
 
 static No list_asked(uint32_t vars, const uint32_t *c, size_t n, const Rung *r, size_t m)
 {
@@ -199,8 +201,8 @@ static No list_asked(uint32_t vars, const uint32_t *c, size_t n, const Rung *r, 
     if (start != n) return no(10, 0);
     for (size_t i = 0; i < n; i++) {
         uint32_t op = kind(c[i]), x = operand(c[i]);
-        if (op < 1 || op > JMPCN) return no(10, 0);
-        if (op <= XORN ? x >= vars + SCRATCH : op == NOT ? x != 0 : x > n) return no(10, 0);
+        if (op < 1 || op > R) return no(10, 0);
+        if (op <= XORN || op >= S ? x >= vars + SCRATCH : op == NOT ? x != 0 : x > n) return no(10, 0);
     }
     return YES;
 }
@@ -238,6 +240,8 @@ static Scan list_scan(uint32_t vars, const uint32_t *c, size_t n, const Rung *r,
         case JMP: to = x; break;
         case JMPC: if (acc) to = x; break;
         case JMPCN: if (!acc) to = x; break;
+        case S: if (acc) t[x] = 1; break;
+        case R: if (acc) t[x] = 0; break;
         }
         if (to != pc + 1) {
             size_t low = 0, high = m;
@@ -279,6 +283,8 @@ static size_t rear_code(const uint32_t *w, size_t at, uint32_t depth, Out *o)
     switch (k) {
     case 5: emit(o, ST, x); return at + 1;
     case 6: emit(o, STN, x); return at + 1;
+    case 11: emit(o, S, x); return at + 1;
+    case 12: emit(o, R, x); return at + 1;
     case 7: case 8: { size_t i = search(o->rungs, o->m, x); emit(o, k == 7 ? JMPC : JMPCN, i < o->m ? o->starts[i] : 0); return at + 1; }
     case 9: at = join_code(w, at + 1, AND, depth, o); return rear_code(w, at, depth, o);
     default:
@@ -321,7 +327,7 @@ static Translation translate(uint32_t vars, const uint32_t *w, size_t n, const R
 
 /* ---- Listing */
 
-static const char NAMES[14][6] = {"LD", "LDN", "ST", "STN", "AND", "ANDN", "OR", "ORN", "XOR", "XORN", "NOT", "JMP", "JMPC", "JMPCN"};
+static const char NAMES[16][6] = {"LD", "LDN", "ST", "STN", "AND", "ANDN", "OR", "ORN", "XOR", "XORN", "NOT", "JMP", "JMPC", "JMPCN", "S", "R"};
 
 typedef struct { uint8_t *bytes; size_t room, put; } Lines;
 static void put(Lines *l, uint8_t b) { if (l->put < l->room) l->bytes[l->put] = b; l->put++; }
@@ -336,7 +342,7 @@ static void put_list(Lines *l, uint32_t vars, const uint32_t *c, const Rung *r, 
             for (int k = 0; k < 6 && NAMES[op - 1][k]; k++) put(l, (uint8_t)NAMES[op - 1][k]);
             if (op != NOT) {
                 put(l, ' ');
-                if (op >= JMP) { put(l, '@'); put_number(l, x); }
+                if (op >= JMP && op <= JMPCN) { put(l, '@'); put_number(l, x); }
                 else if (x < vars) { put(l, 'v'); put_number(l, x); }
                 else { put(l, 't'); put_number(l, x - vars); }
             }
@@ -423,11 +429,11 @@ static void rear(Reader *p)
         while (!p->stuck && ((b = peek(p)) == 'c' || b == 'n' || b == '(')) { word(p, 9, 0); factor(p); take(p, '&'); }
         if (p->stuck) return;
         b = peek(p);
-        if (b == 'o' || b == 'q' || b == 'j' || b == 'k') {
+        if (b == 'o' || b == 'q' || b == 'j' || b == 'k' || b == 's' || b == 'r') {
             p->at++;
             uint32_t x = number(p);
             if (p->stuck) return;
-            word(p, b == 'o' ? 5 : b == 'q' ? 6 : b == 'j' ? 7 : 8, x);
+            word(p, b == 'o' ? 5 : b == 'q' ? 6 : b == 'j' ? 7 : b == 'k' ? 8 : b == 's' ? 11 : 12, x);
         } else if (b == '[') {
             if (!opens(p)) return;
             rear(p);

@@ -1,6 +1,7 @@
 -- Document 01, "Bench ladders": the rows A to I in one table, with one theorem: texts through the definitions of Read, Translate, Ladder scan and List scan.
 -- The list scan has the watchdog of demand 3: k × L where the ladder scan ends with k rungs, 2 × n where it stops at n. A to D say no rung watchdog;
--- theirs is the number of rungs that they enter, so that a watchdog asked before the end would show. J stands below the table. Assumes nothing.
+-- theirs is the number of rungs that they enter, so that a watchdog asked before the end would show. J stands below the table, and so do the latches of
+-- document 02, Req 01, through the same definitions. Assumes nothing.
 use mathlib.Core.Path.{_≡_, refl}
 use mathlib.Core.Option.{Option, none, some}
 use mathlib.Core.List.{List, [], _∷_, _++_, map, zipWith, flatMap}
@@ -9,7 +10,7 @@ use lib.ListN.{length, replicate, take}
 use Rattle.questions.specs.Tests.{all, firstFailed}
 use Rattle.questions.specs.Bytes.{bytes}
 use Rattle.questions.specs.Questions.{ask, askEach, firstNo, varsInRange, question1, question2, question12, longEnough, question13}
-use Rattle.table.specs.State.{scratchBytes, valueAt, value, writtenAt, write}
+use Rattle.table.specs.State.{scratchBytes, valueAt, value, writtenAt, write, writeIf}
 use Rattle.table.specs.Halt.{Halt, Ended, Stopped}
 use Rattle.table.specs.Questions.{tableInRange, question11}
 use Rattle.rungs.specs.Records.{RungRecord, laid, lay, search, present, startOf, isStart, longest, rowOf}
@@ -22,7 +23,7 @@ use Rattle.ladder_definitions.specs.LadderScan.{callLadderScan, scanned, refuse
 use Rattle.text_grammar.specs.Reader.{mapP, bind, followed, digitOf, digitsFrom, numeralOf, chain, termBy, frontBy, factorBy, factorOf, termOf, frontOf, opensFactor, branchBy, rearBy, outputAt, endBy, endOf, rearOf, lineOf, linesOf, textOf}
 use Rattle.text_grammar.specs.Questions.{question3}
 use Rattle.text_definitions.specs.Read.{readText, kept, writtenKept, textLadder, refused as readRefused}
-use Rattle.list_definitions.specs.Instruction.{LD, LDN, ST, AND, ANDN, OR, JMPC, operand, opOf, operandNumber, onlyNot, ops, instrWord, decodeInstr, decodeCode, codeOf}
+use Rattle.list_definitions.specs.Instruction.{Instr, LD, LDN, ST, AND, ANDN, OR, JMPC, operand, opOf, operandNumber, onlyNot, ops, instrWord, decodeInstr, decodeCode, codeOf}
 use Rattle.list_definitions.specs.Machine.{scanList, scanMachine, begin, fresh, step, count, does, halted}
 use Rattle.list_definitions.specs.Questions.{operandInRange, wordInRange, recordsLaid, listInRange, question10}
 use Rattle.list_definitions.specs.ListScan.{listOf, callListScan, scanned as listScanned, refused as listRefused, scanEnds as listScanEnds, scanQuestions as listScanQuestions}
@@ -151,18 +152,63 @@ asFar (scans x y list) (refusedAt n p) = scans x y list
 asFar (scans x y list) (scans x′ y′ none) = scans x y none
 asFar (scans x y list) (scans x′ y′ (some l)) = scans x y list
 
--- Every row comes out as document 01 says.
-bench : map (λ r. asFar (run r) (r .outcome)) table ≡ map (λ (r : Row). r .outcome) table
-unfolding table listA outcomeA run asFar start room instructionWatchdog variablesOf byListScan byTranslate byLadderScan bytes
+-- ---- document 02, Req 01
+
+latchList : Printed
+latchList = record {
+  instructions = map instrWord (LD 0 ∷ Instr.S 2 ∷ LD 1 ∷ Instr.R 2 ∷ []);
+  records = record { label = 10; offset = 0; length = 2 } ∷ record { label = 20; offset = 2; length = 2 } ∷ [];
+  counts = record { rungs = 2; instructions = 4; longest = 2 };
+  carriedOut = 4;
+}
+
+-- both scans end with these variables
+latched : List ℕ → Outcome
+latched variables =
+    let x : Scan = record { halt = Ended; rungs = 2; variables = variables } in
+    scans x x (some latchList)
+
+-- a latch v2, which v0 sets in one rung and v1 resets in a later one
+latches : List Row
+latches =
+    -- set
+    record { before = 1 ∷ 0 ∷ 0 ∷ []; text = bytes "10:c0>s2\n20:c1>r2\n"; watchdog = 2; outcome = latched (1 ∷ 0 ∷ 1 ∷ []) }
+    -- S without power over a variable that is true: it stays, and R without power leaves it too
+    ∷ record { before = 0 ∷ 0 ∷ 1 ∷ []; text = bytes "10:c0>s2\n20:c1>r2\n"; watchdog = 2; outcome = latched (0 ∷ 0 ∷ 1 ∷ []) }
+    -- reset
+    ∷ record { before = 0 ∷ 1 ∷ 1 ∷ []; text = bytes "10:c0>s2\n20:c1>r2\n"; watchdog = 2; outcome = latched (0 ∷ 1 ∷ 0 ∷ []) }
+    -- set and then reset in one scan
+    ∷ record { before = 1 ∷ 1 ∷ 0 ∷ []; text = bytes "10:c0>s2\n20:c1>r2\n"; watchdog = 2; outcome = latched (1 ∷ 1 ∷ 0 ∷ []) }
+    -- stopped between the two rungs
+    ∷ record { before = 1 ∷ 1 ∷ 0 ∷ []; text = bytes "10:c0>s2\n20:c1>r2\n"; watchdog = 1; outcome = alike Stopped 1 (1 ∷ 1 ∷ 1 ∷ []) }
+    -- question 6 of both letters, by Read
+    ∷ record { before = 0 ∷ 0 ∷ []; text = bytes "10:c0>s2\n20:c1>r2\n"; watchdog = 2; outcome = refusedAt 6 0 }
+    ∷ record { before = 0 ∷ 0 ∷ 0 ∷ []; text = bytes "10:c0>s2\n20:c1>r3\n"; watchdog = 2; outcome = refusedAt 6 1 }
+    ∷ []
+
+-- each row comes out as is said of it
+asSaid : List Row → Type 0
+asSaid rows = map (λ r. asFar (run r) (r .outcome)) rows ≡ map (λ (r : Row). r .outcome) rows
+
+both-tables : asSaid table × asSaid latches
+unfolding asSaid table listA outcomeA latches latchList latched run asFar start room instructionWatchdog variablesOf byListScan byTranslate byLadderScan bytes
     all firstFailed ask askEach firstNo varsInRange question1 question2 question3 question4 question5 question6 question7 question8 question9 question10 question11 question12 question13 longEnough
-    valueAt value writtenAt write tableInRange laid lay search present startOf isStart longest rowOf asBuffers needs written writtenOver writtenWords writtenRecords zipWith flatMap
+    valueAt value writtenAt write writeIf tableInRange laid lay search present startOf isStart longest rowOf asBuffers needs written writtenOver writtenWords writtenRecords zipWith flatMap
     frontAll rearAll rungAll scanLadder scanFrom runRung runRear runOutput workFront workInput jumpIf unlessJumped from follow left
     inputKind inputVariable inputWord outputKind outputNames number outputWord frontWords rearWords rungWords encode putInput putFront putOutput putRearAnd putRearOr kinds decodeWords oneRung decodeRung decodeFrom decode
     ladderOf holdsLadder sizesInRange inputBelow namedBelow outputBelow newLabels namedLeads outputLeads joinScratch frontScratch rearScratch rungScratch scratchInRange ladderQuestions ladderAnswer callLadderScan ladderScanQuestions ladderScanEnds
     mapP bind followed digitOf digitsFrom numeralOf chain termBy frontBy factorBy factorOf termOf frontOf opensFactor branchBy rearBy outputAt endBy endOf rearOf lineOf linesOf textOf
     readText writtenKept textLadder operand opOf operandNumber onlyNot ops instrWord decodeInstr decodeCode codeOf scanList scanMachine begin fresh step count does halted
     operandInRange wordInRange recordsLaid listInRange listOf callListScan listScanQuestions listScanEnds F R join outputCode rungCode listRecords translate countsOf translateKept
-bench = refl
+both-tables = (refl, refl)
+
+-- Every row comes out as document 01 says.
+bench : asSaid table
+bench = both-tables .0
+
+-- Every latch comes out as document 02 says.
+latches-worked : asSaid latches
+latches-worked = both-tables .1
 
 -- J, of so many contacts: 0:c0&c0& .. &c0>o0
 textJ : ℕ → List ℕ

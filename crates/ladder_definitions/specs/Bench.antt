@@ -4,10 +4,10 @@ use mathlib.Core.Path.{_≡_, refl}
 use mathlib.Core.List.{List, [], _∷_, _++_, map}
 use Prim.Native.Nat.{ℕ}
 use lib.ListN.{replicate, length}
-use Rattle.table.specs.State.{State, stateOf, scratchBytes, variables, valueAt, value, writtenAt, write}
+use Rattle.table.specs.State.{State, stateOf, scratchBytes, variables, valueAt, value, writtenAt, write, writeIf}
 use Rattle.table.specs.Halt.{Halt, Ended, Stopped}
 use Rattle.rungs.specs.Records.{search}
-use Rattle.ladder_definitions.specs.Tree.{contact, contactn, Front, input, frontAnd, frontOr, coil, coiln, jump, jumpn, Rear, output, rearAnd, rearOr, Rung, Ladder}
+use Rattle.ladder_definitions.specs.Tree.{contact, contactn, Front, input, frontAnd, frontOr, coil, coiln, jump, jumpn, setCoil, resetCoil, Rear, output, rearAnd, rearOr, Rung, Ladder}
 use Rattle.ladder_definitions.specs.Meaning.{scanLadder, scanFrom, runRung, runRear, runOutput, workFront, workInput, jumpIf, unlessJumped, from, follow, left}
 
 -- a rung and its parts, by the letters of document 01, "Text"
@@ -31,6 +31,13 @@ j l = output (jump l)
 
 abbrev pub k : ℕ → Rear
 k l = output (jumpn l)
+
+-- 02, Req 01
+abbrev pub s : ℕ → Rear
+s v = output (setCoil v)
+
+abbrev pub r : ℕ → Rear
+r v = output (resetCoil v)
 
 -- a ladder, its variables before, the rung watchdog; how the scan halts, the rungs entered and the variables after
 pub record Row : Type 0 where
@@ -108,9 +115,30 @@ further =
     ∷ record { ladder = rung 5 (n 0) (o 1) ∷ rung 3 (frontAnd (c 1) (n 2)) (rearOr (o 2) (j 5)) ∷ []; before = 0 ∷ 0 ∷ 0 ∷ []; watchdog = 9; halt = Ended; rungs = 4; after = 0 ∷ 1 ∷ 0 ∷ [] }
     ∷ []
 
+-- 10:c0>s2 20:c1>r2, a latch v2 that v0 sets and v1 resets in a later rung
+abbrev pub latch : Ladder
+latch = rung 10 (c 0) (s 2) ∷ rung 20 (c 1) (r 2) ∷ []
+
+-- 02, Req 01
+latches : List Row
+latches =
+    -- set with power
+    record { ladder = latch; before = 1 ∷ 0 ∷ 0 ∷ []; watchdog = 2; halt = Ended; rungs = 2; after = 1 ∷ 0 ∷ 1 ∷ [] }
+    -- S without power over a variable that is true, and R without power: it stays true, as in each later scan
+    ∷ record { ladder = latch; before = 0 ∷ 0 ∷ 1 ∷ []; watchdog = 2; halt = Ended; rungs = 2; after = 0 ∷ 0 ∷ 1 ∷ [] }
+    -- set in one rung and reset in a later one
+    ∷ record { ladder = latch; before = 1 ∷ 1 ∷ 0 ∷ []; watchdog = 2; halt = Ended; rungs = 2; after = 1 ∷ 1 ∷ 0 ∷ [] }
+    -- reset with power
+    ∷ record { ladder = latch; before = 0 ∷ 1 ∷ 1 ∷ []; watchdog = 2; halt = Ended; rungs = 2; after = 0 ∷ 1 ∷ 0 ∷ [] }
+    -- stopped before the rung that resets
+    ∷ record { ladder = latch; before = 1 ∷ 1 ∷ 0 ∷ []; watchdog = 1; halt = Stopped; rungs = 1; after = 1 ∷ 1 ∷ 1 ∷ [] }
+    -- 0:n0>c1&s2|r3, in branches: v1 false leaves v2, and the power comes to r3
+    ∷ record { ladder = rung 0 (n 0) (rearOr (rearAnd (c 1) (s 2)) (r 3)) ∷ []; before = 0 ∷ 0 ∷ 0 ∷ 1 ∷ []; watchdog = 1; halt = Ended; rungs = 1; after = 0 ∷ 0 ∷ 0 ∷ 0 ∷ [] }
+    ∷ []
+
 rows : List Row
-rows = rowA ∷ rowB ∷ rowC ∷ rowD ∷ rowE ∷ rowF ∷ further
+rows = rowA ∷ rowB ∷ rowC ∷ rowD ∷ rowE ∷ rowF ∷ further ++ latches
 
 ladders-scanned : map ladderOutcome rows ≡ map expected rows
-unfolding rows further start ladderOutcome expected scanLadder scanFrom runRung runRear runOutput workFront workInput jumpIf unlessJumped search from follow left valueAt value writtenAt write variables
+unfolding rows further latches start ladderOutcome expected scanLadder scanFrom runRung runRear runOutput workFront workInput jumpIf unlessJumped search from follow left valueAt value writtenAt write writeIf variables
 ladders-scanned = refl

@@ -10,7 +10,7 @@ use Rattle.questions.specs.Questions.{Answer, yes, ask, askEach, varsInRange, q
 use Rattle.ladder_definitions.specs.Tree.{Front, frontAnd, rearOr, Rung, Ladder, frontAll, rearAll, rungAll, inputVariable, outputNames, number}
 use Rattle.ladder_definitions.specs.Kept.{inputKind, outputKind, inputWord, outputWord, frontWords, rearWords, rungWords, encode, decode, decodeFrom, decodeRung, decodeWords, oneRung, kinds, putInput, putFront, putOutput, putRearAnd, putRearOr}
 use Rattle.ladder_definitions.specs.Questions.{ladderOf, holdsLadder, question4, sizesInRange, question5, question6, question7, question8, scratchInRange, question9, newLabels, inputBelow, namedBelow, outputBelow, namedLeads, outputLeads, joinScratch, frontScratch, rearScratch, rungScratch, ladderQuestions, ladderAnswer}
-use Rattle.ladder_definitions.specs.Bench.{rung, c, o, j, k, ladderA}
+use Rattle.ladder_definitions.specs.Bench.{rung, c, o, j, k, ladderA, latch}
 
 -- the kept words and records of case A
 A-encoded : encode ladderA ≡ record {
@@ -19,6 +19,14 @@ A-encoded : encode ladderA ≡ record {
 }
 unfolding encode lay rungWords frontWords rearWords inputWord inputKind inputVariable outputWord outputKind outputNames number flatMap
 A-encoded = refl
+
+-- 02, Req 01: kinds 11 and 12
+latch-encoded : encode latch ≡ record {
+  words = 65536 ∷ 720898 ∷ 65537 ∷ 786434 ∷ [];
+  records = record { label = 10; offset = 0; length = 2 } ∷ record { label = 20; offset = 2; length = 2 } ∷ [];
+}
+unfolding encode lay rungWords frontWords rearWords inputWord inputKind inputVariable outputWord outputKind outputNames number flatMap
+latch-encoded = refl
 
 -- a front of m brackets, each the second part of an and: (c0&(c0&( .. c0&c0)))
 nested : ℕ → Front
@@ -54,6 +62,10 @@ answers =
     ∷ question4 (record { words = 65536 ∷ 327680 ∷ []; records = record { label = 0; offset = 1; length = 2 } ∷ [] })
     ∷ question4 (record { words = 65536 ∷ 327680 ∷ []; records = record { label = 0; offset = 0; length = 2 } ∷ [] })
     ∷ question4 (record { words = 196609 ∷ 65536 ∷ 65536 ∷ 327680 ∷ []; records = record { label = 0; offset = 0; length = 4 } ∷ [] })
+    -- 4 of the kinds 11, 12 and 13
+    ∷ question4 (record { words = 65536 ∷ 720896 ∷ []; records = record { label = 0; offset = 0; length = 2 } ∷ [] })
+    ∷ question4 (record { words = 65536 ∷ 786432 ∷ []; records = record { label = 0; offset = 0; length = 2 } ∷ [] })
+    ∷ question4 (record { words = 65536 ∷ 851968 ∷ []; records = record { label = 0; offset = 0; length = 2 } ∷ [] })
     -- 5: 256 rungs and 257, 128 words in a rung and 130, 8,192 words and 8,194
     ∷ question5 (replicate 256 (contacts 1))
     ∷ question5 (replicate 257 (contacts 1))
@@ -65,6 +77,8 @@ answers =
     ∷ question6 5 ladderA
     ∷ question6 4 ladderA
     ∷ question6 3 ladderA
+    ∷ question6 3 latch
+    ∷ question6 2 latch
     -- 7
     ∷ question7 (labelled (1 ∷ 2 ∷ 3 ∷ 4 ∷ []))
     ∷ question7 (labelled (1 ∷ 2 ∷ 2 ∷ 1 ∷ []))
@@ -72,6 +86,7 @@ answers =
     -- 8
     ∷ question8 (rung 1 (c 0) (o 0) ∷ rung 2 (c 0) (rearOr (j 2) (k 1)) ∷ [])
     ∷ question8 (rung 1 (c 0) (o 0) ∷ rung 2 (c 0) (rearOr (j 2) (k 3)) ∷ [])
+    ∷ question8 latch
     -- 9
     ∷ question9 (rung 0 (nested 33) (o 0) ∷ [])
     ∷ question9 (rung 0 (nested 34) (o 0) ∷ [])
@@ -79,11 +94,11 @@ answers =
 
 answers-worked : answers ≡
     yes ∷ refused 1 0 ∷ refused 1 0 ∷ refused 4 0
-    ∷ refused 4 0 ∷ refused 4 0 ∷ yes ∷ refused 4 0
+    ∷ refused 4 0 ∷ refused 4 0 ∷ yes ∷ refused 4 0 ∷ yes ∷ yes ∷ refused 4 0
     ∷ yes ∷ refused 5 0 ∷ yes ∷ refused 5 0 ∷ yes ∷ refused 5 0
-    ∷ yes ∷ refused 6 1 ∷ refused 6 0
+    ∷ yes ∷ refused 6 1 ∷ refused 6 0 ∷ yes ∷ refused 6 0
     ∷ yes ∷ refused 7 2 ∷ refused 7 3
-    ∷ yes ∷ refused 8 1
+    ∷ yes ∷ refused 8 1 ∷ yes
     ∷ yes ∷ refused 9 0
     ∷ []
 unfolding answers refused nested joined contacts labelled ladderQuestions ladderAnswer ladderOf

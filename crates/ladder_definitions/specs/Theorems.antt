@@ -12,7 +12,7 @@ use Rattle.table.specs.State.{State, stateOf, beyondVariables, SameButScratch}
 use Rattle.table.specs.Halt.{Ended, Stopped}
 use Rattle.table.specs.Questions.{question11, Legal}
 use Rattle.table.specs.Laws.Alike.{alike-legal, alike-same}
-use Rattle.ladder_definitions.specs.Tree.{Input, contact, contactn, Output, coil, coiln, jump, jumpn, Rung, Ladder, rungAll, outputNames}
+use Rattle.ladder_definitions.specs.Tree.{Input, contact, contactn, Output, coil, coiln, jump, jumpn, setCoil, resetCoil, Rung, Ladder, rungAll, outputNames}
 use Rattle.ladder_definitions.specs.Meaning.{LadderResult, scanLadder}
 use Rattle.ladder_definitions.specs.Standing.{Stands}
 use Rattle.ladder_definitions.specs.Kept.{Kept, encode, decode, inputFits, outputFits, inputKind, outputKind, contactSort, outputSort, kindSorts, kindSort, variableName, nameSorts, nameSort, namedSort}
@@ -51,6 +51,8 @@ output-sorted (coil v) = (refl, refl)
 output-sorted (coiln v) = (refl, refl)
 output-sorted (jump l) = (refl, refl)
 output-sorted (jumpn l) = (refl, refl)
+output-sorted (setCoil v) = (refl, refl)
+output-sorted (resetCoil v) = (refl, refl)
 
 -- Question 1 and questions 4 to 9 all get a "yes" exactly when the words and records are those of an accepted ladder.
 pub accepted-exactly : (vars : ℕ) (k : Kept) → (ladderAnswer vars k ≡ yes) ↔ ((gs : Ladder) × IsKept k gs × Accepted vars gs)

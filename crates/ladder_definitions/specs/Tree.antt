@@ -11,15 +11,15 @@ pub data Front : Type 0 where
   input : Input → Front
   frontAnd frontOr : Front → Front → Front
 
--- coil(var), coiln(var), jump(label), jumpn(label)
+-- coil(var), coiln(var), jump(label), jumpn(label); and 02, Req 01: "Add outputs s and r", set and reset coils
 pub data Output : Type 0 where
-  coil coiln jump jumpn : ℕ → Output
+  coil coiln jump jumpn setCoil resetCoil : ℕ → Output
 
 -- what an output names
 pub data Named : Type 0 where
   aVariable aLabel : ℕ → Named
 
--- document 01, "The kept ladder": "Operand: a variable for 1, 2, 5, 6; a label for 7, 8"
+-- document 01, "The kept ladder": "Operand: a variable for 1, 2, 5, 6; a label for 7, 8"; a variable too for 02's set and reset coils
 unfoldable pub inputVariable : Input → ℕ
 inputVariable (contact v) = v
 inputVariable (contactn v) = v
@@ -29,6 +29,8 @@ outputNames (coil v) = aVariable v
 outputNames (coiln v) = aVariable v
 outputNames (jump l) = aLabel l
 outputNames (jumpn l) = aLabel l
+outputNames (setCoil v) = aVariable v
+outputNames (resetCoil v) = aVariable v
 
 unfoldable pub number : Named → ℕ
 number (aVariable v) = v

@@ -1,4 +1,5 @@
-// The kinds of kept words by name, the sort of a kind, and the limits of a kept ladder. Document 01, "The kept ladder".
+// The kinds of kept words by name, the sort of a kind, and the limits of a kept ladder. Document 01, "The kept ladder";
+// document 02, Req 01.
 ghost use mathlib.Core.Path.{_≡_};
 ghost use Rattle.ladder_definitions.specs.Kept.{kindSort};
 ghost use Rattle.ladder_kinds.specs.Kinds.{sortIn, namesVariable, namesLabel};
@@ -22,6 +23,10 @@ pub const NEGATED_JUMP: u32 = 8;
 pub const REAR_AND: u32 = 9;
 
 pub const REAR_OR: u32 = 10;
+
+pub const SET_COIL: u32 = 11;
+
+pub const RESET_COIL: u32 = 12;
 
 // At most 128 words a rung, 8,192 words; the rungs are rungs::MOST_RECORDS at most.
 pub const MOST_RUNG_WORDS: usize = 128;
@@ -52,6 +57,8 @@ pub fn sort_of(kind: u32) -> KindSort
         NEGATED_JUMP => KindSort::Output,
         REAR_AND => KindSort::RearAnd,
         REAR_OR => KindSort::RearOr,
+        SET_COIL => KindSort::Output,
+        RESET_COIL => KindSort::Output,
         _ => KindSort::NoKind,
     }
 }
@@ -60,7 +67,12 @@ pub fn sort_of(kind: u32) -> KindSort
 pub fn names_variable(kind: u32) -> bool
     ensures { λ r. ⌜ r ≡ namesVariable kind ⌝ }
 {
-    (kind == CONTACT) | (kind == NEGATED_CONTACT) | (kind == COIL) | (kind == NEGATED_COIL)
+    (kind == CONTACT)
+        | (kind == NEGATED_CONTACT)
+        | (kind == COIL)
+        | (kind == NEGATED_COIL)
+        | (kind == SET_COIL)
+        | (kind == RESET_COIL)
 }
 
 // Whether it is a label.

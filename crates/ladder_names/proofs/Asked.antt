@@ -17,7 +17,7 @@ use Rattle.questions.specs.Tests.{all, firstFailed}
 use Rattle.questions.specs.Laws.Tests.{T→true, all-head, all-tail, all-cons, all-ends, failed-none}
 use Rattle.rungs.specs.Words.{operands, word, numberOf, operandOf}
 use Rattle.rungs.specs.Records.{search, present}
-use Rattle.ladder_definitions.specs.Tree.{Input, contact, contactn, Front, input, frontAnd, frontOr, Output, coil, coiln, jump, jumpn, Rear, output, rearAnd, rearOr, Rung, Ladder, inputVariable, outputNames, number, frontAll, rearAll, rungAll}
+use Rattle.ladder_definitions.specs.Tree.{Input, contact, contactn, Front, input, frontAnd, frontOr, Output, coil, coiln, jump, jumpn, setCoil, resetCoil, Rear, output, rearAnd, rearOr, Rung, Ladder, inputVariable, outputNames, number, frontAll, rearAll, rungAll}
 use Rattle.ladder_definitions.specs.Kept.{inputKind, outputKind, noName, nameSorts, nameSort, inputWord, outputWord, frontWords, rearWords, rungWords, encode, inputFits, outputFits}
 use Rattle.ladder_definitions.specs.Questions.{mostRungs, mostWords, sizesInRange, inputBelow, namedBelow, outputBelow, newLabels, namedLeads, outputLeads}
 use Rattle.ladder_kinds.specs.Kinds.{namesVariable, namesLabel}
@@ -183,6 +183,8 @@ below-tests vars = tests-of (operandBelow vars) (inputBelow vars) (outputBelow v
     outputs (coiln v) = refl
     outputs (jump l) = refl
     outputs (jumpn l) = refl
+    outputs (setCoil v) = refl
+    outputs (resetCoil v) = refl
 
 pub leads-tests : (ls : List ℕ) → Tests (wordLeads ls) (λ i. true) (outputLeads ls)
 unfolding operandLeads namesLabel nameSort nameSorts inputKind outputKind outputNames number outputLeads namedLeads
@@ -200,6 +202,8 @@ leads-tests ls = tests-of (operandLeads ls) (λ i. true) (outputLeads ls) inputs
     outputs (coiln v) = refl
     outputs (jump l) = refl
     outputs (jumpn l) = refl
+    outputs (setCoil v) = refl
+    outputs (resetCoil v) = refl
 
 -- what the code asks of a kind and an operand
 pub below-operand : (vars k o : ℕ) (r : Bool) → r ≡ namesVariable k → (not r || ltb o vars) ≡ operandBelow vars k o

@@ -1,13 +1,14 @@
 -- Laws of one word of a walk: what working and running a tree gives, from what working and running its parts gives. Assumes nothing.
 use Prim.Native.Nat.{ℕ, _+_}
 use native.Mathlib.Omega.{arith}
-use mathlib.Core.Path.{_≡_, refl, sym, subst, _∙_}
+use mathlib.Core.Path.{_≡_, refl, sym, ap, subst, _∙_}
 use mathlib.Core.Bool.{Bool, true, false, not, _&&_}
 use mathlib.Core.List.{List}
 use lib.ListN.{length, length-append, getD}
-use Rattle.table.specs.State.{State, withBytes, valueAt, value, writtenAt, write}
+use Rattle.table.specs.State.{State, withBytes, valueAt, value, writtenAt, write, writtenIf}
+use Rattle.table.specs.Laws.Alike.{write-if-bytes}
 use Rattle.rungs.specs.Words.{numberOf, operandOf}
-use Rattle.ladder_definitions.specs.Tree.{Input, contact, contactn, input, Output, coil, coiln, jump, jumpn, Rear, inputVariable, outputNames, number}
+use Rattle.ladder_definitions.specs.Tree.{Input, contact, contactn, input, Output, coil, coiln, jump, jumpn, setCoil, resetCoil, Rear, inputVariable, outputNames, number}
 use Rattle.ladder_definitions.specs.Meaning.{workInput, workFront, onward, jumped, jumpIf, runOutput, unlessJumped, runRear, runRung}
 use Rattle.ladder_definitions.specs.Kept.{inputKind, outputKind, joinedSort, outputSort, rearAndSort, rearOrSort, kindSorts, kindSort, frontWords, rearWords, rungWords}
 use Rattle.ladder_walk.specs.Walking.{FrontDone, FrontWorked, Root, PartsJoined, runOf, RunDone, OutputRun, RearRun, RungRun}
@@ -111,6 +112,14 @@ module _ (w next : ℕ) (p : Bool) (t : List ℕ) where
   pub jumpn-left : numberOf w ≡ outputKind (jumpn (operandOf w)) → p ≡ true → OutputRun w next p t (Onward next) t
   unfolding runOutput jumpIf outputNames number
   jumpn-left k q = ran-onward (jumpn (operandOf w)) k refl t (λ s. rw q refl)
+
+  pub ran-set : (u : List ℕ) → numberOf w ≡ outputKind (setCoil (operandOf w)) → u ≡ writtenIf p t (operandOf w) true → OutputRun w next p t (Onward next) u
+  unfolding runOutput outputNames number
+  ran-set u k q = ran-onward (setCoil (operandOf w)) k refl u (λ s. rw q (ap onward (write-if-bytes p s t (operandOf w) true)))
+
+  pub ran-reset : (u : List ℕ) → numberOf w ≡ outputKind (resetCoil (operandOf w)) → u ≡ writtenIf p t (operandOf w) false → OutputRun w next p t (Onward next) u
+  unfolding runOutput outputNames number
+  ran-reset u k q = ran-onward (resetCoil (operandOf w)) k refl u (λ s. rw q (ap onward (write-if-bytes p s t (operandOf w) false)))
 
   pub no-output : ((o : Output) → numberOf w ≡ outputKind o → ⊥) → OutputRun w next p t (Onward next) t
   no-output k = record { onward = λ e z. sym (same-end next e z); same = λ o l n s. absurd (k o l) }

@@ -119,6 +119,14 @@ fn run_output(word: u32, next: usize, power: bool, table: &mut [u8]) -> Ran
                 Ran::Jumped(operand)
             }
         }
+        ladder_kinds::SET_COIL => {
+            table::write_if(table, operand as usize, power, true);
+            Ran::Onward(next)
+        }
+        ladder_kinds::RESET_COIL => {
+            table::write_if(table, operand as usize, power, false);
+            Ran::Onward(next)
+        }
         _ => Ran::Onward(next),
     }
 }

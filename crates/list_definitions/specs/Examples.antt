@@ -8,10 +8,10 @@ use lib.ListN.{replicate, length}
 use Rattle.questions.specs.Bytes.{bytes, decimal, digits}
 use Rattle.questions.specs.Tests.{all}
 use Rattle.questions.specs.Questions.{Answer, yes, ask, varsInRange, question1, firstNo}
-use Rattle.table.specs.State.{stateOf, scratchBytes, variables, valueAt, value, writtenAt, write}
+use Rattle.table.specs.State.{stateOf, scratchBytes, variables, valueAt, value, writtenAt, write, writeIf}
 use Rattle.table.specs.Halt.{Halt, Ended, Stopped}
 use Rattle.rungs.specs.Records.{RungRecord, isStart, laid}
-use Rattle.list_definitions.specs.Instruction.{Instr, LD, LDN, ST, STN, AND, ANDN, OR, ORN, XOR, XORN, NOT, JMP, JMPC, JMPCN, operand, opOf, operandNumber, instrWord, decodeInstr, ops, onlyNot}
+use Rattle.list_definitions.specs.Instruction.{Instr, LD, LDN, ST, STN, AND, ANDN, OR, ORN, XOR, XORN, NOT, JMP, JMPC, JMPCN, S, R, operand, opOf, operandNumber, instrWord, decodeInstr, ops, onlyNot}
 use Rattle.list_definitions.specs.Machine.{InstructionList, does, count, step, fresh, begin, halted, scanMachine, scanList}
 use Rattle.list_definitions.specs.Listing.{fixedNames, trimmed, nameOf, operandText, instrLine, labelLine, rungLines, listingLines, ended, listingText}
 use Rattle.list_definitions.specs.Questions.{operandInRange, wordInRange, recordsLaid, listInRange, question10, listAnswer}
@@ -67,6 +67,20 @@ rows =
     }
     -- a loop, stopped
     ∷ record { list = record { code = LDN 0 ∷ JMPC 0 ∷ []; records = at 0 0 2 ∷ [] }; before = 0 ∷ []; watchdog = 7; halt = Stopped; instructions = 7; rungs = 4; after = 0 ∷ [] }
+    -- 02, Req 01: S and R with the accumulator true and then false, which they keep
+    ∷ record {
+      list = one (LD 0 ∷ S 1 ∷ R 2 ∷ ST 3 ∷ NOT ∷ S 4 ∷ R 5 ∷ STN 6 ∷ []);
+      before = 1 ∷ 0 ∷ 1 ∷ 0 ∷ 0 ∷ 1 ∷ 0 ∷ [];
+      watchdog = 9;
+      halt = Ended;
+      instructions = 8;
+      rungs = 1;
+      after = 1 ∷ 1 ∷ 0 ∷ 1 ∷ 0 ∷ 1 ∷ 1 ∷ [];
+    }
+    -- S without power over a variable that is true
+    ∷ record { list = one (LD 0 ∷ S 1 ∷ []); before = 0 ∷ 1 ∷ []; watchdog = 9; halt = Ended; instructions = 2; rungs = 1; after = 0 ∷ 1 ∷ [] }
+    -- of scratch too: t0 set, read, reset and read
+    ∷ record { list = one (LDN 0 ∷ S 3 ∷ LD 3 ∷ ST 1 ∷ R 3 ∷ LD 3 ∷ STN 2 ∷ []); before = 0 ∷ 0 ∷ 0 ∷ []; watchdog = 9; halt = Ended; instructions = 7; rungs = 1; after = 0 ∷ 1 ∷ 1 ∷ [] }
     ∷ []
 
 record Outcome : Type 0 where
@@ -84,7 +98,7 @@ outcome r =
     record { halt = x .halt; instructions = x .counts .instructions; rungs = x .counts .rungs; variables = variables (x .state) }
 
 lists-scanned : map outcome rows ≡ map expected rows
-unfolding rows outcome expected scanList scanMachine begin fresh step count does halted isStart valueAt value writtenAt write variables xor
+unfolding rows outcome expected scanList scanMachine begin fresh step count does halted isStart valueAt value writtenAt write writeIf variables xor
 lists-scanned = refl
 
 no-place : Answer
@@ -104,13 +118,16 @@ answers =
     ∷ question10 5 (words (JMP 2 ∷ [])) (at 0 0 1 ∷ [])
     ∷ question10 5 (720896 ∷ []) (at 0 0 1 ∷ [])
     ∷ question10 5 (720897 ∷ []) (at 0 0 1 ∷ [])
-    ∷ question10 5 (983040 ∷ []) (at 0 0 1 ∷ [])
+    ∷ question10 5 (words (S 36 ∷ R 36 ∷ [])) (at 0 0 2 ∷ [])
+    ∷ question10 5 (words (S 37 ∷ [])) (at 0 0 1 ∷ [])
+    ∷ question10 5 (words (R 37 ∷ [])) (at 0 0 1 ∷ [])
+    ∷ question10 5 (1114112 ∷ []) (at 0 0 1 ∷ [])
     ∷ question10 5 (words (LD 0 ∷ LD 1 ∷ [])) (at 0 0 1 ∷ at 0 1 1 ∷ [])
     ∷ question10 5 (words (LD 0 ∷ LD 1 ∷ [])) (at 0 0 2 ∷ at 1 2 0 ∷ [])
     ∷ question10 5 (words (LD 0 ∷ LD 1 ∷ [])) (at 0 0 1 ∷ at 1 2 1 ∷ [])
     ∷ []
 
-answers-worked : answers ≡ yes ∷ no-place ∷ no-place ∷ yes ∷ no-place ∷ yes ∷ no-place ∷ yes ∷ no-place ∷ no-place ∷ yes ∷ no-place ∷ no-place ∷ []
+answers-worked : answers ≡ yes ∷ no-place ∷ no-place ∷ yes ∷ no-place ∷ yes ∷ no-place ∷ yes ∷ no-place ∷ yes ∷ no-place ∷ no-place ∷ no-place ∷ yes ∷ no-place ∷ no-place ∷ []
 unfolding answers no-place words listAnswer firstNo question1 varsInRange question10 listInRange ask all laid recordsLaid wordInRange operandInRange operand decodeInstr ops onlyNot instrWord opOf operandNumber
 answers-worked = refl
 
@@ -120,6 +137,6 @@ unfolding listingText listingLines rungLines labelLine instrLine operandText ope
 A-listing = refl
 
 -- a line without operand, and numbers of several digits
-others-listed : map (instrLine fixedNames 1000) (NOT ∷ XORN 999 ∷ STN 1031 ∷ JMPCN 16384 ∷ JMP 0 ∷ []) ≡ bytes "NOT" ∷ bytes "XORN v999" ∷ bytes "STN t31" ∷ bytes "JMPCN @16384" ∷ bytes "JMP @0" ∷ []
+others-listed : map (instrLine fixedNames 1000) (NOT ∷ XORN 999 ∷ STN 1031 ∷ JMPCN 16384 ∷ JMP 0 ∷ S 0 ∷ R 1000 ∷ []) ≡ bytes "NOT" ∷ bytes "XORN v999" ∷ bytes "STN t31" ∷ bytes "JMPCN @16384" ∷ bytes "JMP @0" ∷ bytes "S v0" ∷ bytes "R t0" ∷ []
 unfolding instrLine operandText operand opOf nameOf trimmed fixedNames bytes decimal digits
 others-listed = refl

@@ -1,4 +1,4 @@
--- Instructions, and their words and back. Document 01, "What a list does"; document 002, figure 1, Booleans only. Assumes nothing.
+-- Instructions, and their words and back. Document 01, "What a list does"; document 002, figure 1, Booleans only; S and R: 02, Req 01. Assumes nothing.
 use Prim.Native.Nat.{ℕ, zero, suc}
 use mathlib.Core.Bool.{Bool, true}
 use mathlib.Core.Option.{Option, none, some}
@@ -10,8 +10,10 @@ pub data Instr : Type 0 where
   LD LDN ST STN AND ANDN OR ORN XOR XORN : ℕ → Instr
   NOT : Instr
   JMP JMPC JMPCN : ℕ → Instr
+  S R : ℕ → Instr
 
 -- "Operands: a table index below V + 32 for 1 to 10; 0 for NOT; an instruction index from 0 to the list's length for 12 to 14."
+-- 02, Req 01: S and R "take operands as ST does"
 pub data Operand : Type 0 where
   tableIndex : ℕ → Operand
   noOperand : Operand
@@ -32,8 +34,10 @@ operand NOT = noOperand
 operand (JMP j) = instructionIndex j
 operand (JMPC j) = instructionIndex j
 operand (JMPCN j) = instructionIndex j
+operand (S x) = tableIndex x
+operand (R x) = tableIndex x
 
--- "1 LD, 2 LDN, 3 ST, 4 STN, 5 AND, 6 ANDN, 7 OR, 8 ORN, 9 XOR, 10 XORN, 11 NOT, 12 JMP, 13 JMPC, 14 JMPCN"
+-- "1 LD, 2 LDN, 3 ST, 4 STN, 5 AND, 6 ANDN, 7 OR, 8 ORN, 9 XOR, 10 XORN, 11 NOT, 12 JMP, 13 JMPC, 14 JMPCN"; 02, Req 01: "ops 15 S and 16 R"
 unfoldable pub opOf : Instr → ℕ
 opOf (LD x) = 1
 opOf (LDN x) = 2
@@ -49,6 +53,8 @@ opOf NOT = 11
 opOf (JMP j) = 12
 opOf (JMPC j) = 13
 opOf (JMPCN j) = 14
+opOf (S x) = 15
+opOf (R x) = 16
 
 unfoldable pub operandNumber : Operand → ℕ
 operandNumber (tableIndex x) = x
@@ -70,11 +76,11 @@ unfoldable pub onlyNot : ℕ → Option Instr
 onlyNot zero = some NOT
 onlyNot (suc x) = none
 
--- by op, from 0 to 14
+-- by op, from 0 to 16
 unfoldable pub ops : List (ℕ → Option Instr)
 ops =
     noOp ∷ op LD ∷ op LDN ∷ op ST ∷ op STN ∷ op AND ∷ op ANDN ∷ op OR ∷ op ORN ∷ op XOR ∷ op XORN ∷ onlyNot
-    ∷ op JMP ∷ op JMPC ∷ op JMPCN ∷ []
+    ∷ op JMP ∷ op JMPC ∷ op JMPCN ∷ op S ∷ op R ∷ []
 
 unfoldable pub decodeInstr : ℕ → Option Instr
 decodeInstr w = getD ops (numberOf w) noOp (operandOf w)

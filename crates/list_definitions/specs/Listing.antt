@@ -21,7 +21,7 @@ use Rattle.list_definitions.specs.declared.Listed.the-variants.{Written,
 abbrev pub Names : Type 0
 Names = List (List ℕ)
 
--- "The fourteen names are one fixed table, six bytes a name, filled with zeros."
+-- "The fourteen names are one fixed table, six bytes a name, filled with zeros."; with 02's S and R there are sixteen
 unfoldable pub fixedNames : Names
 unfolding bytes
 fixedNames =
@@ -39,6 +39,8 @@ fixedNames =
     ∷ (bytes "JMP" ++ 0 ∷ 0 ∷ 0 ∷ [])
     ∷ (bytes "JMPC" ++ 0 ∷ 0 ∷ [])
     ∷ (bytes "JMPCN" ++ 0 ∷ [])
+    ∷ (bytes "S" ++ 0 ∷ 0 ∷ 0 ∷ 0 ∷ 0 ∷ [])
+    ∷ (bytes "R" ++ 0 ∷ 0 ∷ 0 ∷ 0 ∷ 0 ∷ [])
     ∷ []
 
 -- a name without its filling

@@ -71,6 +71,14 @@ fn carry_out(word: u32, accumulator: bool, following: usize, table: &mut [u8]) -
         list_ops::JMP => after(accumulator, operand),
         list_ops::JMPC => after(accumulator, choose(accumulator, operand, following)),
         list_ops::JMPCN => after(accumulator, choose(accumulator, following, operand)),
+        list_ops::S => {
+            table::write_if(table, operand, accumulator, true);
+            after(accumulator, following)
+        }
+        list_ops::R => {
+            table::write_if(table, operand, accumulator, false);
+            after(accumulator, following)
+        }
         // No instruction has another op, so nothing is promised here. `following` in place of 0 would cost a scan a tenth more
         // machine instructions.
         _ => after(accumulator, 0),

@@ -1,4 +1,5 @@
-// The ops by name, the sort of the operand that an op takes, and the limit of a list. Document 01, "What a list does".
+// The ops by name, the sort of the operand that an op takes, and the limit of a list. Document 01, "What a list does";
+// document 02, Req 01.
 ghost use mathlib.Core.Path.{_≡_};
 ghost use Rattle.list_definitions.specs.Instruction.{operandSort};
 ghost use Rattle.list_ops.specs.Sorts.{sortIn};
@@ -34,6 +35,10 @@ pub const JMPC: u32 = 13;
 
 pub const JMPCN: u32 = 14;
 
+pub const S: u32 = 15;
+
+pub const R: u32 = 16;
+
 // A table index; nothing; an instruction index; or no op.
 pub enum OperandSort {
     Table,
@@ -46,17 +51,17 @@ pub enum OperandSort {
 pub fn operand_sort(op: u32) -> OperandSort
     ensures { λ r. ⌜ sortIn r ≡ operandSort op ⌝ }
 {
-    if op < LD {
-        return OperandSort::NoOp;
-    }
-    if op <= XORN {
+    if (op >= LD) & (op <= XORN) {
         return OperandSort::Table;
     }
     if op == NOT {
         return OperandSort::Nothing;
     }
-    if op <= JMPCN {
+    if (op >= JMP) & (op <= JMPCN) {
         return OperandSort::Instruction;
+    }
+    if (op >= S) & (op <= R) {
+        return OperandSort::Table;
     }
     OperandSort::NoOp
 }

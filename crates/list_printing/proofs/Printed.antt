@@ -18,7 +18,7 @@ use Rattle.questions.specs.Tests.{all}
 use Rattle.questions.specs.Laws.Tests.{all-head, all-tail}
 use Rattle.rungs.specs.Words.{operands, numberOf, operandOf}
 use Rattle.rungs.specs.Records.{RungRecord, laid, rowOf}
-use Rattle.list_definitions.specs.Instruction.{Instr, LD, LDN, ST, STN, AND, ANDN, OR, ORN, XOR, XORN, NOT, JMP, JMPC, JMPCN, Operand, tableIndex, noOperand, instructionIndex, operand, operandFits, instrFits, opOf, operandNumber, instrWord, onlyNot, ops, decodeInstr, codeOf, OperandSort, tableSort, nothingSort, instructionSort, noSort, sortOf, operandSort}
+use Rattle.list_definitions.specs.Instruction.{Instr, LD, LDN, ST, STN, AND, ANDN, OR, ORN, XOR, XORN, NOT, JMP, JMPC, JMPCN, S, R, Operand, tableIndex, noOperand, instructionIndex, operand, operandFits, instrFits, opOf, operandNumber, instrWord, onlyNot, ops, decodeInstr, codeOf, OperandSort, tableSort, nothingSort, instructionSort, noSort, sortOf, operandSort}
 use Rattle.list_definitions.specs.Laws.Decoding.{instr-decoded}
 use Rattle.list_definitions.specs.Questions.{listInRange}
 use Rattle.list_definitions.specs.ListScan.{listOf}
@@ -143,6 +143,8 @@ operand-by-op vars NOT = refl
 operand-by-op vars (JMP j) = refl
 operand-by-op vars (JMPC j) = refl
 operand-by-op vars (JMPCN j) = refl
+operand-by-op vars (S x) = refl
+operand-by-op vars (R x) = refl
 
 word-parts : (w : ℕ) (d : Decodes w) → (numberOf w ≡ opOf (d .instr)) × (operandOf w ≡ operandNumber (operand (d .instr)))
 unfolding instrWord instrFits

@@ -17,7 +17,7 @@ ghost use Rattle.list_printing.specs.Parts.{operandBy, wordLine, wordLin
 use list_ops::OperandSort;
 
 // Six bytes a name, filled with zeros, by op from 1.
-const NAMES: [[u8; 6]; 14] = [
+const NAMES: [[u8; 6]; 16] = [
     [b'L', b'D', 0, 0, 0, 0],
     [b'L', b'D', b'N', 0, 0, 0],
     [b'S', b'T', 0, 0, 0, 0],
@@ -32,6 +32,8 @@ const NAMES: [[u8; 6]; 14] = [
     [b'J', b'M', b'P', 0, 0, 0],
     [b'J', b'M', b'P', b'C', 0, 0],
     [b'J', b'M', b'P', b'C', b'N', 0],
+    [b'S', 0, 0, 0, 0, 0],
+    [b'R', 0, 0, 0, 0, 0],
 ];
 
 // The name of an op, up to its filling.

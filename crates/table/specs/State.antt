@@ -62,6 +62,17 @@ writtenAt bytes i b = set bytes i (bit b)
 unfoldable pub write : State → ℕ → Bool → State
 write s i b = withBytes s (writtenAt (s .bytes) i b)
 
+-- 02, Req 01: what a set or a reset coil, and S or R, does with b true or false. "With power on, S writes 1 and R writes 0. With power off they write nothing."
+-- After IEC 61131-3: a set variable stays as it is until something writes it, in later scans too. Document 002 restores it in the next scan and is not followed.
+unfoldable pub writeIf : Bool → State → ℕ → Bool → State
+writeIf true s i b = write s i b
+writeIf false s i b = s
+
+-- the same of bytes
+unfoldable pub writtenIf : Bool → List ℕ → ℕ → Bool → List ℕ
+writtenIf true bytes i b = writtenAt bytes i b
+writtenIf false bytes i b = bytes
+
 -- s and t have the same V and equal variables: they differ in scratch at most
 pub record SameButScratch (s t : State) : Type 0 where
   pub same-vars : s .vars ≡ t .vars

@@ -1,6 +1,6 @@
 // The table that both scans work on: document 01, "What a ladder does". Past the table's end a byte is false and a write does nothing.
 ghost use mathlib.Core.Path.{_≡_};
-ghost use Rattle.table.specs.State.{stateOf, valueAt, writtenAt};
+ghost use Rattle.table.specs.State.{stateOf, valueAt, writtenAt, writtenIf};
 ghost use Rattle.table.specs.Questions.{tableInRange};
 
 // Scratch t0 to t31 stands after the variables.
@@ -25,6 +25,15 @@ pub fn write(table: &mut [u8], index: usize, b: bool)
         } else {
             table[index] = 0;
         }
+    }
+}
+
+// With power as write, and without power nothing.
+pub fn write_if(table: &mut [u8], index: usize, power: bool, b: bool)
+    ensures { λ _. ⌜ now (table .exit) ≡ writtenIf power (now (table .entry)) index b ⌝ }
+{
+    if power {
+        write(table, index, b);
     }
 }
 

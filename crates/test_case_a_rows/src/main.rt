@@ -1,6 +1,6 @@
-// Runs document 01's case A through the calls over rows: this program owns two rows of rung records, the ladder's and the list's, and
-// lends them. It prints what each call answered, the variables that each scan left, and the listing. Then it lends rows of 300 records,
-// which the calls refuse: 5, or 4 where the last record does not fit; List scan and Listing 10.
+// Runs document 01's case A, and then a ladder with set and reset coils, through the calls over rows: this program owns two rows of rung
+// records, the ladder's and the list's, and lends them. It prints what each call answered, the variables that each scan left, and the
+// listing. Then it lends rows of 300 records, which the calls refuse: 5, or 4 where the last record does not fit; List scan and Listing 10.
 use ladder_definitions::LadderScanned;
 use libc::STDOUT_FILENO;
 use list_definitions::ListScanned;
@@ -11,7 +11,7 @@ use test_requests::output;
 use text_definitions::TextRead;
 use translation_definitions::Translated;
 
-// "A* `10:c0|c1&n2>o1|c3&j20` `20:n3>o4`, V 5, only v0 true": it has as many kept words as instructions.
+// "A* `10:c0|c1&n2>o1|c3&j20` `20:n3>o4`, V 5, only v0 true": it has as many kept words as instructions, and so has the other ladder.
 const VARS: u32 = 5;
 
 const WORDS: usize = 12;
@@ -272,25 +272,20 @@ fn put_scans(
     put_variables(room, after_list, list_table)
 }
 
-// Runs the five calls, and puts what they answered.
-fn put_case_a(room: &mut [u8]) -> usize {
+// Runs the five calls on a text, with only v0 true, and puts what they answered.
+fn put_case(room: &mut [u8], placed: usize, text: &[u8]) -> usize {
     let mut ladder_table = [0u8; TABLE_BYTES];
     let mut list_table = [0u8; TABLE_BYTES];
     let mut lines = [0u8; LISTING_BYTES];
     ladder_table[0] = 1;
     list_table[0] = 1;
-    let answers = run_rows(
-        b"10:c0|c1&n2>o1|c3&j20\n20:n3>o4\n",
-        &mut ladder_table,
-        &mut list_table,
-        &mut lines,
-    );
+    let answers = run_rows(text, &mut ladder_table, &mut list_table, &mut lines);
     let read = answers.read;
     let translated = answers.translated;
     let ladder = answers.ladder;
     let list = answers.list;
     let listed = answers.listed;
-    let after_read = put_read(room, 0, read);
+    let after_read = put_read(room, placed, read);
     let after_translated = put_translated(room, after_read, translated);
     let scanned = put_scans(
         room,
@@ -343,8 +338,9 @@ fn put_long(room: &mut [u8], placed: usize, last: u32) -> usize {
 }
 
 fn put_all(room: &mut [u8]) -> usize {
-    let case_a = put_case_a(room);
-    let laid = put_long(room, case_a, 2);
+    let case_a = put_case(room, 0, b"10:c0|c1&n2>o1|c3&j20\n20:n3>o4\n");
+    let latched = put_case(room, case_a, b"10:c0|c1&n2>s1|c3&r4\n20:n3>r0\n");
+    let laid = put_long(room, latched, 2);
     put_long(room, laid, 1)
 }
 

@@ -3,7 +3,7 @@ use mathlib.Core.Path.{_≡_, refl}
 use mathlib.Core.List.{List, [], _∷_, map}
 use Prim.Native.Nat.{ℕ}
 use Rattle.questions.specs.Bytes.{bytes}
-use Rattle.ladder_definitions.specs.Tree.{contact, contactn, Front, input, frontAnd, frontOr, coil, jump, Rear, output, rearAnd, rearOr, Ladder}
+use Rattle.ladder_definitions.specs.Tree.{contact, contactn, Front, input, frontAnd, frontOr, coil, jump, setCoil, resetCoil, Rear, output, rearAnd, rearOr, Ladder}
 use Rattle.text_grammar.specs.Reader.{Parse, read, stuck, mapP, bind, followed, digitOf, digitsFrom, numeralOf, chain, termBy, frontBy, factorBy, factorOf, termOf, frontOf, opensFactor, branchBy, rearBy, outputAt, endBy, endOf, rearOf, rung, lineOf, linesOf, textOf}
 
 pub record Row : Type 0 where
@@ -21,6 +21,12 @@ o v = output (coil v)
 
 abbrev j : ℕ → Rear
 j l = output (jump l)
+
+abbrev s : ℕ → Rear
+s v = output (setCoil v)
+
+abbrev r : ℕ → Rear
+r v = output (resetCoil v)
 
 pub rows : List Row
 rows =
@@ -43,6 +49,14 @@ rows =
     ∷ record { text = bytes "x"; answer = stuck 0 }
     ∷ record { text = bytes "0:c100000"; answer = stuck 8 }
     ∷ record { text = bytes "0:c0>o065"; answer = stuck 7 }
+    -- 02, Req 01
+    ∷ record { text = bytes "1:c0>s1\n2:c2>r1\n"; answer = read 16 (rung 1 (c 0) (s 1) ∷ rung 2 (c 2) (r 1) ∷ []) }
+    ∷ record { text = bytes "0:c0>c1&[s2|r65535]\n"; answer = read 20 (rung 0 (c 0) (rearAnd (c 1) (rearOr (s 2) (r 65535))) ∷ []) }
+    ∷ record { text = bytes "0:s0>o0\n"; answer = stuck 2 }
+    ∷ record { text = bytes "0:c0>s"; answer = stuck 6 }
+    ∷ record { text = bytes "0:c0>r1&"; answer = stuck 7 }
+    ∷ record { text = bytes "0:c0>s65536"; answer = stuck 10 }
+    ∷ record { text = bytes "0:c0>t0"; answer = stuck 5 }
     ∷ []
 
 pub texts-read : map (λ (r : Row). textOf (r .text)) rows ≡ map (λ (r : Row). r .answer) rows

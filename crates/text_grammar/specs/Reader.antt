@@ -6,7 +6,7 @@ use Prim.Native.Nat.{ℕ, zero, suc, _+_, _-_, _*_}
 use lib.Dec.{eqb, leb, ltb}
 use lib.ListN.{length, getD}
 use Rattle.questions.specs.Bytes.{byte}
-use Rattle.ladder_definitions.specs.Tree.{contact, contactn, Front, input, frontAnd, frontOr, Output, coil, coiln, jump, jumpn, Rear, output, rearAnd, rearOr, Rung, Ladder}
+use Rattle.ladder_definitions.specs.Tree.{contact, contactn, Front, input, frontAnd, frontOr, Output, coil, coiln, jump, jumpn, setCoil, resetCoil, Rear, output, rearAnd, rearOr, Rung, Ladder}
 use Rattle.text_grammar.specs.Grammar.{mostNumber, mostBrackets}
 
 abbrev pub pick : {A : Type 0} → Bool → A → A → A
@@ -104,7 +104,9 @@ outputAt b =
     pick (eqb b (byte "o")) (some coil)
     (pick (eqb b (byte "q")) (some coiln)
     (pick (eqb b (byte "j")) (some jump)
-    (pick (eqb b (byte "k")) (some jumpn) none)))
+    (pick (eqb b (byte "k")) (some jumpn)
+    (pick (eqb b (byte "s")) (some setCoil)
+    (pick (eqb b (byte "r")) (some resetCoil) none)))))
 
 -- the output that the letter at `at` begins; where no letter stands there, the other part
 abbrev pub outputOr : Option (ℕ → Output) → List ℕ → ℕ → Parse Rear → Parse Rear

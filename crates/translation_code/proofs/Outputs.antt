@@ -5,7 +5,7 @@ use mathlib.Core.Path.{_≡_, refl, sym, ap, _∙_}
 use mathlib.Core.Bool.{Bool, true, false}
 use mathlib.Core.List.{List}
 use Rattle.rungs.specs.Words.{operands, word, numberOf, operandOf}
-use Rattle.ladder_definitions.specs.Tree.{Output, coil, coiln, jump, jumpn, outputNames, number}
+use Rattle.ladder_definitions.specs.Tree.{Output, coil, coiln, jump, jumpn, setCoil, resetCoil, outputNames, number}
 use Rattle.ladder_definitions.specs.Kept.{outputKind, nameSorts, nameSort}
 use Rattle.ladder_definitions.specs.Laws.Trees.{same-output}
 use Rattle.ladder_kinds.specs.Kinds.{namesLabel}
@@ -41,6 +41,14 @@ pub jumpn-op : OutputOp 8 14
 unfolding outputKind outputNames number outputCode opOf
 jumpn-op = op-made jumpn 8 14 (λ l. refl) (λ l. refl) (λ l start. refl) (omega arith)
 
+pub set-op : OutputOp 11 15
+unfolding outputKind outputNames number outputCode opOf
+set-op = op-made setCoil 11 15 (λ v. refl) (λ v. refl) (λ v start. refl) (omega arith)
+
+pub reset-op : OutputOp 12 16
+unfolding outputKind outputNames number outputCode opOf
+reset-op = op-made resetCoil 12 16 (λ v. refl) (λ v. refl) (λ v start. refl) (omega arith)
+
 pub no-op : (kind : ℕ) → ((o : Output) → kind ≡ outputKind o → ⊥) → OutputOp kind 0
 no-op kind n = record { few = omega arith; same = λ o e start. absurd (n o e) }
 
@@ -56,6 +64,8 @@ operand-named start (coil v) = refl
 operand-named start (coiln v) = refl
 operand-named start (jump l) = refl
 operand-named start (jumpn l) = refl
+operand-named start (setCoil v) = refl
+operand-named start (resetCoil v) = refl
 
 operand-read : (start : ℕ → ℕ) (kind n : ℕ) (label : Bool) (o : Output) → label ≡ namesLabel kind → kind ≡ outputKind o → n ≡ number (outputNames o)
     → namedOperand start label n ≡ operandNumber (operand (outputCode start o))

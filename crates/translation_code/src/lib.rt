@@ -135,6 +135,8 @@ fn output_op(kind: u32) -> u32
         ladder_kinds::NEGATED_COIL => list_ops::STN,
         ladder_kinds::JUMP => list_ops::JMPC,
         ladder_kinds::NEGATED_JUMP => list_ops::JMPCN,
+        ladder_kinds::SET_COIL => list_ops::S,
+        ladder_kinds::RESET_COIL => list_ops::R,
         _ => 0,
     }
 }

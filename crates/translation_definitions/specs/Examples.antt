@@ -1,11 +1,16 @@
--- Worked translations, by hand from the clauses of document 01, "Translation". Assumes nothing.
+-- Worked translations, by hand from the clauses of document 01, "Translation"; and scans of a latch in turn, by ladder and list. Assumes nothing.
 use mathlib.Core.Path.{_≡_, refl}
+use mathlib.Core.Bool.{true, false}
 use mathlib.Core.List.{List, [], _∷_, map, flatMap}
 use Prim.Native.Nat.{ℕ}
-use Rattle.rungs.specs.Records.{lay, search, startOf}
+use lib.ListN.{replicate}
+use Rattle.table.specs.State.{State, stateOf, tableSize, variables, valueAt, value, writtenAt, write, writeIf}
+use Rattle.rungs.specs.Records.{lay, search, startOf, isStart}
 use Rattle.ladder_definitions.specs.Tree.{frontAnd, frontOr, rearAnd, rearOr, Ladder}
-use Rattle.ladder_definitions.specs.Bench.{rung, c, n, o, q, j, k}
+use Rattle.ladder_definitions.specs.Bench.{rung, c, n, o, q, j, k, s, r, latch}
+use Rattle.ladder_definitions.specs.Meaning.{scanLadder, scanFrom, runRung, runRear, runOutput, workFront, workInput, follow, left}
 use Rattle.list_definitions.specs.Instruction.{Instr, LD, LDN, ST, STN, AND, ANDN, OR, ORN, JMPC, JMPCN}
+use Rattle.list_definitions.specs.Machine.{scanList, scanMachine, begin, fresh, step, count, does, halted}
 use Rattle.translation_definitions.specs.Translate.{F, R, join, outputCode, rungCode, listRecords, translate}
 
 -- a ladder, its V, and its instructions
@@ -40,8 +45,29 @@ rows =
       vars = 4;
       code = LD 0 ∷ ST 4 ∷ ST 5 ∷ ST 1 ∷ LD 5 ∷ ST 2 ∷ LD 4 ∷ ST 3 ∷ [];
     }
+    -- 02, Req 01: 10:c0>s2|n1&r3 20:c1>r2
+    ∷ record {
+      ladder = rung 10 (c 0) (rearOr (s 2) (rearAnd (n 1) (r 3))) ∷ rung 20 (c 1) (r 2) ∷ [];
+      vars = 4;
+      code = LD 0 ∷ ST 4 ∷ Instr.S 2 ∷ LD 4 ∷ ANDN 1 ∷ Instr.R 3 ∷ LD 1 ∷ Instr.R 2 ∷ [];
+    }
     ∷ []
 
 translations : map (λ r. translate (r .vars) (r .ladder) .code) rows ≡ map (λ r. r .code) rows
 unfolding rows F R join outputCode rungCode lay search startOf listRecords translate flatMap
 translations = refl
+
+-- 02, Req 01: "Document 002 restores a set variable in the next scan; IEC 61131-3 doesn't, and is followed." Three scans of the latch 10:c0>s2 20:c1>r2, each on the
+-- table that the one before left; v0 is true in the first and false from then on, v1 is true in the third. The variables after each:
+threeScans : (State → State) → List (List ℕ)
+threeScans scan =
+    let first = scan (write (stateOf 3 (replicate (tableSize 3) 0)) 0 true) in
+    let second = scan (write first 0 false) in
+    let third = scan (write second 1 true) in
+    variables first ∷ variables second ∷ variables third ∷ []
+
+latch-held : map threeScans ((λ t. scanLadder latch 2 t .state) ∷ (λ t. scanList (translate 3 latch) 4 t .state) ∷ [])
+    ≡ replicate 2 ((1 ∷ 0 ∷ 1 ∷ []) ∷ (0 ∷ 0 ∷ 1 ∷ []) ∷ (0 ∷ 1 ∷ 0 ∷ []) ∷ [])
+unfolding threeScans F R join outputCode rungCode lay search startOf listRecords translate flatMap variables valueAt value writtenAt write writeIf
+    scanLadder scanFrom runRung runRear runOutput workFront workInput follow left scanList scanMachine begin fresh step count does halted isStart
+latch-held = refl

@@ -10,9 +10,9 @@ use mir.Facts.{and-yes}
 use Rattle.questions.specs.Tests.{all}
 use Rattle.questions.specs.Laws.Tests.{all-head, all-tail, all-second}
 use Rattle.table.specs.State.{State}
-use Rattle.table.specs.Laws.Alike.{Alike, value-alike, write-both, ScratchStays, scratch-self, scratch-both, scratch-written}
+use Rattle.table.specs.Laws.Alike.{Alike, value-alike, write-both, write-if-both, ScratchStays, scratch-self, scratch-both, scratch-written, scratch-if}
 use Rattle.rungs.specs.Records.{search}
-use Rattle.ladder_definitions.specs.Tree.{contact, contactn, Front, input, frontAnd, frontOr, Output, coil, coiln, jump, jumpn, Rear, output, rearAnd, rearOr, Rung, Ladder, labels, frontAll, rearAll, rungAll, inputVariable, outputNames}
+use Rattle.ladder_definitions.specs.Tree.{contact, contactn, Front, input, frontAnd, frontOr, Output, coil, coiln, jump, jumpn, setCoil, resetCoil, Rear, output, rearAnd, rearOr, Rung, Ladder, labels, frontAll, rearAll, rungAll, inputVariable, outputNames}
 use Rattle.ladder_definitions.specs.Meaning.{Worked, workInput, workFront, Run, onward, jumped, left, jumpIf, unlessJumped, runOutput, runRear, runRung, from, follow, LadderResult, scanFrom, scanLadder}
 use Rattle.ladder_definitions.specs.Questions.{inputBelow, namedBelow, outputBelow, rungBelow, joinScratch}
 
@@ -65,6 +65,8 @@ module _ (vars : ℕ) where
   output-alike (coiln v) q s t b p = onwards (write-both p v (not q) (ltb→lt v vars b))
   output-alike (jump l) q s t b p = jump-alike q l s t p
   output-alike (jumpn l) q s t b p = jump-alike (not q) l s t p
+  output-alike (setCoil v) q s t b p = onwards (write-if-both p q v true (ltb→lt v vars b))
+  output-alike (resetCoil v) q s t b p = onwards (write-if-both p q v false (ltb→lt v vars b))
 
   unless-alike : (x y : Run) (next : State → Run) → RunsAlike vars x y → ((s t : State) → Alike vars s t → RunsAlike vars (next s) (next t)) → RunsAlike vars (unlessJumped x next) (unlessJumped y next)
   unfolding unlessJumped
@@ -134,6 +136,8 @@ output-stays (coil v) p s b = scratch-written s v p (ltb→lt v (s .vars) b)
 output-stays (coiln v) p s b = scratch-written s v (not p) (ltb→lt v (s .vars) b)
 output-stays (jump l) p s b = jump-stays p l s
 output-stays (jumpn l) p s b = jump-stays (not p) l s
+output-stays (setCoil v) p s b = scratch-if s v p true (ltb→lt v (s .vars) b)
+output-stays (resetCoil v) p s b = scratch-if s v p false (ltb→lt v (s .vars) b)
 
 unless-stays : (s : State) (x : Run) (next : State → Run) → ScratchStays s (left x) → ((u : State) → ScratchStays s u → ScratchStays u (left (next u))) → ScratchStays s (left (unlessJumped x next))
 unfolding unlessJumped left

@@ -22,17 +22,25 @@ no-sort (suc k) h = go (decLt (suc k) (length kindSorts))
     go (no l) = sym (List·getD-eq-default kindSorts noSort {n = suc k} (omega arith))
 
 abbrev variableTests : ℕ → Bool
-variableTests k = eqb k 1 || eqb k 2 || eqb k 5 || eqb k 6
+variableTests k = eqb k 1 || eqb k 2 || eqb k 5 || eqb k 6 || eqb k 11 || eqb k 12
 
 pub variable-tests : (k : ℕ) → variableTests k ≡ namesVariable k
 unfolding namesVariable nameSort nameSorts Firsts past
-variable-tests = every 11 (λ k. variableTests k ≡ namesVariable k) (refl then refl then refl then refl then refl then refl then refl then refl then refl then refl then refl then tt)
-    (λ k. let n = past 11 k in rw (ne-eqb n 1 (λ e. omega arith), ne-eqb n 2 (λ e. omega arith), ne-eqb n 5 (λ e. omega arith), ne-eqb n 6 (λ e. omega arith)) refl)
+variable-tests = every 13 (λ k. variableTests k ≡ namesVariable k) (refl then refl then refl then refl then refl then refl then refl then refl then refl then refl then refl then refl then refl then tt)
+    (λ k. let n = past 13 k in
+    rw (
+      ne-eqb n 1 (λ e. omega arith),
+      ne-eqb n 2 (λ e. omega arith),
+      ne-eqb n 5 (λ e. omega arith),
+      ne-eqb n 6 (λ e. omega arith),
+      ne-eqb n 11 (λ e. omega arith),
+      ne-eqb n 12 (λ e. omega arith),
+    ) refl)
 
 abbrev labelTests : ℕ → Bool
 labelTests k = eqb k 7 || eqb k 8
 
 pub label-tests : (k : ℕ) → labelTests k ≡ namesLabel k
 unfolding namesLabel nameSort nameSorts Firsts past
-label-tests = every 11 (λ k. labelTests k ≡ namesLabel k) (refl then refl then refl then refl then refl then refl then refl then refl then refl then refl then refl then tt)
-    (λ k. let n = past 11 k in rw (ne-eqb n 7 (λ e. omega arith), ne-eqb n 8 (λ e. omega arith)) refl)
+label-tests = every 13 (λ k. labelTests k ≡ namesLabel k) (refl then refl then refl then refl then refl then refl then refl then refl then refl then refl then refl then refl then refl then tt)
+    (λ k. let n = past 13 k in rw (ne-eqb n 7 (λ e. omega arith), ne-eqb n 8 (λ e. omega arith)) refl)

@@ -3,9 +3,9 @@ use native.Mathlib.Omega.{arith}
 use mathlib.Core.Path.{_≡_}
 use borrow.Author.Needs.{needs}
 use Rattle.rungs.specs.Words.{numberOf}
-use Rattle.ladder_definitions.specs.Tree.{Output, coil, coiln, jump, jumpn}
+use Rattle.ladder_definitions.specs.Tree.{Output, coil, coiln, jump, jumpn, setCoil, resetCoil}
 use Rattle.ladder_definitions.specs.Kept.{outputKind}
-use Rattle.ladder_walk.proofs.Walks.{ran-coil, ran-coiln, jump-taken, jump-left, jumpn-taken, jumpn-left, no-output}
+use Rattle.ladder_walk.proofs.Walks.{ran-coil, ran-coiln, jump-taken, jump-left, jumpn-taken, jumpn-left, ran-set, ran-reset, no-output}
 use Rattle.ladder_walk.proofs.run_output.Statement.{statement}
 use Rattle.ladder_walk.proofs.run_output.Tie as tie
 
@@ -20,6 +20,18 @@ cast-write-2 c = search needs
 
 write-requires-2 : tie.Need-write-requires-2
 write-requires-2 c κs = search needs
+
+cast-write-if : tie.Need-cast-write-if
+cast-write-if c = search needs
+
+write-if-requires : tie.Need-write-if-requires
+write-if-requires c κs = search needs
+
+cast-write-if-2 : tie.Need-cast-write-if-2
+cast-write-if-2 c = search needs
+
+write-if-requires-2 : tie.Need-write-if-requires-2
+write-if-requires-2 c κs = search needs
 
 same-length : tie.Need-same-length
 same-length c = search needs
@@ -51,15 +63,31 @@ returns-6 : tie.Need-returns-6
 unfolding outputKind
 returns-6 c = jumpn-taken _ _ _ _ (c .before .match .keys4) (c .if2 .left)
 
+same-length-3 : tie.Need-same-length-3
+same-length-3 c = search needs
+
 returns-7 : tie.Need-returns-7
 unfolding outputKind
-returns-7 c = no-output _ _ _ _ none
+returns-7 c = ran-set _ _ _ _ _ (c .before .before .before .before .match .keys5) (c .before .before .write-if .ensures)
+
+same-length-4 : tie.Need-same-length-4
+same-length-4 c = search needs
+
+returns-8 : tie.Need-returns-8
+unfolding outputKind
+returns-8 c = ran-reset _ _ _ _ _ (c .before .before .before .before .match .keys6) (c .before .before .write-if2 .ensures)
+
+returns-9 : tie.Need-returns-9
+unfolding outputKind
+returns-9 c = no-output _ _ _ _ none
   where
     none : (o : Output) → numberOf (c .before .before .args .word) ≡ outputKind o → ⊥
     none (coil v) e = omega arith
     none (coiln v) e = omega arith
     none (jump l) e = omega arith
     none (jumpn l) e = omega arith
+    none (setCoil v) e = omega arith
+    none (resetCoil v) e = omega arith
 
 pub run-output-spec : {M : Type 1} → statement M
 run-output-spec =
@@ -69,6 +97,10 @@ run-output-spec =
     write-requires
     cast-write-2
     write-requires-2
+    cast-write-if
+    write-if-requires
+    cast-write-if-2
+    write-if-requires-2
     same-length
     returns
     same-length-2
@@ -77,4 +109,8 @@ run-output-spec =
     returns-4
     returns-5
     returns-6
-    returns-7)
+    same-length-3
+    returns-7
+    same-length-4
+    returns-8
+    returns-9)

@@ -2,8 +2,9 @@
 use mathlib.Core.Path.{refl}
 use mathlib.Core.Bool.{xor}
 use Rattle.table.specs.State.{valueAt, value, writtenAt, write}
+use Rattle.table.specs.Laws.Alike.{write-if-bytes}
 use Rattle.rungs.specs.Laws.Numbers.{noneTo}
-use Rattle.list_definitions.specs.Instruction.{LD, LDN, ST, STN, AND, ANDN, OR, ORN, XOR, XORN, JMP, JMPC, JMPCN, ops}
+use Rattle.list_definitions.specs.Instruction.{LD, LDN, ST, STN, AND, ANDN, OR, ORN, XOR, XORN, JMP, JMPC, JMPCN, S, R, ops}
 use Rattle.list_definitions.specs.Machine.{does}
 use Rattle.list_machine.proofs.Steps.{arm, arm-not, arm-other}
 use borrow.Author.Needs.{needs}
@@ -91,8 +92,20 @@ choose-requires-2 c κs = tt
 after-requires-14 : tie.Need-after-requires-14
 after-requires-14 c κs = tt
 
+write-if-requires : tie.Need-write-if-requires
+write-if-requires c κs = tt
+
 after-requires-15 : tie.Need-after-requires-15
 after-requires-15 c κs = tt
+
+write-if-requires-2 : tie.Need-write-if-requires-2
+write-if-requires-2 c κs = tt
+
+after-requires-16 : tie.Need-after-requires-16
+after-requires-16 c κs = tt
+
+after-requires-17 : tie.Need-after-requires-17
+after-requires-17 c κs = tt
 
 same-length : tie.Need-same-length
 same-length c = search needs
@@ -179,9 +192,23 @@ returns-14 : tie.Need-returns-14
 unfolding ops does
 returns-14 c = arm (c .before .before .match .keys14) JMPCN refl (c .after14 .ensures) (λ s pc q. rw (c .before .choose2 .ensures, q))
 
+same-length-11 : tie.Need-same-length-11
+same-length-11 c = search needs
+
 returns-15 : tie.Need-returns-15
+unfolding ops does
+returns-15 c = arm (c .before .before .before .before .before .match .keys15) S refl (c .after15 .ensures) (λ s pc q. rw (c .before .before .before .write-if .ensures, q, write-if-bytes))
+
+same-length-12 : tie.Need-same-length-12
+same-length-12 c = search needs
+
+returns-16 : tie.Need-returns-16
+unfolding ops does
+returns-16 c = arm (c .before .before .before .before .before .match .keys16) R refl (c .after16 .ensures) (λ s pc q. rw (c .before .before .before .write-if2 .ensures, q, write-if-bytes))
+
+returns-17 : tie.Need-returns-17
 unfolding ops noneTo
-returns-15 c = arm-other (c .before .match .rest)
+returns-17 c = arm-other (c .before .match .rest)
 
 pub carry-out-spec : {M : Type 1} → statement M
 carry-out-spec =
@@ -214,7 +241,11 @@ carry-out-spec =
     after-requires-13
     choose-requires-2
     after-requires-14
+    write-if-requires
     after-requires-15
+    write-if-requires-2
+    after-requires-16
+    after-requires-17
     same-length
     returns
     same-length-2
@@ -239,4 +270,8 @@ carry-out-spec =
     returns-12
     returns-13
     returns-14
-    returns-15)
+    same-length-11
+    returns-15
+    same-length-12
+    returns-16
+    returns-17)

@@ -9,12 +9,12 @@ use lib.ListN.{getElem?}
 use Rattle.questions.specs.Laws.Tests.{bit-few}
 use Rattle.table.specs.State.{State, write}
 use Rattle.rungs.specs.Records.{isStart}
-use Rattle.ladder_definitions.specs.Tree.{contact, contactn, Front, input, frontAnd, frontOr, Output, coil, coiln, jump, jumpn, Rear, output, rearAnd, rearOr, Rung, Ladder}
+use Rattle.ladder_definitions.specs.Tree.{contact, contactn, Front, input, frontAnd, frontOr, Output, coil, coiln, jump, jumpn, setCoil, resetCoil, Rear, output, rearAnd, rearOr, Rung, Ladder}
 use Rattle.ladder_definitions.specs.Meaning.{workInput, workFront, Run, onward, jumped, left, jumpIf, unlessJumped, runOutput, runRear, runRung, follow, scanFrom, scanLadder}
 use Rattle.list_definitions.specs.Instruction.{Instr}
 use Rattle.list_definitions.specs.Machine.{InstructionList, Machine, Counts, count, step, halted, fresh, begin, scanMachine, scanList}
 use Rattle.list_definitions.specs.Laws.Watchdog.{scan-end, scan-stop, scan-step}
-use Rattle.translation_definitions.specs.Laws.Many.{LegalTable, written-legal, machine-legal}
+use Rattle.translation_definitions.specs.Laws.Many.{LegalTable, written-legal, write-if-legal, machine-legal}
 
 -- ---- a ladder scan leaves a legal table legal
 
@@ -40,6 +40,8 @@ module _ (vars : ℕ) where
   output-legal (coiln v) p s h = written-legal vars (s .bytes) v (not p) h
   output-legal (jump l) p s h = jump-legal p l s h
   output-legal (jumpn l) p s h = jump-legal (not p) l s h
+  output-legal (setCoil v) p s h = write-if-legal vars p s v true h
+  output-legal (resetCoil v) p s h = write-if-legal vars p s v false h
 
   unless-legal : (x : Run) (next : State → Run) → Fine (left x) → ((u : State) → Fine u → Fine (left (next u))) → Fine (left (unlessJumped x next))
   unfolding unlessJumped left

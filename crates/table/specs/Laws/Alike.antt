@@ -12,7 +12,7 @@ use lib.Seq.{getD-set-same, getD-set-other, ext-getD, getD-take, set-out, drop-s
 use mir.Facts.{and-yes}
 use Rattle.questions.specs.Tests.{all, bit}
 use Rattle.questions.specs.Laws.Answers.{ask-passed}
-use Rattle.table.specs.State.{State, scratchBytes, tableSize, variables, beyondVariables, truth, valueAt, value, writtenAt, write, SameButScratch}
+use Rattle.table.specs.State.{State, withBytes, scratchBytes, tableSize, variables, beyondVariables, truth, valueAt, value, writtenAt, write, writeIf, writtenIf, SameButScratch}
 use Rattle.table.specs.Questions.{tableInRange, question11, isBit, Legal}
 
 -- a table that question 11 takes has V + 32 bytes
@@ -44,6 +44,12 @@ set-same s t v x h i e = go (ℕ-discrete i v) (decLt v (length t))
     go (yes p) (no k) = rw (set-out s v x (omega arith), set-out t v x (omega arith)) e
     go (no p) k = rw (getD-set-other s v i x 0 p, getD-set-other t v i x 0 p) e
 
+-- what `writeIf` leaves of a state with other bytes
+pub write-if-bytes : (q : Bool) (s : State) (bytes : List ℕ) (i : ℕ) (b : Bool) → writeIf q (withBytes s bytes) i b ≡ withBytes s (writtenIf q bytes i b)
+unfolding writeIf writtenIf write
+write-if-bytes true s bytes i b = refl
+write-if-bytes false s bytes i b = refl
+
 module _ {vars : ℕ} {s t : State} (p : Alike vars s t) where
   pub value-alike : (v : ℕ) → v < vars → value t v ≡ value s v
   unfolding value valueAt
@@ -59,6 +65,11 @@ module _ {vars : ℕ} {s t : State} (p : Alike vars s t) where
     same-room = length-set (s .bytes) v (bit b) ∙ p .same-room ∙ sym (length-set (t .bytes) v (bit b));
     room = rw (length-set (t .bytes) v (bit b)) (p .room);
   }
+
+  pub write-if-both : (q : Bool) (v : ℕ) (b : Bool) → v < vars → Alike vars (writeIf q s v b) (writeIf q t v b)
+  unfolding writeIf
+  write-if-both true v b h = write-both v b h
+  write-if-both false v b h = p
 
   -- scratch written in the second alone
   pub write-scratch : (d : ℕ) (b : Bool) → d < scratchBytes → Alike vars s (write t (vars + d) b)
@@ -110,6 +121,11 @@ module _ (vars : ℕ) where
   unfolding write writtenAt
   keeps-variable d v t b h = record { kept = λ i lo hi. getD-set-other (t .bytes) v i (bit b) 0 (omega arith) }
 
+  pub keeps-if : (d v : ℕ) (t : State) (q b : Bool) → v < vars → Keeps vars d t (writeIf q t v b)
+  unfolding writeIf
+  keeps-if d v t true b h = keeps-variable d v t b h
+  keeps-if d v t false b h = keeps-all d t
+
   pub keeps-scratch : (d : ℕ) (t : State) (b : Bool) → Keeps vars d t (write t (vars + d) b)
   unfolding write writtenAt
   keeps-scratch d t b = record { kept = λ i lo hi. getD-set-other (t .bytes) (vars + d) i (bit b) 0 (omega arith) }
@@ -139,3 +155,8 @@ scratch-both h k = record { same-vars = k .same-vars ∙ h .same-vars; same-beyo
 pub scratch-written : (s : State) (v : ℕ) (b : Bool) → v < s .vars → ScratchStays s (write s v b)
 unfolding write writtenAt beyondVariables
 scratch-written s v b h = record { same-vars = refl; same-beyond = drop-set-lt (s .vars) (s .bytes) v (bit b) h }
+
+pub scratch-if : (s : State) (v : ℕ) (q b : Bool) → v < s .vars → ScratchStays s (writeIf q s v b)
+unfolding writeIf
+scratch-if s v true b h = scratch-written s v b h
+scratch-if s v false b h = scratch-self s

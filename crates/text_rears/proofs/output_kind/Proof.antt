@@ -24,9 +24,17 @@ unfolding letterKind outputAt outputKind
 returns-4 c = rw (c .match .keys4) refl
 
 returns-5 : tie.Need-returns-5
+unfolding letterKind outputAt outputKind
+returns-5 c = rw (c .match .keys5) refl
+
+returns-6 : tie.Need-returns-6
+unfolding letterKind outputAt outputKind
+returns-6 c = rw (c .match .keys6) refl
+
+returns-7 : tie.Need-returns-7
 unfolding letterKind outputAt
-returns-5 c =
-    rw (ne-eqb _ _ (c .match .rest .0 .0 .0 .1), ne-eqb _ _ (c .match .rest .0 .0 .1), ne-eqb _ _ (c .match .rest .0 .1), ne-eqb _ _ (c .match .rest .1), letterKind) refl
+returns-7 c =
+    rw (ne-eqb _ _ (c .match .rest .0 .0 .0 .0 .0 .1), ne-eqb _ _ (c .match .rest .0 .0 .0 .0 .1), ne-eqb _ _ (c .match .rest .0 .0 .0 .1), ne-eqb _ _ (c .match .rest .0 .0 .1), ne-eqb _ _ (c .match .rest .0 .1), ne-eqb _ _ (c .match .rest .1), letterKind) refl
 
 pub output-kind-spec : {M : Type 1} → statement M
-output-kind-spec = tie.close (tie.spec returns returns-2 returns-3 returns-4 returns-5)
+output-kind-spec = tie.close (tie.spec returns returns-2 returns-3 returns-4 returns-5 returns-6 returns-7)

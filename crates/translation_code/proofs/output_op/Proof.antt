@@ -1,9 +1,9 @@
 -- `translation_code::output_op` meets its contract: each kind of output has its arm's op. Assumes nothing.
 use native.Mathlib.Omega.{arith}
 use mathlib.Core.Path.{_≡_}
-use Rattle.ladder_definitions.specs.Tree.{Output, coil, coiln, jump, jumpn}
+use Rattle.ladder_definitions.specs.Tree.{Output, coil, coiln, jump, jumpn, setCoil, resetCoil}
 use Rattle.ladder_definitions.specs.Kept.{outputKind}
-use Rattle.translation_code.proofs.Outputs.{coil-op, coiln-op, jump-op, jumpn-op, no-op}
+use Rattle.translation_code.proofs.Outputs.{coil-op, coiln-op, jump-op, jumpn-op, set-op, reset-op, no-op}
 use Rattle.translation_code.proofs.output_op.Statement.{statement}
 use Rattle.translation_code.proofs.output_op.Tie as tie
 
@@ -20,14 +20,22 @@ returns-4 : tie.Need-returns-4
 returns-4 c = rw (c .match .keys4) jumpn-op
 
 returns-5 : tie.Need-returns-5
+returns-5 c = rw (c .match .keys5) set-op
+
+returns-6 : tie.Need-returns-6
+returns-6 c = rw (c .match .keys6) reset-op
+
+returns-7 : tie.Need-returns-7
 unfolding outputKind
-returns-5 c = no-op _ other
+returns-7 c = no-op _ other
   where
     other : (o : Output) → c .before .args .kind ≡ outputKind o → ⊥
     other (coil v) e = omega arith
     other (coiln v) e = omega arith
     other (jump l) e = omega arith
     other (jumpn l) e = omega arith
+    other (setCoil v) e = omega arith
+    other (resetCoil v) e = omega arith
 
 pub output-op-spec : {M : Type 1} → statement M
-output-op-spec = tie.close (tie.spec returns returns-2 returns-3 returns-4 returns-5)
+output-op-spec = tie.close (tie.spec returns returns-2 returns-3 returns-4 returns-5 returns-6 returns-7)

@@ -2,13 +2,13 @@
 use Prim.Native.Nat.{ℕ, zero, suc, _*_, _≤_}
 use native.Mathlib.Omega.{arith}
 use mathlib.Core.Path.{_≡_, refl, sym, ap, _∙_}
-use mathlib.Core.Bool.{Bool}
+use mathlib.Core.Bool.{Bool, true, false}
 use mathlib.Core.Option.{Option, none, some}
 use mathlib.Core.List.{List, [], _∷_, map}
 use lib.ListN.{length, take, getElem?, length-map}
 use Rattle.questions.specs.Questions.{firstNo, question1, question12, question13, mostRungWatchdog, mostInstructionWatchdog}
 use Rattle.questions.specs.Laws.Answers.{watchdog-in-range, in-range-watchdog}
-use Rattle.table.specs.State.{State, stateOf, write}
+use Rattle.table.specs.State.{State, stateOf, write, writeIf}
 use Rattle.table.specs.Halt.{Halt, Ended, Stopped}
 use Rattle.table.specs.Questions.{question11}
 use Rattle.table.specs.Laws.Alike.{alike-self}
@@ -23,7 +23,7 @@ use Rattle.ladder_definitions.specs.LadderScan.{LadderCounts, callLadderScan, s
 use Rattle.ladder_definitions.specs.Laws.Accepting.{accepted, ladder-first}
 use Rattle.ladder_definitions.specs.Laws.Scratch.{scan-stays}
 use Rattle.ladder_definitions.specs.Laws.Watchdog.{stopped-stands, ended-stands}
-use Rattle.list_definitions.specs.Instruction.{Instr, LD, LDN, ST, STN, AND, ANDN, OR, ORN, XOR, XORN, NOT, JMP, JMPC, JMPCN, instrWord, codeOf}
+use Rattle.list_definitions.specs.Instruction.{Instr, LD, LDN, ST, STN, AND, ANDN, OR, ORN, XOR, XORN, NOT, JMP, JMPC, JMPCN, S, R, instrWord, codeOf}
 use Rattle.list_definitions.specs.Machine.{InstructionList, Machine, does, step, halted, scanMachine, scanList}
 use Rattle.list_definitions.specs.Questions.{question10, listAnswer}
 use Rattle.list_definitions.specs.ListScan.{listOf, callListScan, scanEnds as listEnds, scanQuestions}
@@ -38,6 +38,11 @@ use Rattle.translation_definitions.specs.Laws.Lists.{below-all, translat
 use Rattle.translation_definitions.specs.Laws.Legal.{list-in-range, list-decodes, watchdog-in-range as most-in-range}
 
 -- ---- a list scan leaves V
+
+write-if-vars : (q : Bool) (s : State) (i : ℕ) (b : Bool) → writeIf q s i b .vars ≡ s .vars
+unfolding writeIf write
+write-if-vars true s i b = refl
+write-if-vars false s i b = refl
 
 does-vars : (i : Instr) (v : Bool) (e : State) (pc : ℕ) → does i v e pc .state .vars ≡ e .vars
 unfolding does write
@@ -55,6 +60,8 @@ does-vars NOT v e pc = refl
 does-vars (JMP j) v e pc = refl
 does-vars (JMPC j) v e pc = refl
 does-vars (JMPCN j) v e pc = refl
+does-vars (S x) v e pc = write-if-vars v e x true
+does-vars (R x) v e pc = write-if-vars v e x false
 
 module _ (l : InstructionList) where
   machine-vars : (n : ℕ) (m : Machine) (t : State) → scanMachine l n m t .state .vars ≡ t .vars

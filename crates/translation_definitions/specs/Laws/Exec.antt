@@ -12,7 +12,7 @@ use Rattle.questions.specs.Tests.{bit}
 use Rattle.table.specs.State.{State}
 use Rattle.rungs.specs.Records.{isStart}
 use Rattle.ladder_definitions.specs.Meaning.{Run, onward, jumped, left}
-use Rattle.list_definitions.specs.Instruction.{Instr, LD, LDN, ST, STN, AND, ANDN, OR, ORN, XOR, XORN, NOT, JMP, JMPC, JMPCN}
+use Rattle.list_definitions.specs.Instruction.{Instr, LD, LDN, ST, STN, AND, ANDN, OR, ORN, XOR, XORN, NOT, JMP, JMPC, JMPCN, S, R}
 use Rattle.list_definitions.specs.Machine.{InstructionList, Counts, Machine, ListResult, does, count, step, scanMachine}
 use Rattle.list_definitions.specs.Laws.Watchdog.{scan-step}
 
@@ -45,6 +45,8 @@ leaves NOT v = none
 leaves (JMP j) v = some j
 leaves (JMPC j) v = cond v (some j) none
 leaves (JMPCN j) v = cond v none (some j)
+leaves (S x) v = none
+leaves (R x) v = none
 
 unfoldable pub exec : List Instr → Bool → State → Out
 exec [] v t = record { count = 0; accumulator = v; run = onward t }
@@ -85,6 +87,8 @@ does-at (JMPC j) true t pc = refl
 does-at (JMPC j) false t pc = refl
 does-at (JMPCN j) true t pc = refl
 does-at (JMPCN j) false t pc = refl
+does-at (S x) v t pc = refl
+does-at (R x) v t pc = refl
 
 -- the index after n instructions from pc on
 unfoldable pub landing : ℕ → Run → ℕ → ℕ

@@ -17,7 +17,7 @@ use Rattle.table.specs.State.{tableSize}
 use Rattle.rungs.specs.Words.{operands}
 use Rattle.rungs.specs.Records.{RungRecord, laid, lay, longest, mostRecords}
 use Rattle.rungs.specs.Laws.Layout.{sizes, lay-length, lay-laid, longest-most, pieces-length}
-use Rattle.ladder_definitions.specs.Tree.{contact, contactn, Front, input, frontAnd, frontOr, Output, coil, coiln, jump, jumpn, Rear, output, rearAnd, rearOr, Rung, Ladder, outputNames}
+use Rattle.ladder_definitions.specs.Tree.{contact, contactn, Front, input, frontAnd, frontOr, Output, coil, coiln, jump, jumpn, setCoil, resetCoil, Rear, output, rearAnd, rearOr, Rung, Ladder, outputNames}
 use Rattle.ladder_definitions.specs.Kept.{frontWords, rearWords, rungWords, encode}
 use Rattle.ladder_definitions.specs.Questions.{namedBelow, outputBelow, rungBelow, sizesInRange, question5, mostRungs, mostRungWords, mostWords, Accepted}
 use Rattle.list_definitions.specs.Instruction.{Instr, ST, AND, ANDN, OR, ORN, Operand, tableIndex, noOperand, instructionIndex, operand, operandFits, instrFits, instrWord, decodeCode}
@@ -48,6 +48,8 @@ module _ (vars n : ℕ) (start : ℕ → ℕ) (near : (l : ℕ) → start l ≤ 
   output-in-range (coiln v) b f = let l = ltb→lt v vars b in in-table v (omega arith)
   output-in-range (jump l) b f = le→leb (start l) n (near l)
   output-in-range (jumpn l) b f = le→leb (start l) n (near l)
+  output-in-range (setCoil v) b f = let l = ltb→lt v vars b in in-table v (omega arith)
+  output-in-range (resetCoil v) b f = let l = ltb→lt v vars b in in-table v (omega arith)
 
   pub codes-in-range : (gs : Ladder) → T (all (rungBelow vars) gs) → T (all scratchFits gs) → InRange (tableSize vars) n (flatMap (rungCode vars start) gs)
   codes-in-range gs b h = codes-pass vars start (operandInRange size n) (λ o. true) (λ v l. in-table v (omega arith)) (λ d l. in-table (vars + d) (omega arith)) output-in-range gs b (rungs-any gs) h

@@ -13,7 +13,7 @@ use Rattle.questions.specs.Tests.{all, bit}
 use Rattle.questions.specs.Questions.{Answer, firstNo, question1, question12, mostRungWatchdog, mostInstructionWatchdog}
 use Rattle.questions.specs.Laws.Tests.{all-head, all-tail, all-cons}
 use Rattle.questions.specs.Laws.Answers.{ask-passed, passed-ask, first-yes, later-yes}
-use Rattle.table.specs.State.{State, stateOf, tableSize, variables, writtenAt, write, SameButScratch}
+use Rattle.table.specs.State.{State, stateOf, tableSize, variables, writtenAt, write, writeIf, SameButScratch}
 use Rattle.table.specs.Halt.{Halt, Ended}
 use Rattle.table.specs.Laws.Alike.{same-both}
 use Rattle.table.specs.Questions.{isBit, tableInRange, question11}
@@ -25,7 +25,7 @@ use Rattle.ladder_definitions.specs.LadderScan.{LadderCounts, LadderScanCall, c
 use Rattle.ladder_definitions.specs.Laws.Accepting.{accepted, ladder-first}
 use Rattle.ladder_definitions.specs.Laws.Scratch.{scan-stays}
 use Rattle.ladder_definitions.specs.Theorems.{scratch-not-read}
-use Rattle.list_definitions.specs.Instruction.{Instr, LD, LDN, ST, STN, AND, ANDN, OR, ORN, XOR, XORN, NOT, JMP, JMPC, JMPCN, instrWord}
+use Rattle.list_definitions.specs.Instruction.{Instr, LD, LDN, ST, STN, AND, ANDN, OR, ORN, XOR, XORN, NOT, JMP, JMPC, JMPCN, S, R, instrWord}
 use Rattle.list_definitions.specs.Machine.{InstructionList, Machine, does, step, halted, begin, scanMachine, scanList}
 use Rattle.list_definitions.specs.Questions.{question10}
 use Rattle.list_definitions.specs.ListScan.{listOf, callListScan, scanEnds as listEnds, scanQuestions}
@@ -57,6 +57,11 @@ module _ (vars : ℕ) where
       passed-ask 11 _ (yes-and (eqb (length (set table i (bit b))) (tableSize vars)) (all isBit (set table i (bit b)))
       (rw (length-set table i (bit b)) (p .0)) (bits-written table i b (p .1)))
 
+  pub write-if-legal : (q : Bool) (s : State) (i : ℕ) (b : Bool) → LegalTable vars (s .bytes) → LegalTable vars (writeIf q s i b .bytes)
+  unfolding writeIf write
+  write-if-legal true s i b h = written-legal (s .bytes) i b h
+  write-if-legal false s i b h = h
+
   input-legal : (inputs : List InputValue) (table : List ℕ) → LegalTable vars table → LegalTable vars (inputPhase inputs table)
   unfolding inputPhase
   input-legal [] table h = h
@@ -78,6 +83,8 @@ module _ (vars : ℕ) where
   does-legal (JMP j) v e pc h = h
   does-legal (JMPC j) v e pc h = h
   does-legal (JMPCN j) v e pc h = h
+  does-legal (S x) v e pc h = write-if-legal v e x true h
+  does-legal (R x) v e pc h = write-if-legal v e x false h
 
   pub machine-legal : (l : InstructionList) (n : ℕ) (m : Machine) (t : State) → LegalTable vars (t .bytes) → LegalTable vars (scanMachine l n m t .state .bytes)
   unfolding halted step
