@@ -20,13 +20,13 @@ use Rattle.rungs.specs.Buffers.{Buffers, needs, writtenOver, writtenWords, writ
 use Rattle.ladder_definitions.specs.Kept.{Kept}
 use Rattle.ladder_definitions.specs.Meaning.{scanLadder}
 use Rattle.ladder_definitions.specs.Questions.{ladderOf, ladderAnswer, mostRungWords}
-use Rattle.ladder_definitions.specs.LadderScan.{LadderCounts, LadderScanAnswer, callLadderScan, scanned as ladderScanned, refused as ladderRefused, scanEnds as ladderEnds, scanQuestions as ladderAsked, countsIn as ladderCountsIn, ladderScannedAnswer, LadderScanDone}
+use Rattle.ladder_definitions.specs.LadderScan.{LadderCounts, countsOf as ladderCountsOf, LadderScanAnswer, callLadderScan, scanned as ladderScanned, refused as ladderRefused, scanEnds as ladderEnds, scanQuestions as ladderAsked, countsIn as ladderCountsIn, ladderScannedAnswer, LadderScanDone}
 use Rattle.ladder_definitions.specs.Laws.Accepting.{accepted}
 use Rattle.ladder_definitions.specs.declared.LadderScanned.{LadderScanned}
 use Rattle.ladder_definitions.specs.declared.LadderScanned.the-variants.{Ended as LadderEnded, Stopped as LadderStopped, Refused as LadderRefused}
 use Rattle.list_definitions.specs.Instruction.{instrWord}
-use Rattle.list_definitions.specs.Machine.{Counts as ListCounts, InstructionList, scanList}
-use Rattle.list_definitions.specs.ListScan.{ListScanAnswer, callListScan, scanned as listScanned, refused as listRefused, scanEnds as listEnds, countsIn as listCountsIn, listScannedAnswer, ListScanDone}
+use Rattle.list_definitions.specs.Machine.{InstructionList, scanList}
+use Rattle.list_definitions.specs.ListScan.{ListCounts, countsOf as listCountsOf, ListScanAnswer, callListScan, scanned as listScanned, refused as listRefused, scanEnds as listEnds, countsIn as listCountsIn, listScannedAnswer, ListScanDone}
 use Rattle.list_definitions.specs.declared.ListScanned.{ListScanned}
 use Rattle.list_definitions.specs.declared.ListScanned.the-variants.{Ended as ListEnded, Stopped as ListStopped, Refused as ListRefused}
 use Rattle.translation_definitions.specs.Translate.{translate, codeBound}
@@ -249,7 +249,7 @@ module _ (vars : ℕ) (k : Kept) (table : List ℕ) (lent : Lent) (n : ℕ) (wat
             rw (← (ladder-call vars k table n (p .ladder) (p .legal) (p .rungs)), ← (copied-whole table (lent .ladderTable) (p .ladder-copy))) (ran .ladder-done)
 
         ladder-halt : (haltOf (ladderEnd (ran .ladder) .ended) ≡ scanLadder (ladderOf k) n (stateOf vars table) .halt)
-            × (ladderCountsIn (ladderEnd (ran .ladder) .counts) ≡ record { rungs = scanLadder (ladderOf k) n (stateOf vars table) .rungs })
+            × (ladderCountsIn (ladderEnd (ran .ladder) .counts) ≡ ladderCountsOf (scanLadder (ladderOf k) n (stateOf vars table)))
         unfolding ladderEnds
         ladder-halt = ladder-told (ran .ladder) _ _ (ladder-is .answer)
 
@@ -275,7 +275,7 @@ module _ (vars : ℕ) (k : Kept) (table : List ℕ) (lent : Lent) (n : ℕ) (wat
             let d = rw (copied-whole table (lent .listTable) (p .list-copy), words-are, records-are, same-watchdog watchdog) at (ran .list-done) in
             rw (← (list-call vars k table n (p .ladder) (p .legal) (p .rungs) w chosen-legal)) d
 
-        list-halt : (haltOf (listEnd (ran .list) .ended) ≡ scanList list w (stateOf vars table) .halt) × (listCountsIn (listEnd (ran .list) .counts) ≡ scanList list w (stateOf vars table) .counts)
+        list-halt : (haltOf (listEnd (ran .list) .ended) ≡ scanList list w (stateOf vars table) .halt) × (listCountsIn (listEnd (ran .list) .counts) ≡ listCountsOf (scanList list w (stateOf vars table)))
         unfolding listEnds
         list-halt = list-told (ran .list) _ _ (list-is .answer)
 

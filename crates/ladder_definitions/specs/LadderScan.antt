@@ -15,9 +15,12 @@ use Rattle.ladder_definitions.specs.declared.Counts.{Counts as CountsStr
 use Rattle.ladder_definitions.specs.declared.LadderScanned.{LadderScanned}
 use Rattle.ladder_definitions.specs.declared.LadderScanned.the-variants.{Ended as EndedCase, Stopped as StoppedCase, Refused as RefusedCase}
 
--- the counts of a ladder scan: the rungs entered
+-- the counts that Ladder scan answers: the rungs entered
 pub record LadderCounts : Type 0 where
   pub rungs : ℕ
+
+abbrev pub countsOf : LadderResult → LadderCounts
+countsOf x = record { rungs = x .rungs }
 
 -- Ended or Stopped with its counts, or the refusal
 pub data LadderScanAnswer : Type 0 where
@@ -29,7 +32,7 @@ pub record LadderScanCall : Type 0 where
   pub table : List ℕ
 
 unfoldable pub scanEnds : LadderResult → LadderScanCall
-scanEnds x = record { answer = scanned (x .halt) (record { rungs = x .rungs }); table = x .state .bytes }
+scanEnds x = record { answer = scanned (x .halt) (countsOf x); table = x .state .bytes }
 
 -- question 1, questions 4 to 9, then 11 and 12, in order
 unfoldable pub scanQuestions : ℕ → Kept → List ℕ → ℕ → Answer

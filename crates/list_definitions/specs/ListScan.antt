@@ -10,15 +10,23 @@ use Rattle.table.specs.Halt.{Halt, Ended, Stopped}
 use Rattle.table.specs.Questions.{question11}
 use Rattle.rungs.specs.Records.{RungRecord}
 use Rattle.list_definitions.specs.Instruction.{codeOf}
-use Rattle.list_definitions.specs.Machine.{InstructionList, Counts, ListResult, scanList}
+use Rattle.list_definitions.specs.Machine.{InstructionList, ListResult, scanList}
 use Rattle.list_definitions.specs.Questions.{question10}
 use Rattle.list_definitions.specs.declared.Counts.{Counts as CountsStruct}
 use Rattle.list_definitions.specs.declared.ListScanned.{ListScanned}
 use Rattle.list_definitions.specs.declared.ListScanned.the-variants.{Ended as EndedCase, Stopped as StoppedCase, Refused as RefusedCase}
 
+-- the counts that List scan answers: the instructions carried out and the rungs entered
+pub record ListCounts : Type 0 where
+  pub instructions : ℕ
+  pub rungs : ℕ
+
+abbrev pub countsOf : ListResult → ListCounts
+countsOf x = record { instructions = x .counts .instructions; rungs = x .counts .rungs }
+
 -- Ended or Stopped with its counts, or the refusal
 pub data ListScanAnswer : Type 0 where
-  scanned : Halt → Counts → ListScanAnswer
+  scanned : Halt → ListCounts → ListScanAnswer
   refused : Refusal → ListScanAnswer
 
 pub record ListScanCall : Type 0 where
@@ -30,7 +38,7 @@ unfoldable pub listOf : List ℕ → List RungRecord → InstructionList
 listOf words rs = record { code = codeOf words; records = rs }
 
 unfoldable pub scanEnds : ListResult → ListScanCall
-scanEnds x = record { answer = scanned (x .halt) (x .counts); table = x .state .bytes }
+scanEnds x = record { answer = scanned (x .halt) (countsOf x); table = x .state .bytes }
 
 -- questions 1, 10, 11 and 12 in order
 unfoldable pub scanQuestions : ℕ → List ℕ → List RungRecord → List ℕ → ℕ → Answer
@@ -45,7 +53,7 @@ callListScan vars words rs table watchdog = elim (scanQuestions vars words rs ta
 ]
 
 -- the counts in the struct Counts
-unfoldable pub countsIn : CountsStruct → Counts
+unfoldable pub countsIn : CountsStruct → ListCounts
 countsIn c = record { instructions = c .instructions; rungs = c .rungs }
 
 -- document 01's values for each case of the enum ListScanned

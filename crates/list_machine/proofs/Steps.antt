@@ -13,8 +13,7 @@ use Rattle.rungs.specs.Words.{numberOf, operandOf}
 use Rattle.rungs.specs.Laws.Numbers.{noneTo, past-all}
 use Rattle.list_definitions.specs.Instruction.{Instr, NOT, noOp, onlyNot, ops, decodeInstr}
 use Rattle.list_definitions.specs.Machine.{does, count, step}
-use Rattle.list_definitions.specs.ListScan.{countsIn}
-use Rattle.list_machine.specs.Parts.{Did, machineOf, Stepped}
+use Rattle.list_machine.specs.Parts.{Did, machineCounts, machineOf, Stepped}
 use Rattle.list_machine.specs.declared.Machine.{Machine as MachineStruct}
 use Rattle.list_machine.specs.declared.Effect.{Effect}
 
@@ -62,7 +61,7 @@ arm-not {w} e f = record { same = λ i d s pc q. rw (is-not i (operandOf w) (rw 
 -- the machine after an instruction, with its counts
 pub stepped : (w entered : ℕ) (m : MachineStruct) (t : List ℕ) (effect : Effect) (u : List ℕ) → Did w (m .accumulator) (m .index + 1) t effect u
     → Stepped w entered m t (record { accumulator = effect .accumulator; index = effect .index; counts = record { instructions = m .counts .instructions + 1; rungs = m .counts .rungs + entered } }) u
-unfolding step count machineOf countsIn
+unfolding step count machineOf machineCounts
 stepped w entered m t effect u d = record {
   same = λ i e rs starts s. rw (d .same i e s (m .index) refl, ← starts);
   carried = refl;

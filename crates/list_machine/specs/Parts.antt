@@ -10,8 +10,9 @@ use Rattle.questions.specs.Tests.{bit}
 use Rattle.table.specs.State.{State, withBytes}
 use Rattle.rungs.specs.Records.{RungRecord, offsets, isStart}
 use Rattle.list_definitions.specs.Instruction.{Instr, decodeInstr, decodeCode}
-use Rattle.list_definitions.specs.Machine.{InstructionList, Machine, does, step, scanList}
-use Rattle.list_definitions.specs.ListScan.{countsIn, scanEnds, ListScanDone}
+use Rattle.list_definitions.specs.Machine.{InstructionList, Counts, Machine, does, step, scanList}
+use Rattle.list_definitions.specs.ListScan.{scanEnds, ListScanDone}
+use Rattle.list_definitions.specs.declared.Counts.{Counts as CountsStruct}
 use Rattle.list_definitions.specs.declared.ListScanned.{ListScanned}
 use Rattle.list_machine.specs.declared.Machine.{Machine as MachineStruct}
 use Rattle.list_definitions.specs.declared.ListScanned.the-variants.{Ended as EndedCase, Stopped as StoppedCase}
@@ -23,8 +24,12 @@ pub record Did (word : ℕ) (v : Bool) (following : ℕ) (t : List ℕ) (r : Eff
   pub same : (i : Instr) → decodeInstr word ≡ some i → (s : State) (pc : ℕ) → following ≡ pc + 1
       → does i v (withBytes s t) pc ≡ record { accumulator = r .accumulator; state = withBytes s u; index = r .index }
 
+-- "both counts" of a machine
+unfoldable pub machineCounts : CountsStruct → Counts
+machineCounts c = record { instructions = c .instructions; rungs = c .rungs }
+
 unfoldable pub machineOf : MachineStruct → Machine
-machineOf m = record { accumulator = m .accumulator; index = m .index; counts = countsIn (m .counts) }
+machineOf m = record { accumulator = m .accumulator; index = m .index; counts = machineCounts (m .counts) }
 
 pub record Stepped (word entered : ℕ) (m : MachineStruct) (t : List ℕ) (r : MachineStruct) (u : List ℕ) : Type 0 where
   pub same : (i : Instr) → decodeInstr word ≡ some i → (rs : List RungRecord) → entered ≡ bit (isStart rs (m .index)) → (s : State)

@@ -17,9 +17,9 @@ use Rattle.rungs.specs.Records.{longest}
 use Rattle.ladder_definitions.specs.Kept.{Kept}
 use Rattle.ladder_definitions.specs.Meaning.{scanLadder}
 use Rattle.ladder_definitions.specs.Questions.{ladderOf, ladderQuestions}
-use Rattle.ladder_definitions.specs.LadderScan.{LadderCounts, countsIn as ladderCountsIn}
-use Rattle.list_definitions.specs.Machine.{Counts as ListCounts, scanList}
-use Rattle.list_definitions.specs.ListScan.{countsIn as listCountsIn}
+use Rattle.ladder_definitions.specs.LadderScan.{LadderCounts, countsOf as ladderCountsOf, countsIn as ladderCountsIn}
+use Rattle.list_definitions.specs.Machine.{scanList}
+use Rattle.list_definitions.specs.ListScan.{ListCounts, countsOf as listCountsOf, countsIn as listCountsIn}
 use Rattle.translation_definitions.specs.Translate.{translate}
 use Rattle.translation_definitions.specs.TranslateKept.{Counts, countsOf, countsIn, listBuffers}
 use Rattle.translation_definitions.specs.declared.BothEnds.{BothEnds as EndsStruct}
@@ -79,7 +79,7 @@ bothScans vars k table lent n w =
     elim (firstNo (bothQuestions vars k table lent n w)) [
       | some refusal ↦ record { answer = refused refusal; lent = lent }
       | none ↦ record {
-        answer = both (record { counts = countsOf list; ladderHalt = x .halt; ladder = record { rungs = x .rungs }; listHalt = y .halt; list = y .counts });
+        answer = both (record { counts = countsOf list; ladderHalt = x .halt; ladder = ladderCountsOf x; listHalt = y .halt; list = listCountsOf y });
         lent = lends (x .state .bytes) (y .state .bytes) (writtenOver (listBuffers list) (lent .buffers));
       }
     ]

@@ -6,13 +6,12 @@ use Rattle.questions.specs.Questions.{yes, question12, mostInstructionWatchdog}
 use Rattle.table.specs.State.{State, SameButScratch}
 use Rattle.table.specs.Halt.{Ended, Stopped}
 use Rattle.ladder_definitions.specs.LadderScan.{LadderCounts, LadderScanAnswer, scanned as ladderScanned}
-use Rattle.list_definitions.specs.Machine.{Counts}
-use Rattle.list_definitions.specs.ListScan.{ListScanAnswer, scanned as listScanned}
+use Rattle.list_definitions.specs.ListScan.{ListCounts, ListScanAnswer, scanned as listScanned}
 
 -- "the list scan answers Ended too": "Then the V variables are equal in the two copies, byte for byte, the list scan's rungs entered are the same k, and its
 -- instructions carried out are at least 2 × k and at most k × L"
 pub record EndedAlike (least longest k : ℕ) (s : State) (list : ListScanAnswer) (t : State) : Type 0 where
-  pub counts : Counts
+  pub counts : ListCounts
   pub ended : list ≡ listScanned Ended counts
   pub same : SameButScratch s t
   pub rungs : counts .rungs ≡ k
@@ -21,7 +20,7 @@ pub record EndedAlike (least longest k : ℕ) (s : State) (list : ListScanAnswer
 
 -- "the list scan answers Stopped"
 pub record StoppedAlike (list : ListScanAnswer) : Type 0 where
-  pub counts : Counts
+  pub counts : ListCounts
   pub stopped : list ≡ listScanned Stopped counts
 
 -- Both halves, over the answers of a ladder scan under the rung watchdog n and of a list scan under the instruction watchdog w.

@@ -17,7 +17,7 @@ use Rattle.rungs.specs.Records.{RungRecord, offsets, isStart}
 use Rattle.list_definitions.specs.Instruction.{Instr, instrWord, instrFits, decodeInstr, decodeCode}
 use Rattle.list_definitions.specs.Machine.{InstructionList, fresh, begin, halted, scanMachine, scanList}
 use Rattle.list_definitions.specs.ListScan.{countsIn, scanEnds, listScannedAnswer}
-use Rattle.list_machine.specs.Parts.{machineOf, Stepped, startsHere, ascending, before, Sought, Followed, firstMachine, runsOn, haltedAt, Ran}
+use Rattle.list_machine.specs.Parts.{machineCounts, machineOf, Stepped, startsHere, ascending, before, Sought, Followed, firstMachine, runsOn, haltedAt, Ran}
 use Rattle.list_definitions.specs.Laws.Decoding.{decode-instr, code-decoded}
 use Rattle.list_definitions.specs.Laws.Watchdog.{scan-end, scan-stop, scan-step}
 use Rattle.list_definitions.specs.declared.ListScanned.the-variants.{Ended as EndedCase, Stopped as StoppedCase}
@@ -94,7 +94,7 @@ pub record Running (ws os t : List ℕ) (w : ℕ) (u : List ℕ) (m : MachineStr
 
 pub running-first : (ws os t : List ℕ) (w : ℕ)
     → Running ws os t w t firstMachine 0
-unfolding scanList begin fresh machineOf countsIn firstMachine
+unfolding scanList begin fresh machineOf machineCounts firstMachine
 running-first ws os t w = record {
   same = λ l d o a s. rw sub-zero refl;
   next-is = λ a. sym (before-zero os);
@@ -106,7 +106,7 @@ running-first ws os t w = record {
 
 module _ (ws os t : List ℕ) (w : ℕ) (u : List ℕ) (m : MachineStruct) (next : ℕ) (r : Running ws os t w u m next) where
   pub ran-ended : length ws ≤ m .index → Ran ws os t w (EndedCase (m .counts)) u
-  unfolding halted scanEnds listScannedAnswer machineOf
+  unfolding halted scanEnds countsIn listScannedAnswer machineCounts machineOf
   ran-ended h = record {
     same = λ l d o a s.
         let e = sym (scan-end l (w - m .counts .instructions) (machineOf m) (withBytes s u) (at-end ws (l .code) d (m .index) h)) ∙ r .same l d o a s in
@@ -114,7 +114,7 @@ module _ (ws os t : List ℕ) (w : ℕ) (u : List ℕ) (m : MachineStruct) (next
   }
 
   pub ran-stopped : m .index < length ws → m .counts .instructions ≡ w → Ran ws os t w (StoppedCase (m .counts)) u
-  unfolding halted scanEnds listScannedAnswer machineOf
+  unfolding halted scanEnds countsIn listScannedAnswer machineCounts machineOf
   ran-stopped h z = record {
     same = λ l d o a s.
         let k = word-at ws (l .code) d (m .index) h in

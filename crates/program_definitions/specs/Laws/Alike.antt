@@ -14,8 +14,7 @@ use Rattle.table.specs.State.{variables}
 use Rattle.ladder_definitions.specs.Kept.{Kept}
 use Rattle.ladder_definitions.specs.Questions.{mostRungs, mostWords}
 use Rattle.text_definitions.specs.Read.{ReadAnswer, readText, kept, refused as readRefused}
-use Rattle.list_definitions.specs.ListScan.{ListScanAnswer, scanned as listScanned}
-use Rattle.list_definitions.specs.Machine.{Counts as ListCounts}
+use Rattle.list_definitions.specs.ListScan.{ListCounts, ListScanAnswer, scanned as listScanned}
 use Rattle.translation_definitions.specs.BothScans.{BothEnds, BothAnswer, both, pairedScans, refused as scansRefused}
 use Rattle.translation_definitions.specs.BothAgree.{PairedAgree}
 use Rattle.translation_definitions.specs.Laws.Boths.{both-given}

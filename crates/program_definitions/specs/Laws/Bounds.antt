@@ -37,7 +37,7 @@ use Rattle.translation_definitions.specs.BothScans.{BothEnds, BothAnswer, BothC
 use Rattle.translation_definitions.specs.BothAgree.{BothGiven}
 use Rattle.translation_definitions.specs.Laws.Answers.{all-yes, counts-are, written-room}
 use Rattle.translation_definitions.specs.Laws.Calls.{few-rungs}
-use Rattle.translation_definitions.specs.Laws.Many.{LegalTable}
+use Rattle.table.specs.Laws.Legal.{LegalTable}
 use Rattle.translation_definitions.specs.Laws.Legal.{watchdog-in-range as most-in-range}
 use Rattle.translation_definitions.specs.Laws.Boths.{both-ends, both-left, both-given, asked-yes, both-scanned, paired-legal}
 use Rattle.program_definitions.specs.Refusals.{refusalLine}

@@ -14,7 +14,8 @@ use Rattle.ladder_definitions.specs.Meaning.{workInput, workFront, Run, onward,
 use Rattle.list_definitions.specs.Instruction.{Instr}
 use Rattle.list_definitions.specs.Machine.{InstructionList, Machine, Counts, count, step, halted, fresh, begin, scanMachine, scanList}
 use Rattle.list_definitions.specs.Laws.Watchdog.{scan-end, scan-stop, scan-step}
-use Rattle.translation_definitions.specs.Laws.Many.{LegalTable, written-legal, write-if-legal, machine-legal}
+use Rattle.table.specs.Laws.Legal.{LegalTable, written-legal, write-if-legal}
+use Rattle.translation_definitions.specs.Laws.Many.{machine-legal}
 
 -- ---- a ladder scan leaves a legal table legal
 

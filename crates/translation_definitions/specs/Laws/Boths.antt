@@ -16,10 +16,10 @@ use Rattle.rungs.specs.Buffers.{needs, writtenOver}
 use Rattle.ladder_definitions.specs.Kept.{Kept}
 use Rattle.ladder_definitions.specs.Meaning.{LadderResult, scanLadder}
 use Rattle.ladder_definitions.specs.Questions.{ladderOf, ladderAnswer}
-use Rattle.ladder_definitions.specs.LadderScan.{LadderCounts, scanned as ladderScanned, scanEnds as ladderEnds}
+use Rattle.ladder_definitions.specs.LadderScan.{LadderCounts, countsOf as ladderCountsOf, scanned as ladderScanned, scanEnds as ladderEnds}
 use Rattle.ladder_definitions.specs.Laws.Accepting.{accepted, ladder-first}
 use Rattle.list_definitions.specs.Machine.{scanList}
-use Rattle.list_definitions.specs.ListScan.{scanEnds as listEnds}
+use Rattle.list_definitions.specs.ListScan.{countsOf as listCountsOf, scanEnds as listEnds}
 use Rattle.translation_definitions.specs.Translate.{translate}
 use Rattle.translation_definitions.specs.TranslateKept.{countsOf, listBuffers}
 use Rattle.translation_definitions.specs.Calls.{CallsAlike}
@@ -56,9 +56,9 @@ module _ (vars : ℕ) (kept : Kept) (table : List ℕ) (lent : Lent) (n : ℕ) w
       record {
         counts = countsOf (translate vars (ladderOf kept));
         ladderHalt = x .halt;
-        ladder = record { rungs = x .rungs };
+        ladder = ladderCountsOf x;
         listHalt = y .halt;
-        list = y .counts;
+        list = listCountsOf y;
       }
 
   unfoldable pub both-left : ℕ → Lent
@@ -175,7 +175,7 @@ module _ (vars : ℕ) (kept : Kept) (table : List ℕ) (lent : Lent) (n : ℕ) (
   paired-alike =
       let h = paired-legal vars kept table n (given .given .accepted) (given .given .watchdog) in
       let a = both-alike (pairedWatchdog vars kept table n) h in
-      let c : LadderCounts = record { rungs = scanLadder (ladderOf kept) n (stateOf vars table) .rungs } in
+      let c : LadderCounts = ladderCountsOf (scanLadder (ladderOf kept) n (stateOf vars table)) in
       record {
         ran = a .ran;
         ended = λ e. a .alike .ended c (ap (λ g. ladderScanned g c) e) h (rw e (omega arith));

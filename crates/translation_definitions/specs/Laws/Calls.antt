@@ -19,7 +19,7 @@ use Rattle.ladder_definitions.specs.Tree.{Ladder}
 use Rattle.ladder_definitions.specs.Meaning.{LadderResult, scanLadder}
 use Rattle.ladder_definitions.specs.Kept.{Kept}
 use Rattle.ladder_definitions.specs.Questions.{ladderOf, ladderAnswer, Accepted}
-use Rattle.ladder_definitions.specs.LadderScan.{LadderCounts, callLadderScan, scanned as ladderScanned, scanEnds as ladderEnds, scanQuestions as ladderScanQuestions}
+use Rattle.ladder_definitions.specs.LadderScan.{LadderCounts, countsOf as ladderCountsOf, callLadderScan, scanned as ladderScanned, scanEnds as ladderEnds, scanQuestions as ladderScanQuestions}
 use Rattle.ladder_definitions.specs.Laws.Accepting.{accepted, ladder-first}
 use Rattle.ladder_definitions.specs.Laws.Scratch.{scan-stays}
 use Rattle.ladder_definitions.specs.Laws.Watchdog.{stopped-stands, ended-stands}
@@ -156,9 +156,9 @@ module _ (vars : ℕ) (kept : Kept) (table : List ℕ) (n : ℕ)
   answered : (h : Halt) (c : LadderCounts) → callLadderScan vars kept table n .answer ≡ ladderScanned h c → (scanLadder gs n s .halt ≡ h) × (scanLadder gs n s .rungs ≡ c .rungs)
   unfolding ladderEnds
   answered h c e =
-      let z : ladderScanned (scanLadder gs n s .halt) (record { rungs = scanLadder gs n s .rungs }) ≡ ladderScanned h c = sym (ap (λ c. c .answer) ladder-call) ∙ e in
+      let z : ladderScanned (scanLadder gs n s .halt) (ladderCountsOf (scanLadder gs n s)) ≡ ladderScanned h c = sym (ap (λ c. c .answer) ladder-call) ∙ e in
       let halt : scanLadder gs n s .halt ≡ h = cc in
-      let counts : record { rungs = scanLadder gs n s .rungs } ≡ c = cc in
+      let counts : ladderCountsOf (scanLadder gs n s) ≡ c = cc in
       (halt, ap (λ (d : LadderCounts). d .rungs) counts)
 
   ended-calls : (w : ℕ) (c : LadderCounts) → callLadderScan vars kept table n .answer ≡ ladderScanned Ended c → question12 mostInstructionWatchdog w ≡ none → c .rungs * most ≤ w
@@ -182,7 +182,7 @@ module _ (vars : ℕ) (kept : Kept) (table : List ℕ) (n : ℕ)
       record {
         list-accepted = rw (taken .range, list-in-range vars gs taken);
         halt = scanLadder gs n s .halt;
-        counts = record { rungs = scanLadder gs n s .rungs };
+        counts = ladderCountsOf (scanLadder gs n s);
         scanned = ap (λ c. c .answer) ladder-call;
         ended-watchdog = most-in-range vars gs taken (scanLadder gs n s .rungs) (omega arith);
         stopped-watchdog = in-range-watchdog mostInstructionWatchdog (2 * n) (omega arith);

@@ -6,17 +6,15 @@ use mathlib.Core.Path.{_≡_, refl, sym, ap, _∙_}
 use mathlib.Core.Bool.{Bool, true, false}
 use mathlib.Core.Option.{Option, none, some}
 use mathlib.Core.List.{List, [], _∷_, map}
-use lib.Dec.{T, eqb}
-use lib.ListN.{length, set, take, getElem?, length-set}
-use mir.Facts.{and-yes, yes-and}
-use Rattle.questions.specs.Tests.{all, bit}
+use lib.ListN.{set, take, getElem?}
+use Rattle.questions.specs.Tests.{bit}
 use Rattle.questions.specs.Questions.{Answer, firstNo, question1, question12, mostRungWatchdog, mostInstructionWatchdog}
-use Rattle.questions.specs.Laws.Tests.{all-head, all-tail, all-cons}
-use Rattle.questions.specs.Laws.Answers.{ask-passed, passed-ask, first-yes, later-yes}
-use Rattle.table.specs.State.{State, stateOf, tableSize, variables, writtenAt, write, writeIf, SameButScratch}
+use Rattle.questions.specs.Laws.Answers.{first-yes, later-yes}
+use Rattle.table.specs.State.{State, stateOf, variables, writtenAt, write, SameButScratch}
 use Rattle.table.specs.Halt.{Halt, Ended}
 use Rattle.table.specs.Laws.Alike.{same-both}
-use Rattle.table.specs.Questions.{isBit, tableInRange, question11}
+use Rattle.table.specs.Laws.Legal.{LegalTable, written-legal, write-if-legal}
+use Rattle.table.specs.Questions.{question11}
 use Rattle.rungs.specs.Records.{RungRecord}
 use Rattle.ladder_definitions.specs.Meaning.{scanLadder}
 use Rattle.ladder_definitions.specs.Kept.{Kept}
@@ -34,45 +32,20 @@ use Rattle.translation_definitions.specs.Calls.{CallsAlike, ScansAgree}
 use Rattle.translation_definitions.specs.ManyScans.{InputValue, inputPhase, Scan, listFor, longestFor, ladderWith, listWith, LadderEnds, LaddersEnd, ManyGiven, BothEnd, ManyAgree}
 use Rattle.translation_definitions.specs.Laws.Lists.{below-all}
 
--- ---- a write leaves a legal table legal
-
--- a table that question 11 takes
-abbrev pub LegalTable : ℕ → List ℕ → Type 0
-LegalTable vars table = question11 (stateOf vars table) ≡ none
-
-bit-fits : (b : Bool) → T (isBit (bit b))
-bit-fits true = tt
-bit-fits false = tt
-
-bits-written : (table : List ℕ) (i : ℕ) (b : Bool) → T (all isBit table) → T (all isBit (set table i (bit b)))
-bits-written [] i b h = h
-bits-written (x ∷ xs) zero b h = all-cons isBit (bit b) xs (bit-fits b) (all-tail isBit x xs h)
-bits-written (x ∷ xs) (suc i) b h = all-cons isBit x (set xs i (bit b)) (all-head isBit x xs h) (bits-written xs i b (all-tail isBit x xs h))
+-- ---- a list scan leaves a legal table legal
 
 module _ (vars : ℕ) where
-  pub written-legal : (table : List ℕ) (i : ℕ) (b : Bool) → LegalTable vars table → LegalTable vars (writtenAt table i b)
-  unfolding question11 tableInRange writtenAt
-  written-legal table i b h =
-      let p = and-yes (eqb (length table) (tableSize vars)) (all isBit table) (ask-passed 11 _ h) in
-      passed-ask 11 _ (yes-and (eqb (length (set table i (bit b))) (tableSize vars)) (all isBit (set table i (bit b)))
-      (rw (length-set table i (bit b)) (p .0)) (bits-written table i b (p .1)))
-
-  pub write-if-legal : (q : Bool) (s : State) (i : ℕ) (b : Bool) → LegalTable vars (s .bytes) → LegalTable vars (writeIf q s i b .bytes)
-  unfolding writeIf write
-  write-if-legal true s i b h = written-legal (s .bytes) i b h
-  write-if-legal false s i b h = h
-
   input-legal : (inputs : List InputValue) (table : List ℕ) → LegalTable vars table → LegalTable vars (inputPhase inputs table)
   unfolding inputPhase
   input-legal [] table h = h
-  input-legal (x ∷ later) table h = input-legal later (writtenAt table (x .variable) (x .value)) (written-legal table (x .variable) (x .value) h)
+  input-legal (x ∷ later) table h = input-legal later (writtenAt table (x .variable) (x .value)) (written-legal vars table (x .variable) (x .value) h)
 
   does-legal : (i : Instr) (v : Bool) (e : State) (pc : ℕ) → LegalTable vars (e .bytes) → LegalTable vars (does i v e pc .state .bytes)
   unfolding does write
   does-legal (LD x) v e pc h = h
   does-legal (LDN x) v e pc h = h
-  does-legal (ST x) v e pc h = written-legal (e .bytes) x v h
-  does-legal (STN x) v e pc h = written-legal (e .bytes) x _ h
+  does-legal (ST x) v e pc h = written-legal vars (e .bytes) x v h
+  does-legal (STN x) v e pc h = written-legal vars (e .bytes) x _ h
   does-legal (AND x) v e pc h = h
   does-legal (ANDN x) v e pc h = h
   does-legal (OR x) v e pc h = h
@@ -83,8 +56,8 @@ module _ (vars : ℕ) where
   does-legal (JMP j) v e pc h = h
   does-legal (JMPC j) v e pc h = h
   does-legal (JMPCN j) v e pc h = h
-  does-legal (S x) v e pc h = write-if-legal v e x true h
-  does-legal (R x) v e pc h = write-if-legal v e x false h
+  does-legal (S x) v e pc h = write-if-legal vars v e x true h
+  does-legal (R x) v e pc h = write-if-legal vars v e x false h
 
   pub machine-legal : (l : InstructionList) (n : ℕ) (m : Machine) (t : State) → LegalTable vars (t .bytes) → LegalTable vars (scanMachine l n m t .state .bytes)
   unfolding halted step

@@ -17,7 +17,7 @@ use Rattle.ladder_definitions.specs.Meaning.{Run, left, runRung, follow, Ladder
 use Rattle.list_definitions.specs.Instruction.{Instr}
 use Rattle.list_definitions.specs.Machine.{InstructionList, Counts, Machine, fresh, begin, halted, scanMachine, scanList}
 use Rattle.list_definitions.specs.Laws.Watchdog.{scan-end, scan-stop, stops-sooner}
-use Rattle.list_definitions.specs.ListScan.{scanEnds, scanned as listScanned}
+use Rattle.list_definitions.specs.ListScan.{countsOf, scanEnds, scanned as listScanned}
 use Rattle.translation_definitions.specs.Demand3.{EndedAlike, StoppedAlike}
 use Rattle.translation_definitions.specs.Agreement.{Agreement}
 use Rattle.translation_definitions.specs.Laws.Exec.{Out, exec, machine, drop-head, drop-none, same-machine, counted, counted-instructions, counted-rungs, landing, resumes, exec-run}
@@ -171,7 +171,7 @@ module _ (Alike : State → State → Type 0) (equal : (s t : State) → Alike s
         let q : scanMachine (listOf code gs) w (begin (listOf code gs)) s ≡ halted Ended last (both .state) =
         ap (λ i. scanMachine (listOf code gs) i (begin (listOf code gs)) s) fuel ∙ both .runs (w - N) ∙ ends in
         record {
-          counts = both .counts;
+          counts = countsOf (halted Ended last (both .state));
           ended = ap (λ x. scanEnds x .answer) q;
           same = rw q (equal _ _ (both .alike));
           rungs = omega arith;
@@ -193,7 +193,7 @@ module _ (Alike : State → State → Type 0) (equal : (s t : State) → Alike s
         let fuel : w + (N - w) ≡ N + 0 = omega arith in
         let q = ap (λ i. scanMachine (listOf code gs) i (begin (listOf code gs)) s) fuel ∙ both .runs 0 ∙ stops in
         let halt = stops-sooner (listOf code gs) w (N - w) (begin (listOf code gs)) s (ap (λ x. x .halt) q) in
-        record { counts = scanList (listOf code gs) w s .counts; stopped = ap (λ h. listScanned h (scanList (listOf code gs) w s .counts)) halt }
+        record { counts = countsOf (scanList (listOf code gs) w s); stopped = ap (λ h. listScanned h (countsOf (scanList (listOf code gs) w s))) halt }
 
     pub agrees : Agreement least gs (listOf code gs) s n
     agrees = record { ended = ended-alike; stopped = stopped-alike }
