@@ -1,14 +1,17 @@
 -- The bench ladders A to F of document 01, "Bench ladders", as trees, a few more, and their ladder scans. The crate bench_table has both scans of all rows.
 -- A to D say no watchdog; theirs is the number of rungs that they enter, so that a watchdog asked before the end would show. Assumes nothing.
 use mathlib.Core.Path.{_≡_, refl}
+use mathlib.Core.Bool.{true, false}
 use mathlib.Core.List.{List, [], _∷_, _++_, map}
 use Prim.Native.Nat.{ℕ}
 use lib.ListN.{replicate, length}
 use Rattle.table.specs.State.{State, stateOf, scratchBytes, variables, valueAt, value, writtenAt, write, writeIf}
 use Rattle.table.specs.Halt.{Halt, Ended, Stopped}
+use Rattle.table.specs.Writes.{Write, wrote, wroteIf}
 use Rattle.rungs.specs.Records.{search}
 use Rattle.ladder_definitions.specs.Tree.{contact, contactn, Front, input, frontAnd, frontOr, coil, coiln, jump, jumpn, setCoil, resetCoil, Rear, output, rearAnd, rearOr, Rung, Ladder}
 use Rattle.ladder_definitions.specs.Meaning.{scanLadder, scanFrom, runRung, runRear, runOutput, workFront, workInput, jumpIf, unlessJumped, from, follow, left}
+use Rattle.ladder_definitions.specs.Writes.{outputWrites, unlessJumpedWrites, rearWrites, rungWrites, writesFrom, ladderWrites}
 
 -- a rung and its parts, by the letters of document 01, "Text"
 abbrev pub rung : ℕ → Front → Rear → Rung
@@ -142,3 +145,22 @@ rows = rowA ∷ rowB ∷ rowC ∷ rowD ∷ rowE ∷ rowF ∷ further ++ latches
 ladders-scanned : map ladderOutcome rows ≡ map expected rows
 unfolding rows further latches start ladderOutcome expected scanLadder scanFrom runRung runRear runOutput workFront workInput jumpIf unlessJumped search from follow left valueAt value writtenAt write writeIf variables
 ladders-scanned = refl
+
+-- a ladder's writes in the order in which they are made
+written : Row → List Write
+written r = ladderWrites (r .ladder) (r .watchdog) (start r)
+
+-- A; B, where the jump taken skips o1; C; and the latches, of which the second writes nothing and the fifth, stopped, only what it came to
+writes-in-order : map written (rowA ∷ rowB ∷ rowC ∷ latches)
+    ≡ (wrote 1 true ∷ wrote 4 true ∷ [])
+    ∷ (wrote 2 true ∷ [])
+    ∷ (wrote 1 true ∷ wrote 2 true ∷ [])
+    ∷ (wrote 2 true ∷ [])
+    ∷ []
+    ∷ (wrote 2 true ∷ wrote 2 false ∷ [])
+    ∷ (wrote 2 false ∷ [])
+    ∷ (wrote 2 true ∷ [])
+    ∷ (wrote 3 false ∷ [])
+    ∷ []
+unfolding latches written start ladderWrites writesFrom rungWrites rearWrites outputWrites unlessJumpedWrites wroteIf runRung runRear runOutput workFront workInput jumpIf unlessJumped search from follow left valueAt value writtenAt write writeIf
+writes-in-order = refl

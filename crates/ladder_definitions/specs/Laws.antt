@@ -6,3 +6,4 @@ pub mod Accepting
 pub mod Held
 pub mod Trees
 pub mod Calls
+pub mod Writes

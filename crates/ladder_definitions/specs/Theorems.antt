@@ -1,27 +1,32 @@
 -- What is proved of the definitions of this crate, a theorem to a sentence; the proofs are in Laws. Assumes nothing.
-use Prim.Native.Nat.{ℕ, _≤_}
-use mathlib.Core.Path.{_≡_, refl, _∙_}
+use Prim.Native.Nat.{ℕ, _*_, _≤_}
+use mathlib.Core.Path.{_≡_, refl, ap, _∙_}
 use mathlib.Core.Logic.{_↔_}
 use mathlib.Core.Option.{some}
 use mathlib.Core.List.{List, [], _∷_}
 use lib.Dec.{T}
+use lib.ListN.{length}
 use Rattle.questions.specs.Tests.{all}
 use Rattle.questions.specs.Questions.{yes}
 use Rattle.questions.specs.Laws.Answers.{each-passed}
 use Rattle.table.specs.State.{State, stateOf, beyondVariables, SameButScratch}
 use Rattle.table.specs.Halt.{Ended, Stopped}
 use Rattle.table.specs.Questions.{question11, Legal}
+use Rattle.table.specs.Writes.{replay}
 use Rattle.table.specs.Laws.Alike.{alike-legal, alike-same}
+use Rattle.table.specs.Laws.Replaying.{makes-bytes}
 use Rattle.ladder_definitions.specs.Tree.{Input, contact, contactn, Output, coil, coiln, jump, jumpn, setCoil, resetCoil, Rung, Ladder, rungAll, outputNames}
 use Rattle.ladder_definitions.specs.Meaning.{LadderResult, scanLadder}
+use Rattle.ladder_definitions.specs.Writes.{ladderWrites, mostRungWrites}
 use Rattle.ladder_definitions.specs.Standing.{Stands}
 use Rattle.ladder_definitions.specs.Kept.{Kept, encode, decode, inputFits, outputFits, inputKind, outputKind, contactSort, outputSort, kindSorts, kindSort, variableName, nameSorts, nameSort, namedSort}
-use Rattle.ladder_definitions.specs.Questions.{question6, rungBelow, ladderOf, ladderAnswer, Accepted}
+use Rattle.ladder_definitions.specs.Questions.{question5, question6, rungBelow, ladderOf, ladderAnswer, Accepted}
 use Rattle.ladder_definitions.specs.LadderScan.{LadderScanCall, callLadderScan}
 use Rattle.ladder_definitions.specs.Laws.Watchdog.{stopped-stands, stands-stopped, ended-stands, stands-ended}
 use Rattle.ladder_definitions.specs.Laws.Scratch.{scan-alike, scan-stays}
 use Rattle.ladder_definitions.specs.Laws.Calls.{call-alike, call-stays}
-use Rattle.ladder_definitions.specs.Laws.Accepting.{decode-encode, encode-decode, ladder-is, accepted, accepting}
+use Rattle.ladder_definitions.specs.Laws.Accepting.{decode-encode, encode-decode, ladder-is, sized, accepted, accepting}
+use Rattle.ladder_definitions.specs.Laws.Writes.{ladder-makes, ladder-few}
 
 -- words and records are those of a ladder, whose operands all have 16 bits
 pub record IsKept (k : Kept) (gs : Ladder) : Type 0 where
@@ -73,6 +78,14 @@ stopped-exactly gs watchdog s k t = (
 pub ended-exactly : (gs : Ladder) (watchdog : ℕ) (s : State) (k : ℕ) (t : State)
     → (scanLadder gs watchdog s ≡ record { halt = Ended; rungs = k; state = t }) ↔ ((k ≤ watchdog) × Stands gs s k [] t)
 ended-exactly gs watchdog s k t = (ended-stands gs s watchdog k t, (λ h. stands-ended gs s watchdog k t (h .0) (h .1)))
+
+-- A scan, Ended or Stopped, leaves the table with its writes made, first to last.
+pub ladder-replayed : (gs : Ladder) (watchdog : ℕ) (s : State) → scanLadder gs watchdog s .state .bytes ≡ replay (ladderWrites gs watchdog s) (s .bytes)
+ladder-replayed gs watchdog s = ap (λ t. t .bytes) (ladder-makes gs watchdog s) ∙ makes-bytes (ladderWrites gs watchdog s) s
+
+-- Where question 5 gets a "yes" it makes at most 64 writes for each rung entered.
+pub few-writes : (gs : Ladder) (watchdog : ℕ) (s : State) → question5 gs ≡ yes → length (ladderWrites gs watchdog s) ≤ mostRungWrites * scanLadder gs watchdog s .rungs
+few-writes gs watchdog s q5 = ladder-few gs watchdog s (sized gs q5 .words-a-rung)
 
 -- A ladder scan's answer, and all that it leaves but scratch, do not depend on scratch.
 pub record ScansSame (x y : LadderResult) : Type 0 where

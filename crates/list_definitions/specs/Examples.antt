@@ -2,17 +2,19 @@
 use mathlib.Core.Path.{_≡_, refl}
 use mathlib.Core.Option.{some}
 use mathlib.Core.List.{List, [], _∷_, _++_, map, flatMap}
-use mathlib.Core.Bool.{xor}
+use mathlib.Core.Bool.{true, false, xor}
 use Prim.Native.Nat.{ℕ}
 use lib.ListN.{replicate, length}
 use Rattle.questions.specs.Bytes.{bytes, decimal, digits}
 use Rattle.questions.specs.Tests.{all}
 use Rattle.questions.specs.Questions.{Answer, yes, ask, varsInRange, question1, firstNo}
-use Rattle.table.specs.State.{stateOf, scratchBytes, variables, valueAt, value, writtenAt, write, writeIf}
+use Rattle.table.specs.State.{State, stateOf, scratchBytes, variables, valueAt, value, writtenAt, write, writeIf}
 use Rattle.table.specs.Halt.{Halt, Ended, Stopped}
+use Rattle.table.specs.Writes.{Write, wrote, wroteIf}
 use Rattle.rungs.specs.Records.{RungRecord, isStart, laid}
 use Rattle.list_definitions.specs.Instruction.{Instr, LD, LDN, ST, STN, AND, ANDN, OR, ORN, XOR, XORN, NOT, JMP, JMPC, JMPCN, S, R, operand, opOf, operandNumber, instrWord, decodeInstr, ops, onlyNot}
 use Rattle.list_definitions.specs.Machine.{InstructionList, does, count, step, fresh, begin, halted, scanMachine, scanList}
+use Rattle.list_definitions.specs.Writes.{instrWrites, writesFrom, listWrites}
 use Rattle.list_definitions.specs.Listing.{fixedNames, trimmed, nameOf, operandText, instrLine, labelLine, rungLines, listingLines, ended, listingText}
 use Rattle.list_definitions.specs.Questions.{operandInRange, wordInRange, recordsLaid, listInRange, question10, listAnswer}
 
@@ -92,14 +94,37 @@ record Outcome : Type 0 where
 expected : Row → Outcome
 expected r = record { halt = r .halt; instructions = r .instructions; rungs = r .rungs; variables = r .after }
 
+-- scratch is 0
+start : Row → State
+start r = stateOf (length (r .before)) (r .before ++ replicate scratchBytes 0)
+
 outcome : Row → Outcome
 outcome r =
-    let x = scanList (r .list) (r .watchdog) (stateOf (length (r .before)) (r .before ++ replicate scratchBytes 0)) in
+    let x = scanList (r .list) (r .watchdog) (start r) in
     record { halt = x .halt; instructions = x .counts .instructions; rungs = x .counts .rungs; variables = variables (x .state) }
 
 lists-scanned : map outcome rows ≡ map expected rows
-unfolding rows outcome expected scanList scanMachine begin fresh step count does halted isStart valueAt value writtenAt write writeIf variables xor
+unfolding rows start outcome expected scanList scanMachine begin fresh step count does halted isStart valueAt value writtenAt write writeIf variables xor
 lists-scanned = refl
+
+-- a list's writes in the order in which they are made
+written : Row → List Write
+written r = listWrites (r .list) (r .watchdog) (start r)
+
+-- in case A t0 is index 5, and in the last list index 3
+writes-in-order : map written rows
+    ≡ (wrote 5 true ∷ wrote 5 true ∷ wrote 1 true ∷ wrote 4 true ∷ [])
+    ∷ (wrote 5 true ∷ wrote 5 true ∷ wrote 1 true ∷ [])
+    ∷ (wrote 0 true ∷ wrote 1 false ∷ [])
+    ∷ (wrote 1 true ∷ wrote 3 false ∷ wrote 4 false ∷ wrote 5 true ∷ wrote 6 false ∷ [])
+    ∷ (wrote 0 true ∷ [])
+    ∷ []
+    ∷ (wrote 1 true ∷ wrote 2 false ∷ wrote 3 true ∷ wrote 6 true ∷ [])
+    ∷ []
+    ∷ (wrote 3 true ∷ wrote 1 true ∷ wrote 3 false ∷ wrote 2 true ∷ [])
+    ∷ []
+unfolding rows start written listWrites writesFrom instrWrites wroteIf begin fresh step count does isStart valueAt value writtenAt write writeIf xor
+writes-in-order = refl
 
 no-place : Answer
 no-place = some (record { number = 10; place = 0 })

@@ -4,3 +4,4 @@ pub mod InRange
 pub mod Refusing
 pub mod Watchdog
 pub mod Words
+pub mod Writes

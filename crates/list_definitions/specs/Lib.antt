@@ -1,5 +1,5 @@
--- Lists. Definitions: Instruction, Machine, Questions, and the calls List scan and Listing: ListScan, Listing. Worked lists: Examples. What is proved of the
--- definitions: Theorems, with Standing. Laws, which no contract cites: Laws.
+-- Lists. Definitions: Instruction, Machine, Writes, Questions, and the calls List scan and Listing: ListScan, Listing. Worked lists: Examples. What is
+-- proved of the definitions: Theorems, with Standing. Laws, which no contract cites: Laws.
 pub mod Examples
 pub mod Instruction
 pub mod ListScan
@@ -8,4 +8,5 @@ pub mod Machine
 pub mod Questions
 pub mod Standing
 pub mod Theorems
+pub mod Writes
 pub mod Laws

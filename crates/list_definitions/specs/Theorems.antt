@@ -1,18 +1,23 @@
 -- What is proved of the definitions of this crate, a theorem to a sentence; the proofs are in Laws. Assumes nothing.
 use Prim.Native.Nat.{ℕ, _≤_}
-use mathlib.Core.Path.{_≡_}
+use mathlib.Core.Path.{_≡_, ap, _∙_}
 use mathlib.Core.Logic.{_↔_}
 use mathlib.Core.Option.{none, some}
 use mathlib.Core.List.{List, map}
 use lib.Dec.{T}
+use lib.ListN.{length}
 use Rattle.questions.specs.Tests.{all}
 use Rattle.table.specs.State.{State}
 use Rattle.table.specs.Halt.{Ended, Stopped}
+use Rattle.table.specs.Writes.{replay}
+use Rattle.table.specs.Laws.Replaying.{makes-bytes}
 use Rattle.list_definitions.specs.Instruction.{Instr, instrWord, instrFits, decodeInstr, decodeCode}
 use Rattle.list_definitions.specs.Machine.{InstructionList, Counts, scanList}
+use Rattle.list_definitions.specs.Writes.{listWrites}
 use Rattle.list_definitions.specs.Standing.{StandsAt}
 use Rattle.list_definitions.specs.Laws.Decoding.{decode-instr, instr-decoded, decode-code, code-decoded}
-use Rattle.list_definitions.specs.Laws.Watchdog.{stopped-stands, stands-stopped, ended-stands, stands-ended}
+use Rattle.list_definitions.specs.Laws.Watchdog.{stopped-stands, stands-stopped, ended-stands, stands-ended, list-within}
+use Rattle.list_definitions.specs.Laws.Writes.{list-makes, list-few}
 
 -- A word is decoded to an instruction exactly when it is the word of that instruction, whose operand has 16 bits.
 pub instruction-exactly : (w : ℕ) (i : Instr) → (decodeInstr w ≡ some i) ↔ ((w ≡ instrWord i) × T (instrFits i))
@@ -31,3 +36,15 @@ stopped-exactly l watchdog s c t = (stopped-stands l s watchdog c t, (λ h. stan
 pub ended-exactly : (l : InstructionList) (watchdog : ℕ) (s : State) (c : Counts) (t : State)
     → (scanList l watchdog s ≡ record { halt = Ended; counts = c; state = t }) ↔ ((c .instructions ≤ watchdog) × StandsAt l s c t none)
 ended-exactly l watchdog s c t = (ended-stands l s watchdog c t, (λ h. stands-ended l s watchdog c t (h .0) (h .1)))
+
+-- A scan, Ended or Stopped, leaves the table with its writes made, first to last.
+pub list-replayed : (l : InstructionList) (watchdog : ℕ) (s : State) → scanList l watchdog s .state .bytes ≡ replay (listWrites l watchdog s) (s .bytes)
+list-replayed l watchdog s = ap (λ t. t .bytes) (list-makes l watchdog s) ∙ makes-bytes (listWrites l watchdog s) s
+
+-- It makes at most one write for each instruction carried out.
+pub few-writes : (l : InstructionList) (watchdog : ℕ) (s : State) → length (listWrites l watchdog s) ≤ scanList l watchdog s .counts .instructions
+few-writes l watchdog s = list-few l watchdog s
+
+-- The instructions carried out are at most the watchdog.
+pub within-watchdog : (l : InstructionList) (watchdog : ℕ) (s : State) → scanList l watchdog s .counts .instructions ≤ watchdog
+within-watchdog l watchdog s = list-within l watchdog s .instructions

@@ -20,12 +20,11 @@ use Rattle.ladder_definitions.specs.Tree.{Ladder}
 use Rattle.ladder_definitions.specs.Kept.{Kept}
 use Rattle.ladder_definitions.specs.Questions.{mostRungs, ladderOf, ladderAnswer}
 use Rattle.ladder_definitions.specs.Held.{LadderHeld}
-use Rattle.ladder_definitions.specs.Laws.Accepting.{accepted}
+use Rattle.ladder_definitions.specs.Laws.Accepting.{sized, accepted}
 use Rattle.ladder_definitions.specs.Laws.Held.{keptOf, held, as-many}
 use Rattle.list_definitions.specs.Instruction.{instrWord}
 use Rattle.translation_definitions.specs.Translate.{rungCode, listRecords, translate}
 use Rattle.translation_definitions.specs.TranslateKept.{listBuffers, countsOf, translateKept, translatedAnswer, TranslateDone}
-use Rattle.translation_definitions.specs.Laws.Legal.{sized}
 use Rattle.translation_definitions.specs.Laws.Answers.{call-refused, call-written}
 use Rattle.translation_code.specs.Parts.{startIn}
 use Rattle.translation_layout.specs.Parts.{LadderReady, LaidOut, ListPut}

@@ -14,11 +14,11 @@ use Rattle.ladder_definitions.specs.Tree.{Rung, Ladder}
 use Rattle.ladder_definitions.specs.Kept.{rungWords, encode}
 use Rattle.ladder_definitions.specs.Held.{RungAt, LadderHeld}
 use Rattle.ladder_definitions.specs.Laws.Held.{Apart, as-many, rung-at}
+use Rattle.ladder_definitions.specs.Laws.Accepting.{sized}
 use Rattle.translation_definitions.specs.Translate.{rungCode, listRecords, translate}
 use Rattle.translation_code.specs.Parts.{CodePut, RungPut, startIn}
 use Rattle.translation_layout.specs.Parts.{LadderReady, LaidOut}
 use Rattle.translation_definitions.specs.Laws.Parts.{same-length}
-use Rattle.translation_definitions.specs.Laws.Legal.{sized}
 use Rattle.translation_code.specs.declared.Positions.{Positions}
 use Rattle.questions.specs.Laws.Stores.{sets-append}
 

@@ -2,16 +2,18 @@
 use Prim.Native.Nat.{ℕ, _≤_}
 use native.Mathlib.Omega.{arith}
 use mathlib.Core.Path.{_≡_, refl}
+use mathlib.Core.Bool.{_&&_}
 use mathlib.Core.Option.{Option, none, some}
-use mathlib.Core.List.{List, [], _∷_, _++_}
-use lib.Dec.{T, leb→le, le→leb}
+use mathlib.Core.List.{List, [], _∷_, _++_, flatMap}
+use lib.Dec.{T, leb, leb→le, le→leb}
 use lib.ListN.{length}
+use mir.Facts.{and-yes}
 use Rattle.questions.specs.Tests.{all}
 use Rattle.questions.specs.Questions.{Answer, firstNo, question1}
 use Rattle.questions.specs.Laws.Answers.{ask-passed, passed-ask, first-yes, later-yes, first-append}
 use Rattle.ladder_definitions.specs.Tree.{Ladder}
-use Rattle.ladder_definitions.specs.Kept.{Kept, encode, decode}
-use Rattle.ladder_definitions.specs.Questions.{ladderOf, holdsLadder, question4, question5, question6, question7, question8, question9, ladderQuestions, ladderAnswer, Accepted}
+use Rattle.ladder_definitions.specs.Kept.{Kept, rungWords, encode, decode}
+use Rattle.ladder_definitions.specs.Questions.{ladderOf, holdsLadder, question4, mostRungs, mostRungWords, mostWords, sizesInRange, question5, question6, question7, question8, question9, ladderQuestions, ladderAnswer, Accepted}
 use Rattle.ladder_definitions.specs.Laws.Decoding.{rungFits, ladder-back, ladder-held}
 
 pub decode-encode : (gs : Ladder) → T (all rungFits gs) → decode (encode gs) ≡ some gs
@@ -43,6 +45,20 @@ holds k e = go (decode k) refl
 pub some-question4 : (k : Kept) → 1 ≤ length (ladderOf k) → question4 k ≡ none
 unfolding question4 holdsLadder
 some-question4 k h = passed-ask 4 _ (le→leb 1 (length (ladderOf k)) h)
+
+-- question 5 got a yes
+pub record Sized (gs : Ladder) : Type 0 where
+  pub rungs : length gs ≤ mostRungs
+  pub words-a-rung : T (all (λ g. leb (length (rungWords g)) mostRungWords) gs)
+  pub words : length (flatMap rungWords gs) ≤ mostWords
+
+pub sized : (gs : Ladder) → question5 gs ≡ none → Sized gs
+unfolding question5 sizesInRange encode
+sized gs e =
+    let small = all (λ g. leb (length (rungWords g)) mostRungWords) gs in
+    let h = and-yes (leb (length gs) mostRungs) (small && leb (length (flatMap rungWords gs)) mostWords) (ask-passed 5 _ e) in
+    let k = and-yes small (leb (length (flatMap rungWords gs)) mostWords) (h .1) in
+    record { rungs = leb→le (length gs) mostRungs (h .0); words-a-rung = k .0; words = leb→le (length (flatMap rungWords gs)) mostWords (k .1) }
 
 -- the questions that got a yes, one by one
 pub accepted : (vars : ℕ) (k : Kept) → ladderAnswer vars k ≡ none → (decode k ≡ some (ladderOf k)) × Accepted vars (ladderOf k)

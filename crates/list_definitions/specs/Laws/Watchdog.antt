@@ -1,4 +1,4 @@
--- Where a scan stands, and that it halts there as document 01 says. Assumes nothing.
+-- Where a scan stands, and that it halts there as document 01 says, with counts within its watchdog. Assumes nothing.
 use Prim.Native.Nat.{ℕ, zero, suc, _+_, _-_, _≤_}
 use native.Mathlib.Nat.{zero-add, suc-add}
 use native.Mathlib.Omega.{arith}
@@ -6,8 +6,10 @@ use mathlib.Core.Path.{_≡_, refl, sym, ap, _∙_}
 use mathlib.Core.Logic.{_⊎_, inl, inr}
 use mathlib.Core.Option.{Option, none, some}
 use lib.ListN.{getElem?}
+use Rattle.questions.specs.Laws.Tests.{bit-few}
 use Rattle.table.specs.State.{State}
 use Rattle.table.specs.Halt.{Ended, Stopped}
+use Rattle.rungs.specs.Records.{isStart}
 use Rattle.list_definitions.specs.Instruction.{Instr}
 use Rattle.list_definitions.specs.Machine.{InstructionList, Machine, Counts, fresh, begin, count, step, ListResult, halted, scanMachine, scanList}
 use Rattle.list_definitions.specs.Standing.{Stands, atFirst, afterStep, StandsAt}
@@ -121,3 +123,30 @@ module _ (l : InstructionList) (s : State) where
           let u : h .1 ≡ t = ap (λ y. y .state) (sym (h .5) ∙ e) in
           (rw n at (h .4), record { machine = h .0; counts = n; stands = rw u at (h .2); instruction = h .3 })
       go (inr h) = absurd (apart e (h .5))
+
+-- a list scan counts at most as far as its watchdog
+
+pub record Within (most : ℕ) (c : Counts) : Type 0 where
+  pub instructions : c .instructions ≤ most
+  pub rungs : c .rungs ≤ most
+
+module _ (l : InstructionList) where
+  machine-within : (n most : ℕ) (m : Machine) (t : State) → m .counts .instructions + n ≤ most → m .counts .rungs + n ≤ most → Within most (scanMachine l n m t .counts)
+  unfolding halted step count
+  machine-within zero most m t h k = go (getElem? (l .code) (m .index)) refl
+    where
+      go : (o : Option Instr) → getElem? (l .code) (m .index) ≡ o → Within most (scanMachine l 0 m t .counts)
+      go none e = rw (scan-end l 0 m t e) (record { instructions = omega arith; rungs = omega arith })
+      go (some i) e = rw (scan-stop l m t i e) (record { instructions = omega arith; rungs = omega arith })
+  machine-within (suc n) most m t h k = go (getElem? (l .code) (m .index)) refl
+      (λ i. let b = bit-few (isStart (l .records) (m .index)) in
+      machine-within n most (step (l .records) i m t .0) (step (l .records) i m t .1) (omega arith) (omega (arith, b)))
+    where
+      go : (o : Option Instr) → getElem? (l .code) (m .index) ≡ o
+          → ((i : Instr) → Within most (scanMachine l n (step (l .records) i m t .0) (step (l .records) i m t .1) .counts)) → Within most (scanMachine l (suc n) m t .counts)
+      go none e ih = rw (scan-end l (suc n) m t e) (record { instructions = omega arith; rungs = omega arith })
+      go (some i) e ih = rw (scan-step l n m t i e) (ih i)
+
+  pub list-within : (w : ℕ) (s : State) → Within w (scanList l w s .counts)
+  unfolding scanList begin fresh
+  list-within w s = machine-within w w (begin l) s (omega arith) (omega arith)

@@ -8,18 +8,19 @@ use native.Mathlib.Nat.{zero-add, mul-le-mul}
 use native.Mathlib.Omega.{arith}
 use lib.Dec.{T, ltb, leb, leb→le, le→leb, ltb→lt, lt→ltb}
 use lib.ListN.{length, length-append, length-map}
-use mir.Facts.{and-yes, yes-and}
+use mir.Facts.{yes-and}
 use Rattle.questions.specs.Tests.{all}
 use Rattle.questions.specs.Laws.Tests.{all-head, all-tail, all-cons, all-at}
 use Rattle.questions.specs.Questions.{question12, mostRungWatchdog, mostInstructionWatchdog}
-use Rattle.questions.specs.Laws.Answers.{ask-passed, passed-ask, vars-in-range, in-range-watchdog}
+use Rattle.questions.specs.Laws.Answers.{passed-ask, vars-in-range, in-range-watchdog}
 use Rattle.table.specs.State.{tableSize}
 use Rattle.rungs.specs.Words.{operands}
 use Rattle.rungs.specs.Records.{RungRecord, laid, lay, longest, mostRecords}
 use Rattle.rungs.specs.Laws.Layout.{sizes, lay-length, lay-laid, longest-most, pieces-length}
 use Rattle.ladder_definitions.specs.Tree.{contact, contactn, Front, input, frontAnd, frontOr, Output, coil, coiln, jump, jumpn, setCoil, resetCoil, Rear, output, rearAnd, rearOr, Rung, Ladder, outputNames}
-use Rattle.ladder_definitions.specs.Kept.{frontWords, rearWords, rungWords, encode}
-use Rattle.ladder_definitions.specs.Questions.{namedBelow, outputBelow, rungBelow, sizesInRange, question5, mostRungs, mostRungWords, mostWords, Accepted}
+use Rattle.ladder_definitions.specs.Kept.{frontWords, rearWords, rungWords}
+use Rattle.ladder_definitions.specs.Questions.{namedBelow, outputBelow, rungBelow, mostRungs, mostRungWords, Accepted}
+use Rattle.ladder_definitions.specs.Laws.Accepting.{sized}
 use Rattle.list_definitions.specs.Instruction.{Instr, ST, AND, ANDN, OR, ORN, Operand, tableIndex, noOperand, instructionIndex, operand, operandFits, instrFits, instrWord, decodeCode}
 use Rattle.list_definitions.specs.Questions.{operandInRange, instrInRange, wordInRange, mostInstructions, recordsLaid, listInRange, question10}
 use Rattle.list_definitions.specs.Laws.Decoding.{decode-instr, decode-code}
@@ -102,20 +103,6 @@ module _ (vars : ℕ) where
       rw (length-append (rungCode vars start g), length-append (rungWords g)) (omega arith)
 
 -- ---- questions 10 and 12
-
--- what question 5 tells
-pub record Sized (gs : Ladder) : Type 0 where
-  pub rungs : length gs ≤ mostRungs
-  pub words-a-rung : T (all (λ g. leb (length (rungWords g)) mostRungWords) gs)
-  pub words : length (flatMap rungWords gs) ≤ mostWords
-
-pub sized : (gs : Ladder) → question5 gs ≡ none → Sized gs
-unfolding question5 sizesInRange encode
-sized gs e =
-    let small = all (λ g. leb (length (rungWords g)) mostRungWords) gs in
-    let h = and-yes (leb (length gs) mostRungs) (small && leb (length (flatMap rungWords gs)) mostWords) (ask-passed 5 _ e) in
-    let k = and-yes small (leb (length (flatMap rungWords gs)) mostWords) (h .1) in
-    record { rungs = leb→le (length gs) mostRungs (h .0); words-a-rung = k .0; words = leb→le (length (flatMap rungWords gs)) mostWords (k .1) }
 
 -- an instruction in range has an operand of 16 bits, where V and the list's length allow no other
 range-fits : (size n : ℕ) → size ≤ operands → n < operands → (i : Instr) → T (instrInRange size n i) → T (instrFits i)
