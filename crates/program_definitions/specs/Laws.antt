@@ -2,4 +2,3 @@
 pub mod Alike
 pub mod Bounds
 pub mod Outcomes
-pub mod Scans

@@ -26,11 +26,14 @@ use Rattle.ladder_definitions.specs.Kept.{Kept}
 use Rattle.ladder_definitions.specs.Meaning.{scanLadder}
 use Rattle.ladder_definitions.specs.Questions.{ladderOf, ladderAnswer, mostRungs, mostWords}
 use Rattle.ladder_definitions.specs.Laws.Accepting.{accepted}
+use Rattle.ladder_definitions.specs.Laws.Writes.{ladder-legal}
 use Rattle.text_definitions.specs.Read.{ReadAnswer, readText, kept, writtenKept, refused as readRefused}
 use Rattle.list_definitions.specs.Machine.{scanList}
 use Rattle.list_definitions.specs.ListScan.{listOf}
 use Rattle.list_definitions.specs.Questions.{mostInstructions, question10}
 use Rattle.list_definitions.specs.Listing.{fixedNames, ListingCall, listing, written, refused as listingRefused, listingText}
+use Rattle.list_definitions.specs.Laws.Watchdog.{list-within}
+use Rattle.list_definitions.specs.Laws.Writes.{list-legal}
 use Rattle.translation_definitions.specs.Translate.{translate}
 use Rattle.translation_definitions.specs.TranslateKept.{Counts, countsOf, translateKept, TranslateAnswer, translated, refused as translateRefused}
 use Rattle.translation_definitions.specs.BothScans.{BothEnds, BothAnswer, BothCall, both, pairedScans, pairedWatchdog, refused as scansRefused}
@@ -44,7 +47,6 @@ use Rattle.program_definitions.specs.Refusals.{refusalLine}
 use Rattle.program_definitions.specs.Outcome.{Outcome, printed, refused}
 use Rattle.program_definitions.specs.Printout.{countLine, blank, mostListing, listPrinted, keptPrinted, textPrinted}
 use Rattle.program_definitions.specs.Scanout.{endWord, endLines, changedLine, changedLines, Verdict, alike, bothStopped, notAlike, verdict, verdictLine, reportLines, lentFor, keptScanned, textScanned}
-use Rattle.program_definitions.specs.Laws.Scans.{ladder-legal, list-legal, list-within}
 
 -- ---- texts one after the other
 

@@ -10,7 +10,7 @@ use mir.Facts.{and-yes, yes-and}
 use Rattle.questions.specs.Tests.{all, bit}
 use Rattle.questions.specs.Laws.Tests.{all-head, all-tail, all-cons}
 use Rattle.questions.specs.Laws.Answers.{ask-passed, passed-ask}
-use Rattle.table.specs.State.{State, stateOf, tableSize, writtenAt, write, writeIf}
+use Rattle.table.specs.State.{stateOf, tableSize, writtenAt}
 use Rattle.table.specs.Questions.{isBit, tableInRange, question11}
 
 -- a table that question 11 takes
@@ -33,8 +33,3 @@ module _ (vars : ℕ) where
       let p = and-yes (eqb (length table) (tableSize vars)) (all isBit table) (ask-passed 11 _ h) in
       passed-ask 11 _ (yes-and (eqb (length (set table i (bit b))) (tableSize vars)) (all isBit (set table i (bit b)))
       (rw (length-set table i (bit b)) (p .0)) (bits-written table i b (p .1)))
-
-  pub write-if-legal : (q : Bool) (s : State) (i : ℕ) (b : Bool) → LegalTable vars (s .bytes) → LegalTable vars (writeIf q s i b .bytes)
-  unfolding writeIf write
-  write-if-legal true s i b h = written-legal (s .bytes) i b h
-  write-if-legal false s i b h = h

@@ -1,14 +1,13 @@
 -- Demand 3 over the calls, from demand 3 over trees: what the calls do once every question got a "yes". Assumes nothing.
-use Prim.Native.Nat.{ℕ, zero, suc, _*_, _≤_}
+use Prim.Native.Nat.{ℕ, _*_, _≤_}
 use native.Mathlib.Omega.{arith}
 use mathlib.Core.Path.{_≡_, refl, sym, ap, _∙_}
-use mathlib.Core.Bool.{Bool, true, false}
-use mathlib.Core.Option.{Option, none, some}
+use mathlib.Core.Option.{none}
 use mathlib.Core.List.{List, [], _∷_, map}
-use lib.ListN.{length, take, getElem?, length-map}
+use lib.ListN.{length, take, length-map}
 use Rattle.questions.specs.Questions.{firstNo, question1, question12, question13, mostRungWatchdog, mostInstructionWatchdog}
 use Rattle.questions.specs.Laws.Answers.{watchdog-in-range, in-range-watchdog}
-use Rattle.table.specs.State.{State, stateOf, write, writeIf}
+use Rattle.table.specs.State.{State, stateOf}
 use Rattle.table.specs.Halt.{Halt, Ended, Stopped}
 use Rattle.table.specs.Questions.{question11}
 use Rattle.table.specs.Laws.Alike.{alike-self}
@@ -23,11 +22,11 @@ use Rattle.ladder_definitions.specs.LadderScan.{LadderCounts, countsOf as ladde
 use Rattle.ladder_definitions.specs.Laws.Accepting.{accepted, ladder-first}
 use Rattle.ladder_definitions.specs.Laws.Scratch.{scan-stays}
 use Rattle.ladder_definitions.specs.Laws.Watchdog.{stopped-stands, ended-stands}
-use Rattle.list_definitions.specs.Instruction.{Instr, LD, LDN, ST, STN, AND, ANDN, OR, ORN, XOR, XORN, NOT, JMP, JMPC, JMPCN, S, R, instrWord, codeOf}
-use Rattle.list_definitions.specs.Machine.{InstructionList, Machine, does, step, halted, scanMachine, scanList}
+use Rattle.list_definitions.specs.Instruction.{instrWord, codeOf}
+use Rattle.list_definitions.specs.Machine.{InstructionList, scanList}
 use Rattle.list_definitions.specs.Questions.{question10, listAnswer}
 use Rattle.list_definitions.specs.ListScan.{listOf, callListScan, scanEnds as listEnds, scanQuestions}
-use Rattle.list_definitions.specs.Laws.Watchdog.{scan-end, scan-stop, scan-step}
+use Rattle.list_definitions.specs.Laws.Writes.{list-vars}
 use Rattle.translation_definitions.specs.Translate.{translate}
 use Rattle.translation_definitions.specs.TranslateKept.{countsOf, listBuffers, translated, translateKept}
 use Rattle.translation_definitions.specs.Demand3.{EndedAlike, StoppedAlike}
@@ -36,52 +35,6 @@ use Rattle.translation_definitions.specs.Calls.{Given, CallsAlike, Scans
 use Rattle.translation_definitions.specs.Laws.Answers.{call-written}
 use Rattle.translation_definitions.specs.Laws.Lists.{below-all, translated-agrees}
 use Rattle.translation_definitions.specs.Laws.Legal.{list-in-range, list-decodes, watchdog-in-range as most-in-range}
-
--- ---- a list scan leaves V
-
-write-if-vars : (q : Bool) (s : State) (i : ℕ) (b : Bool) → writeIf q s i b .vars ≡ s .vars
-unfolding writeIf write
-write-if-vars true s i b = refl
-write-if-vars false s i b = refl
-
-does-vars : (i : Instr) (v : Bool) (e : State) (pc : ℕ) → does i v e pc .state .vars ≡ e .vars
-unfolding does write
-does-vars (LD x) v e pc = refl
-does-vars (LDN x) v e pc = refl
-does-vars (ST x) v e pc = refl
-does-vars (STN x) v e pc = refl
-does-vars (AND x) v e pc = refl
-does-vars (ANDN x) v e pc = refl
-does-vars (OR x) v e pc = refl
-does-vars (ORN x) v e pc = refl
-does-vars (XOR x) v e pc = refl
-does-vars (XORN x) v e pc = refl
-does-vars NOT v e pc = refl
-does-vars (JMP j) v e pc = refl
-does-vars (JMPC j) v e pc = refl
-does-vars (JMPCN j) v e pc = refl
-does-vars (S x) v e pc = write-if-vars v e x true
-does-vars (R x) v e pc = write-if-vars v e x false
-
-module _ (l : InstructionList) where
-  machine-vars : (n : ℕ) (m : Machine) (t : State) → scanMachine l n m t .state .vars ≡ t .vars
-  unfolding halted step
-  machine-vars zero m t = go (getElem? (l .code) (m .index)) refl
-    where
-      go : (o : Option Instr) → getElem? (l .code) (m .index) ≡ o → scanMachine l 0 m t .state .vars ≡ t .vars
-      go none e = ap (λ x. x .state .vars) (scan-end l 0 m t e)
-      go (some i) e = ap (λ x. x .state .vars) (scan-stop l m t i e)
-  machine-vars (suc n) m t = go (getElem? (l .code) (m .index)) refl (λ i. machine-vars n (step (l .records) i m t .0) (step (l .records) i m t .1))
-    where
-      go : (o : Option Instr) → getElem? (l .code) (m .index) ≡ o
-          → ((i : Instr) → scanMachine l n (step (l .records) i m t .0) (step (l .records) i m t .1) .state .vars ≡ step (l .records) i m t .1 .vars)
-          → scanMachine l (suc n) m t .state .vars ≡ t .vars
-      go none e ih = ap (λ x. x .state .vars) (scan-end l (suc n) m t e)
-      go (some i) e ih = ap (λ x. x .state .vars) (scan-step l n m t i e) ∙ ih i ∙ does-vars i (m .accumulator) t (m .index)
-
-  pub list-vars : (w : ℕ) (s : State) → scanList l w s .state .vars ≡ s .vars
-  unfolding scanList
-  list-vars w s = machine-vars w _ s
 
 -- ---- the rungs entered are at most the watchdog, and equal it where the scan is Stopped
 

@@ -3,17 +3,16 @@
 use Prim.Native.Nat.{ℕ, zero, suc}
 use native.Mathlib.Omega.{arith}
 use mathlib.Core.Path.{_≡_, refl, sym, ap, _∙_}
-use mathlib.Core.Bool.{Bool, true, false}
-use mathlib.Core.Option.{Option, none, some}
+use mathlib.Core.Option.{none, some}
 use mathlib.Core.List.{List, [], _∷_, map}
-use lib.ListN.{set, take, getElem?}
+use lib.ListN.{set, take}
 use Rattle.questions.specs.Tests.{bit}
 use Rattle.questions.specs.Questions.{Answer, firstNo, question1, question12, mostRungWatchdog, mostInstructionWatchdog}
 use Rattle.questions.specs.Laws.Answers.{first-yes, later-yes}
-use Rattle.table.specs.State.{State, stateOf, variables, writtenAt, write, SameButScratch}
+use Rattle.table.specs.State.{State, stateOf, variables, writtenAt, SameButScratch}
 use Rattle.table.specs.Halt.{Halt, Ended}
 use Rattle.table.specs.Laws.Alike.{same-both}
-use Rattle.table.specs.Laws.Legal.{LegalTable, written-legal, write-if-legal}
+use Rattle.table.specs.Laws.Legal.{LegalTable, written-legal}
 use Rattle.table.specs.Questions.{question11}
 use Rattle.rungs.specs.Records.{RungRecord}
 use Rattle.ladder_definitions.specs.Meaning.{scanLadder}
@@ -23,16 +22,15 @@ use Rattle.ladder_definitions.specs.LadderScan.{LadderCounts, LadderScanCall, c
 use Rattle.ladder_definitions.specs.Laws.Accepting.{accepted, ladder-first}
 use Rattle.ladder_definitions.specs.Laws.Scratch.{scan-stays}
 use Rattle.ladder_definitions.specs.Theorems.{scratch-not-read}
-use Rattle.list_definitions.specs.Instruction.{Instr, LD, LDN, ST, STN, AND, ANDN, OR, ORN, XOR, XORN, NOT, JMP, JMPC, JMPCN, S, R, instrWord}
-use Rattle.list_definitions.specs.Machine.{InstructionList, Machine, does, step, halted, begin, scanMachine, scanList}
+use Rattle.list_definitions.specs.Instruction.{instrWord}
 use Rattle.list_definitions.specs.Questions.{question10}
 use Rattle.list_definitions.specs.ListScan.{listOf, callListScan, scanEnds as listEnds, scanQuestions}
-use Rattle.list_definitions.specs.Laws.Watchdog.{scan-end, scan-stop, scan-step}
+use Rattle.list_definitions.specs.Laws.Writes.{list-legal}
 use Rattle.translation_definitions.specs.Calls.{CallsAlike, ScansAgree}
 use Rattle.translation_definitions.specs.ManyScans.{InputValue, inputPhase, Scan, listFor, longestFor, ladderWith, listWith, LadderEnds, LaddersEnd, ManyGiven, BothEnd, ManyAgree}
 use Rattle.translation_definitions.specs.Laws.Lists.{below-all}
 
--- ---- a list scan leaves a legal table legal
+-- ---- the input phase and a list scan leave a legal table legal
 
 module _ (vars : ℕ) where
   input-legal : (inputs : List InputValue) (table : List ℕ) → LegalTable vars table → LegalTable vars (inputPhase inputs table)
@@ -40,45 +38,10 @@ module _ (vars : ℕ) where
   input-legal [] table h = h
   input-legal (x ∷ later) table h = input-legal later (writtenAt table (x .variable) (x .value)) (written-legal vars table (x .variable) (x .value) h)
 
-  does-legal : (i : Instr) (v : Bool) (e : State) (pc : ℕ) → LegalTable vars (e .bytes) → LegalTable vars (does i v e pc .state .bytes)
-  unfolding does write
-  does-legal (LD x) v e pc h = h
-  does-legal (LDN x) v e pc h = h
-  does-legal (ST x) v e pc h = written-legal vars (e .bytes) x v h
-  does-legal (STN x) v e pc h = written-legal vars (e .bytes) x _ h
-  does-legal (AND x) v e pc h = h
-  does-legal (ANDN x) v e pc h = h
-  does-legal (OR x) v e pc h = h
-  does-legal (ORN x) v e pc h = h
-  does-legal (XOR x) v e pc h = h
-  does-legal (XORN x) v e pc h = h
-  does-legal NOT v e pc h = h
-  does-legal (JMP j) v e pc h = h
-  does-legal (JMPC j) v e pc h = h
-  does-legal (JMPCN j) v e pc h = h
-  does-legal (S x) v e pc h = write-if-legal vars v e x true h
-  does-legal (R x) v e pc h = write-if-legal vars v e x false h
-
-  pub machine-legal : (l : InstructionList) (n : ℕ) (m : Machine) (t : State) → LegalTable vars (t .bytes) → LegalTable vars (scanMachine l n m t .state .bytes)
-  unfolding halted step
-  machine-legal l zero m t h = go (getElem? (l .code) (m .index)) refl
-    where
-      go : (o : Option Instr) → getElem? (l .code) (m .index) ≡ o → LegalTable vars (scanMachine l 0 m t .state .bytes)
-      go none e = rw (scan-end l 0 m t e) h
-      go (some i) e = rw (scan-stop l m t i e) h
-  machine-legal l (suc n) m t h = go (getElem? (l .code) (m .index)) refl
-      (λ i. machine-legal l n (step (l .records) i m t .0) (step (l .records) i m t .1) (does-legal i (m .accumulator) t (m .index) h))
-    where
-      go : (o : Option Instr) → getElem? (l .code) (m .index) ≡ o
-          → ((i : Instr) → LegalTable vars (scanMachine l n (step (l .records) i m t .0) (step (l .records) i m t .1) .state .bytes))
-          → LegalTable vars (scanMachine l (suc n) m t .state .bytes)
-      go none e ih = rw (scan-end l (suc n) m t e) h
-      go (some i) e ih = rw (scan-step l n m t i e) (ih i)
-
   -- List scan leaves a legal table legal, refused or not
-  list-legal : (words : List ℕ) (rs : List RungRecord) (table : List ℕ) (w : ℕ) → LegalTable vars table → LegalTable vars (callListScan vars words rs table w .table)
-  unfolding callListScan scanQuestions listEnds scanList
-  list-legal words rs table w h = go answers refl
+  call-legal : (words : List ℕ) (rs : List RungRecord) (table : List ℕ) (w : ℕ) → LegalTable vars table → LegalTable vars (callListScan vars words rs table w .table)
+  unfolding callListScan scanQuestions listEnds
+  call-legal words rs table w h = go answers refl
     where
       s : State
       s = stateOf vars table
@@ -87,7 +50,7 @@ module _ (vars : ℕ) where
       answers = firstNo (question1 vars ∷ question10 vars words rs ∷ question11 s ∷ question12 mostInstructionWatchdog w ∷ [])
 
       go : (a : Answer) → answers ≡ a → LegalTable vars (callListScan vars words rs table w .table)
-      go none q = rw (q, callListScan) (machine-legal (listOf words rs) w (begin (listOf words rs)) s h)
+      go none q = rw (q, callListScan) (list-legal vars (listOf words rs) w s h)
       go (some refusal) q = rw (q, callListScan) h
 
 -- ---- the input phase gives the same variables from the same variables
@@ -206,7 +169,7 @@ module _ (vars : ℕ) (kept : Kept) (demand3 : OneScan vars kept) (ok : ladderAn
   scans-alike [] t u legal same h = tt
   scans-alike (scan ∷ later) t u legal same h =
       let b = scan-alike scan t u legal same (h .0) in
-      let left = list-legal vars _ _ (inputPhase (scan .inputs) u) (scan .instructionWatchdog) (input-legal vars (scan .inputs) u legal) in
+      let left = call-legal vars _ _ (inputPhase (scan .inputs) u) (scan .instructionWatchdog) (input-legal vars (scan .inputs) u legal) in
       (b, scans-alike later (ladderWith vars kept scan t .table) (listWith vars kept scan u .table) left (b .list-ended .same) (h .1))
 
 pub many-alike : (vars : ℕ) (kept : Kept) → OneScan vars kept → (scans : List Scan) (t u : List ℕ) → ManyGiven vars kept scans t u → ManyAgree vars kept scans t u
