@@ -1,4 +1,5 @@
-/* The five calls of document 01 in plain C, for comparison. Written from document 01 alone; it shares nothing with the proved code.
+/* The five calls of document 01, with document 02's requests up to Req 02, in plain C, for comparison. Written from the documents alone; it
+   shares nothing with the proved code.
    Standard input: a number of turns, LF, and one request of the vectors' format. Each turn works on fresh copies of the lent buffers.
    Standard output: the request's answer line, as the program vectors prints it. Standard error: nanoseconds a turn. */
 #include <stdint.h>
@@ -147,27 +148,30 @@ static int front_value(const uint32_t *w, size_t *at, const uint8_t *t)
     }
 }
 
+typedef struct { No no; int ended; uint32_t rungs, instructions, moved; } Scan;
+
+/* Writes a variable; it has moved where the byte changed. */
+static void write_variable(uint8_t *t, uint32_t x, int value, Scan *s) { s->moved += t[x] != value; t[x] = (uint8_t)value; }
+
 /* -1 onward, else the label of a taken jump. */
-static int32_t run_rear(const uint32_t *w, size_t *at, int power, uint8_t *t)
+static int32_t run_rear(const uint32_t *w, size_t *at, int power, uint8_t *t, Scan *s)
 {
     uint32_t word = w[(*at)++];
     switch (kind(word)) {
-    case 5: t[operand(word)] = power; return -1;
-    case 6: t[operand(word)] = !power; return -1;
+    case 5: write_variable(t, operand(word), power, s); return -1;
+    case 6: write_variable(t, operand(word), !power, s); return -1;
     case 7: return power ? (int32_t)operand(word) : -1;
     case 8: return power ? -1 : (int32_t)operand(word);
-    case 11: if (power) t[operand(word)] = 1; return -1;
-    case 12: if (power) t[operand(word)] = 0; return -1;
-    case 9: { int f = front_value(w, at, t); return run_rear(w, at, power & f, t); }
-    default: { int32_t a = run_rear(w, at, power, t); return a >= 0 ? a : run_rear(w, at, power, t); }
+    case 11: if (power) write_variable(t, operand(word), 1, s); return -1;
+    case 12: if (power) write_variable(t, operand(word), 0, s); return -1;
+    case 9: { int f = front_value(w, at, t); return run_rear(w, at, power & f, t, s); }
+    default: { int32_t a = run_rear(w, at, power, t, s); return a >= 0 ? a : run_rear(w, at, power, t, s); }
     }
 }
 
-typedef struct { No no; int ended; uint32_t rungs, instructions; } Scan;
-
 static Scan ladder_scan(uint32_t vars, const uint32_t *w, size_t n, const Rung *r, size_t m, uint8_t *t, size_t bytes, uint32_t watchdog)
 {
-    Scan s = {YES, 0, 0, 0};
+    Scan s = {YES, 0, 0, 0, 0};
     s.no = ladder_asked(vars, w, n, r, m);
     if (s.no.number) return s;
     s.no = table_asked(vars, t, bytes);
@@ -180,7 +184,7 @@ static Scan ladder_scan(uint32_t vars, const uint32_t *w, size_t n, const Rung *
         s.rungs++;
         size_t at = r[rung].offset;
         int power = front_value(w, &at, t);
-        int32_t jump = run_rear(w, &at, power, t);
+        int32_t jump = run_rear(w, &at, power, t, &s);
         rung = jump < 0 ? rung + 1 : search(r, m, (uint32_t)jump);
     }
 }
@@ -207,9 +211,16 @@ static No list_asked(uint32_t vars, const uint32_t *c, size_t n, const Rung *r, 
     return YES;
 }
 
+/* Writes a byte of the table; "Scratch bytes don't count." */
+static void write_byte(uint32_t vars, uint8_t *t, uint32_t x, int value, Scan *s)
+{
+    if (x < vars) write_variable(t, x, value, s);
+    else t[x] = (uint8_t)value;
+}
+
 static Scan list_scan(uint32_t vars, const uint32_t *c, size_t n, const Rung *r, size_t m, uint8_t *t, size_t bytes, uint32_t watchdog)
 {
-    Scan s = {YES, 0, 0, 0};
+    Scan s = {YES, 0, 0, 0, 0};
     s.no = list_asked(vars, c, n, r, m);
     if (s.no.number) return s;
     s.no = table_asked(vars, t, bytes);
@@ -228,8 +239,8 @@ static Scan list_scan(uint32_t vars, const uint32_t *c, size_t n, const Rung *r,
         switch (kind(word)) {
         case LD: acc = t[x]; break;
         case LDN: acc = !t[x]; break;
-        case ST: t[x] = acc; break;
-        case STN: t[x] = !acc; break;
+        case ST: write_byte(vars, t, x, acc, &s); break;
+        case STN: write_byte(vars, t, x, !acc, &s); break;
         case AND: acc &= t[x]; break;
         case ANDN: acc &= !t[x]; break;
         case OR: acc |= t[x]; break;
@@ -240,8 +251,8 @@ static Scan list_scan(uint32_t vars, const uint32_t *c, size_t n, const Rung *r,
         case JMP: to = x; break;
         case JMPC: if (acc) to = x; break;
         case JMPCN: if (!acc) to = x; break;
-        case S: if (acc) t[x] = 1; break;
-        case R: if (acc) t[x] = 0; break;
+        case S: if (acc) write_byte(vars, t, x, 1, &s); break;
+        case R: if (acc) write_byte(vars, t, x, 0, &s); break;
         }
         if (to != pc + 1) {
             size_t low = 0, high = m;
@@ -548,7 +559,7 @@ int main(void)
     size_t n, m = 0, a = 0, b = 0;
     ReadDone r = {YES, 0, 0};
     Translation t = {YES, 0, 0, 0};
-    Scan s = {YES, 0, 0, 0};
+    Scan s = {YES, 0, 0, 0, 0};
     ListingDone l = {YES, 0};
     if (call == 1) { n = in_bytes(); a = next(); b = next(); }
     else {
@@ -573,8 +584,8 @@ int main(void)
     if (x.number) printf("0 %d %zu", x.number, x.place);
     else if (call == 1) printf("1 %zu %zu", r.words, r.rungs);
     else if (call == 2) printf("1 %zu %zu %zu", t.instructions, t.rungs, t.longest);
-    else if (call == 3) printf("%d %u", s.ended ? 1 : 2, s.rungs);
-    else if (call == 4) printf("%d %u %u", s.ended ? 1 : 2, s.instructions, s.rungs);
+    else if (call == 3) printf("%d %u %u", s.ended ? 1 : 2, s.rungs, s.moved);
+    else if (call == 4) printf("%d %u %u %u", s.ended ? 1 : 2, s.instructions, s.rungs, s.moved);
     else printf("1 %zu", l.bytes);
     if (call <= 2) { out_words(a); out_rungs(b); }
     else if (call == 5) out_lines(a);

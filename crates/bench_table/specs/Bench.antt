@@ -1,8 +1,9 @@
 -- Document 01, "Bench ladders": the rows A to I in one table, with one theorem: texts through the definitions of Read, Translate, Ladder scan and List scan.
 -- The list scan has the watchdog of demand 3: k × L where the ladder scan ends with k rungs, 2 × n where it stops at n. A to D say no rung watchdog;
--- theirs is the number of rungs that they enter, so that a watchdog asked before the end would show. J stands below the table, and so do the latches of
--- document 02, Req 01, through the same definitions. Assumes nothing.
+-- theirs is the number of rungs that they enter, so that a watchdog asked before the end would show. J stands below the table, and so do the latches and
+-- sums of document 02, Req 01 and 02, through the same definitions. Assumes nothing.
 use mathlib.Core.Path.{_≡_, refl}
+use mathlib.Core.Bool.{xor}
 use mathlib.Core.Option.{Option, none, some}
 use mathlib.Core.List.{List, [], _∷_, _++_, map, zipWith, flatMap}
 use Prim.Native.Nat.{ℕ, _-_}
@@ -10,7 +11,7 @@ use lib.ListN.{length, replicate, take}
 use Rattle.questions.specs.Tests.{all, firstFailed}
 use Rattle.questions.specs.Bytes.{bytes}
 use Rattle.questions.specs.Questions.{ask, askEach, firstNo, varsInRange, question1, question2, question12, longEnough, question13}
-use Rattle.table.specs.State.{scratchBytes, valueAt, value, writtenAt, write, writeIf}
+use Rattle.table.specs.State.{scratchBytes, valueAt, value, writtenAt, turns, write, writeIf}
 use Rattle.table.specs.Halt.{Halt, Ended, Stopped}
 use Rattle.table.specs.Questions.{tableInRange, question11}
 use Rattle.rungs.specs.Records.{RungRecord, laid, lay, search, present, startOf, isStart, longest, rowOf}
@@ -31,10 +32,11 @@ use Rattle.translation_definitions.specs.Translate.{F, R, join, outputCode, run
 use Rattle.translation_definitions.specs.BothScans.{instructionWatchdog}
 use Rattle.translation_definitions.specs.TranslateKept.{Counts, countsOf, translateKept, translated, refused as translateRefused}
 
--- how a scan halted, its rungs entered and the variables that it left
+-- how a scan halted, its rungs entered, how often variables were turned over, and the variables that it left
 record Scan : Type 0 where
   halt : Halt
   rungs : ℕ
+  moved : ℕ
   variables : List ℕ
 
 -- what document 01 prints of a list, "Listing": its instructions, the records whose labels stand before them, and the count line, which has Translate's counts;
@@ -58,9 +60,9 @@ record Row : Type 0 where
   outcome : Outcome
 
 -- both scans alike
-abbrev alike : Halt → ℕ → List ℕ → Outcome
-alike halt rungs variables =
-    let x : Scan = record { halt = halt; rungs = rungs; variables = variables } in
+abbrev alike : Halt → ℕ → ℕ → List ℕ → Outcome
+alike halt rungs moved variables =
+    let x : Scan = record { halt = halt; rungs = rungs; moved = moved; variables = variables } in
     scans x x none
 
 -- document 01, "Listing", with its "rungs 2 instructions 12 longest 10"; and row A's "12 instructions"
@@ -74,7 +76,7 @@ listA = record {
 
 outcomeA : Outcome
 outcomeA =
-    let x : Scan = record { halt = Ended; rungs = 2; variables = 1 ∷ 1 ∷ 0 ∷ 0 ∷ 1 ∷ [] } in
+    let x : Scan = record { halt = Ended; rungs = 2; moved = 2; variables = 1 ∷ 1 ∷ 0 ∷ 0 ∷ 1 ∷ [] } in
     scans x x (some listA)
 
 table : List Row
@@ -82,14 +84,14 @@ table =
     -- A
     record { before = 1 ∷ 0 ∷ 0 ∷ 0 ∷ 0 ∷ []; text = bytes "10:c0|c1&n2>o1|c3&j20\n20:n3>o4\n"; watchdog = 2; outcome = outcomeA }
     -- B
-    ∷ record { before = 1 ∷ 0 ∷ 0 ∷ []; text = bytes "0:c0>j5|o1\n5:c0>o2\n"; watchdog = 2; outcome = alike Ended 2 (1 ∷ 0 ∷ 1 ∷ []) }
+    ∷ record { before = 1 ∷ 0 ∷ 0 ∷ []; text = bytes "0:c0>j5|o1\n5:c0>o2\n"; watchdog = 2; outcome = alike Ended 2 1 (1 ∷ 0 ∷ 1 ∷ []) }
     -- C
-    ∷ record { before = 1 ∷ 0 ∷ 0 ∷ []; text = bytes "0:c0>o1|c1&o2\n"; watchdog = 1; outcome = alike Ended 1 (1 ∷ 1 ∷ 1 ∷ []) }
+    ∷ record { before = 1 ∷ 0 ∷ 0 ∷ []; text = bytes "0:c0>o1|c1&o2\n"; watchdog = 1; outcome = alike Ended 1 2 (1 ∷ 1 ∷ 1 ∷ []) }
     -- D
-    ∷ record { before = 0 ∷ 1 ∷ 0 ∷ []; text = bytes "0:c0>c1&o2\n"; watchdog = 1; outcome = alike Ended 1 (0 ∷ 1 ∷ 0 ∷ []) }
+    ∷ record { before = 0 ∷ 1 ∷ 0 ∷ []; text = bytes "0:c0>c1&o2\n"; watchdog = 1; outcome = alike Ended 1 0 (0 ∷ 1 ∷ 0 ∷ []) }
     -- E and F
-    ∷ record { before = 0 ∷ []; text = bytes "0:n0>j0\n"; watchdog = 3; outcome = alike Stopped 3 (0 ∷ []) }
-    ∷ record { before = 0 ∷ []; text = bytes "0:n0>j0\n"; watchdog = 0; outcome = alike Stopped 0 (0 ∷ []) }
+    ∷ record { before = 0 ∷ []; text = bytes "0:n0>j0\n"; watchdog = 3; outcome = alike Stopped 3 0 (0 ∷ []) }
+    ∷ record { before = 0 ∷ []; text = bytes "0:n0>j0\n"; watchdog = 0; outcome = alike Stopped 0 0 (0 ∷ []) }
     -- G
     ∷ record { before = 0 ∷ []; text = bytes "65536:"; watchdog = 0; outcome = refusedAt 3 4 }
     -- H
@@ -115,7 +117,7 @@ byListScan r x counts words records =
     let c = callListScan (length (r .before)) words records (start r) (instructionWatchdog (x .halt) (x .rungs) (counts .longest) (r .watchdog)) in
     elim (c .answer) [
       | listRefused refusal ↦ refusedAt (refusal .number) (refusal .place)
-      | listScanned halt n ↦ scans x (record { halt = halt; rungs = n .rungs; variables = variablesOf r (c .table) })
+      | listScanned halt n ↦ scans x (record { halt = halt; rungs = n .rungs; moved = n .moved; variables = variablesOf r (c .table) })
           (some (record { instructions = words; records = records; counts = counts; carriedOut = n .instructions }))
     ]
 
@@ -134,7 +136,7 @@ byLadderScan r k =
     let c = callLadderScan (length (r .before)) k (start r) (r .watchdog) in
     elim (c .answer) [
       | refused refusal ↦ refusedAt (refusal .number) (refusal .place)
-      | scanned halt n ↦ byTranslate r (record { halt = halt; rungs = n .rungs; variables = variablesOf r (c .table) }) k
+      | scanned halt n ↦ byTranslate r (record { halt = halt; rungs = n .rungs; moved = n .moved; variables = variablesOf r (c .table) }) k
     ]
 
 run : Row → Outcome
@@ -162,53 +164,75 @@ latchList = record {
   carriedOut = 4;
 }
 
--- both scans end with these variables
-latched : List ℕ → Outcome
-latched variables =
-    let x : Scan = record { halt = Ended; rungs = 2; variables = variables } in
+-- both scans end with these variables, after so many were turned over
+latched : ℕ → List ℕ → Outcome
+latched moved variables =
+    let x : Scan = record { halt = Ended; rungs = 2; moved = moved; variables = variables } in
     scans x x (some latchList)
 
 -- a latch v2, which v0 sets in one rung and v1 resets in a later one
 latches : List Row
 latches =
     -- set
-    record { before = 1 ∷ 0 ∷ 0 ∷ []; text = bytes "10:c0>s2\n20:c1>r2\n"; watchdog = 2; outcome = latched (1 ∷ 0 ∷ 1 ∷ []) }
+    record { before = 1 ∷ 0 ∷ 0 ∷ []; text = bytes "10:c0>s2\n20:c1>r2\n"; watchdog = 2; outcome = latched 1 (1 ∷ 0 ∷ 1 ∷ []) }
     -- S without power over a variable that is true: it stays, and R without power leaves it too
-    ∷ record { before = 0 ∷ 0 ∷ 1 ∷ []; text = bytes "10:c0>s2\n20:c1>r2\n"; watchdog = 2; outcome = latched (0 ∷ 0 ∷ 1 ∷ []) }
+    ∷ record { before = 0 ∷ 0 ∷ 1 ∷ []; text = bytes "10:c0>s2\n20:c1>r2\n"; watchdog = 2; outcome = latched 0 (0 ∷ 0 ∷ 1 ∷ []) }
     -- reset
-    ∷ record { before = 0 ∷ 1 ∷ 1 ∷ []; text = bytes "10:c0>s2\n20:c1>r2\n"; watchdog = 2; outcome = latched (0 ∷ 1 ∷ 0 ∷ []) }
+    ∷ record { before = 0 ∷ 1 ∷ 1 ∷ []; text = bytes "10:c0>s2\n20:c1>r2\n"; watchdog = 2; outcome = latched 1 (0 ∷ 1 ∷ 0 ∷ []) }
     -- set and then reset in one scan
-    ∷ record { before = 1 ∷ 1 ∷ 0 ∷ []; text = bytes "10:c0>s2\n20:c1>r2\n"; watchdog = 2; outcome = latched (1 ∷ 1 ∷ 0 ∷ []) }
+    ∷ record { before = 1 ∷ 1 ∷ 0 ∷ []; text = bytes "10:c0>s2\n20:c1>r2\n"; watchdog = 2; outcome = latched 2 (1 ∷ 1 ∷ 0 ∷ []) }
     -- stopped between the two rungs
-    ∷ record { before = 1 ∷ 1 ∷ 0 ∷ []; text = bytes "10:c0>s2\n20:c1>r2\n"; watchdog = 1; outcome = alike Stopped 1 (1 ∷ 1 ∷ 1 ∷ []) }
+    ∷ record { before = 1 ∷ 1 ∷ 0 ∷ []; text = bytes "10:c0>s2\n20:c1>r2\n"; watchdog = 1; outcome = alike Stopped 1 1 (1 ∷ 1 ∷ 1 ∷ []) }
     -- question 6 of both letters, by Read
     ∷ record { before = 0 ∷ 0 ∷ []; text = bytes "10:c0>s2\n20:c1>r2\n"; watchdog = 2; outcome = refusedAt 6 0 }
     ∷ record { before = 0 ∷ 0 ∷ 0 ∷ []; text = bytes "10:c0>s2\n20:c1>r3\n"; watchdog = 2; outcome = refusedAt 6 1 }
+    ∷ []
+
+-- ---- document 02, Req 02
+
+-- case A under the rung watchdog 1: the list stops within its first rung, before it stores to v1, and each scan reports its own sum
+stoppedA : Outcome
+stoppedA = scans (record { halt = Stopped; rungs = 1; moved = 1; variables = 1 ∷ 1 ∷ 0 ∷ 0 ∷ 0 ∷ [] })
+    (record { halt = Stopped; rungs = 1; moved = 0; variables = 1 ∷ 0 ∷ 0 ∷ 0 ∷ 0 ∷ [] }) none
+
+moves : List Row
+moves =
+    -- v1 is turned over twice and ends as it began; the second 0 is the value that stands there
+    record { before = 1 ∷ 0 ∷ []; text = bytes "0:c0>o1\n1:n0>o1|o1\n"; watchdog = 2; outcome = alike Ended 2 2 (1 ∷ 0 ∷ []) }
+    -- both rungs write the value that stands there, but for the first 1 of rung 1
+    ∷ record { before = 0 ∷ 0 ∷ []; text = bytes "0:c0>o1\n1:n0>o1|o1\n"; watchdog = 2; outcome = alike Ended 2 1 (0 ∷ 1 ∷ []) }
+    -- one rung, entered twice
+    ∷ record { before = 0 ∷ 0 ∷ []; text = bytes "7:n1>o1|j7\n"; watchdog = 9; outcome = alike Ended 2 2 (0 ∷ 0 ∷ []) }
+    ∷ record { before = 1 ∷ 0 ∷ 0 ∷ 0 ∷ 0 ∷ []; text = bytes "10:c0|c1&n2>o1|c3&j20\n20:n3>o4\n"; watchdog = 1; outcome = stoppedA }
     ∷ []
 
 -- each row comes out as is said of it
 asSaid : List Row → Type 0
 asSaid rows = map (λ r. asFar (run r) (r .outcome)) rows ≡ map (λ (r : Row). r .outcome) rows
 
-both-tables : asSaid table × asSaid latches
-unfolding asSaid table listA outcomeA latches latchList latched run asFar start room instructionWatchdog variablesOf byListScan byTranslate byLadderScan bytes
+all-tables : asSaid table × asSaid latches × asSaid moves
+unfolding asSaid table listA outcomeA latches latchList latched moves stoppedA run asFar start room instructionWatchdog variablesOf byListScan byTranslate byLadderScan bytes
     all firstFailed ask askEach firstNo varsInRange question1 question2 question3 question4 question5 question6 question7 question8 question9 question10 question11 question12 question13 longEnough
-    valueAt value writtenAt write writeIf tableInRange laid lay search present startOf isStart longest rowOf asBuffers needs written writtenOver writtenWords writtenRecords zipWith flatMap
+    valueAt value writtenAt turns write writeIf xor tableInRange laid lay search present startOf isStart longest rowOf asBuffers needs written writtenOver writtenWords writtenRecords zipWith flatMap
     frontAll rearAll rungAll scanLadder scanFrom runRung runRear runOutput workFront workInput jumpIf unlessJumped from follow left
     inputKind inputVariable inputWord outputKind outputNames number outputWord frontWords rearWords rungWords encode putInput putFront putOutput putRearAnd putRearOr kinds decodeWords oneRung decodeRung decodeFrom decode
     ladderOf holdsLadder sizesInRange inputBelow namedBelow outputBelow newLabels namedLeads outputLeads joinScratch frontScratch rearScratch rungScratch scratchInRange ladderQuestions ladderAnswer callLadderScan ladderScanQuestions ladderScanEnds
     mapP bind followed digitOf digitsFrom numeralOf chain termBy frontBy factorBy factorOf termOf frontOf opensFactor branchBy rearBy outputAt endBy endOf rearOf lineOf linesOf textOf
     readText writtenKept textLadder operand opOf operandNumber onlyNot ops instrWord decodeInstr decodeCode codeOf scanList scanMachine begin fresh step count does halted
     operandInRange wordInRange recordsLaid listInRange listOf callListScan listScanQuestions listScanEnds F R join outputCode rungCode listRecords translate countsOf translateKept
-both-tables = (refl, refl)
+all-tables = (refl, refl, refl)
 
 -- Every row comes out as document 01 says.
 bench : asSaid table
-bench = both-tables .0
+bench = all-tables .0
 
 -- Every latch comes out as document 02 says.
 latches-worked : asSaid latches
-latches-worked = both-tables .1
+latches-worked = all-tables .1
+
+-- And every sum.
+moves-worked : asSaid moves
+moves-worked = all-tables .2
 
 -- J, of so many contacts: 0:c0&c0& .. &c0>o0
 textJ : ℕ → List ℕ

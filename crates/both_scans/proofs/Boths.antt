@@ -12,7 +12,7 @@ use Rattle.questions.specs.Laws.Answers.{first-yes, later-yes, verdict-accepted
 use Rattle.questions.specs.declared.Refusal.{Refusal as RefusalCase}
 use Rattle.questions.specs.declared.Verdict.{Verdict}
 use Rattle.questions.specs.declared.Verdict.the-variants.{Accepted, Refused}
-use Rattle.table.specs.Halt.{Halt}
+use Rattle.table.specs.Halt.{Halt, Ended, Stopped}
 use Rattle.table.specs.State.{stateOf}
 use Rattle.table.specs.Questions.{question11}
 use Rattle.rungs.specs.Records.{RungRecord, rowOf, longest}
@@ -20,7 +20,8 @@ use Rattle.rungs.specs.Buffers.{Buffers, needs, writtenOver, writtenWords, writ
 use Rattle.ladder_definitions.specs.Kept.{Kept}
 use Rattle.ladder_definitions.specs.Meaning.{scanLadder}
 use Rattle.ladder_definitions.specs.Questions.{ladderOf, ladderAnswer, mostRungWords}
-use Rattle.ladder_definitions.specs.LadderScan.{LadderCounts, countsOf as ladderCountsOf, LadderScanAnswer, callLadderScan, scanned as ladderScanned, refused as ladderRefused, scanEnds as ladderEnds, scanQuestions as ladderAsked, countsIn as ladderCountsIn, ladderScannedAnswer, LadderScanDone}
+use Rattle.ladder_definitions.specs.LadderScan.{LadderCounts, countsOf as ladderCountsOf, LadderScanAnswer, callLadderScan, scanned as ladderScanned, refused as ladderRefused, scanEnds as ladderEnds, countsIn as ladderCountsIn, ladderScannedAnswer, LadderScanDone}
+use Rattle.ladder_definitions.specs.Laws.Answers.{rungs-few as entered-few}
 use Rattle.ladder_definitions.specs.Laws.Accepting.{accepted}
 use Rattle.ladder_definitions.specs.declared.LadderScanned.{LadderScanned}
 use Rattle.ladder_definitions.specs.declared.LadderScanned.the-variants.{Ended as LadderEnded, Stopped as LadderStopped, Refused as LadderRefused}
@@ -32,7 +33,7 @@ use Rattle.list_definitions.specs.declared.ListScanned.the-variants.{Ended as L
 use Rattle.translation_definitions.specs.Translate.{translate, codeBound}
 use Rattle.translation_definitions.specs.TranslateKept.{translated, refused as translateRefused, translateKept, countsOf, countsIn, listBuffers, TranslateDone, translatedAnswer}
 use Rattle.translation_definitions.specs.Laws.Answers.{not-both, call-refused, call-written, refused-same, all-yes, counts-are, written-room}
-use Rattle.translation_definitions.specs.Laws.Calls.{few-rungs, ladder-call, list-call, words-out, records-out}
+use Rattle.translation_definitions.specs.Laws.Calls.{ladder-call, list-call, words-out, records-out}
 use Rattle.translation_definitions.specs.Laws.Legal.{watchdog-in-range as most-in-range}
 use Rattle.translation_definitions.specs.Laws.Boths.{copy-long, both-ends, both-left, both-refused, both-scanned, paired-legal}
 use Rattle.translation_definitions.specs.BothScans.{Lent, lends, bothQuestions, bothScans, pairedScans, haltOf, pairedWatchdog, endsIn, bothScannedAnswer, BothScansDone}
@@ -76,24 +77,10 @@ list-told (ListRefused x) h n e = absurd (not-list h n (refusalOf x) e)
 -- ---- the rungs entered are within the rung watchdog's range
 
 module _ (vars : ℕ) (k : Kept) (t : List ℕ) (n : ℕ) where
-  scanned-few : (h : Halt) (c : LadderCounts) → callLadderScan vars k t n .answer ≡ ladderScanned h c → n ≤ mostRungWatchdog → c .rungs ≤ mostRungWatchdog
-  unfolding callLadderScan ladderEnds
-  scanned-few h c e most = go (ladderAsked vars k t n) refl
-    where
-      go : (b : Answer) → ladderAsked vars k t n ≡ b → c .rungs ≤ mostRungWatchdog
-      go (some x) q = let z : callLadderScan vars k t n .answer ≡ ladderRefused x = rw (q, callLadderScan) in absurd (not-ladder h c x (sym z ∙ e))
-      go none q =
-          let few = few-rungs (ladderOf k) n (stateOf vars t) in
-          let z : callLadderScan vars k t n .answer
-          ≡ ladderScanned (scanLadder (ladderOf k) n (stateOf vars t) .halt) (record { rungs = scanLadder (ladderOf k) n (stateOf vars t) .rungs }) = rw (q, callLadderScan) in
-          let y : record { rungs = scanLadder (ladderOf k) n (stateOf vars t) .rungs } ≡ c = cc in
-          let r : scanLadder (ladderOf k) n (stateOf vars t) .rungs ≡ c .rungs = ap (λ (d : LadderCounts). d .rungs) y in
-          omega (arith, few, r, most)
-
   pub end-few : (a : LadderScanned) (t′ : List ℕ) → LadderScanDone (callLadderScan vars k t n) a t′ → n ≤ mostRungWatchdog → ladderEnd a .counts .rungs ≤ mostRungWatchdog
   unfolding ladderEnd ladderScannedAnswer
-  end-few (LadderEnded c) t′ d most = scanned-few _ _ (sym (d .answer)) most
-  end-few (LadderStopped c) t′ d most = scanned-few _ _ (sym (d .answer)) most
+  end-few (LadderEnded c) t′ d most = let few = entered-few vars k t n Ended (ladderCountsIn c) (sym (d .answer)) in omega arith
+  end-few (LadderStopped c) t′ d most = let few = entered-few vars k t n Stopped (ladderCountsIn c) (sym (d .answer)) in omega arith
   end-few (LadderRefused x) t′ d most = omega arith
 
 -- ---- both scans were called

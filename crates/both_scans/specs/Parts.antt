@@ -50,12 +50,12 @@ chosenWatchdog Paired vars k table n = pairedWatchdog vars k table n
 unfoldable pub ladderEnd : LadderScanned → LadderEnd
 ladderEnd (LadderEnded c) = record { ended = true; counts = c }
 ladderEnd (LadderStopped c) = record { ended = false; counts = c }
-ladderEnd (LadderRefused r) = record { ended = false; counts = record { rungs = 0 } }
+ladderEnd (LadderRefused r) = record { ended = false; counts = record { rungs = 0; moved = 0 } }
 
 unfoldable pub listEnd : ListScanned → ListEnd
 listEnd (ListEnded c) = record { ended = true; counts = c }
 listEnd (ListStopped c) = record { ended = false; counts = c }
-listEnd (ListRefused r) = record { ended = false; counts = record { instructions = 0; rungs = 0 } }
+listEnd (ListRefused r) = record { ended = false; counts = record { instructions = 0; rungs = 0; moved = 0 } }
 
 -- both scans were called, the ladder's on the table t, the list's on u, and `r` has how they ended
 pub record ScansRun (vars : ℕ) (k : Kept) (code : List ℕ) (records : List RungRecord) (counts : CountsStruct) (n : ℕ) (watchdog : ListWatchdog) (t u : List ℕ)

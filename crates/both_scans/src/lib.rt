@@ -1,7 +1,6 @@
 // Both scans of one table: what a fault book can cite. Document 01, demand 3. Every question is put before the first store.
 ghost use mathlib.Core.Path.{_≡_};
 ghost use Prim.Native.Nat.{_≤_};
-ghost use lib.ListN.{length};
 ghost use Rattle.questions.specs.Questions.{mostRungWatchdog};
 ghost use Rattle.questions.specs.Refusals.{verdictAnswer};
 ghost use Rattle.rungs.specs.Records.{rowOf};
@@ -138,7 +137,7 @@ fn ladder_end(answer: LadderScanned) -> LadderEnd
         },
         LadderScanned::Refused(_) => LadderEnd {
             ended: false,
-            counts: ladder_definitions::Counts { rungs: 0 },
+            counts: ladder_definitions::Counts { rungs: 0, moved: 0 },
         },
     }
 }
@@ -160,6 +159,7 @@ fn list_end(answer: ListScanned) -> ListEnd
             counts: list_definitions::Counts {
                 instructions: 0,
                 rungs: 0,
+                moved: 0,
             },
         },
     }

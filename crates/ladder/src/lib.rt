@@ -92,6 +92,6 @@ pub fn ladder_scan(
 {
     match scan_questions(vars, words, labels, offsets, lengths, table, watchdog) {
         Verdict::Refused(refusal) => LadderScanned::Refused(refusal),
-        Verdict::Accepted => ladder_walk::scan::run(words, labels, offsets, table, watchdog),
+        Verdict::Accepted => ladder_walk::scan::run(vars, words, labels, offsets, table, watchdog),
     }
 }

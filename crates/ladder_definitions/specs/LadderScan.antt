@@ -15,12 +15,14 @@ use Rattle.ladder_definitions.specs.declared.Counts.{Counts as CountsStr
 use Rattle.ladder_definitions.specs.declared.LadderScanned.{LadderScanned}
 use Rattle.ladder_definitions.specs.declared.LadderScanned.the-variants.{Ended as EndedCase, Stopped as StoppedCase, Refused as RefusedCase}
 
--- the counts that Ladder scan answers: the rungs entered
+-- the counts that Ladder scan answers: the rungs entered, and how many times a variable was turned over (02, Req 02: "both scans add these up in their answers,
+-- Stopped ones included")
 pub record LadderCounts : Type 0 where
   pub rungs : ℕ
+  pub moved : ℕ
 
 abbrev pub countsOf : LadderResult → LadderCounts
-countsOf x = record { rungs = x .rungs }
+countsOf x = record { rungs = x .rungs; moved = x .state .moved }
 
 -- Ended or Stopped with its counts, or the refusal
 pub data LadderScanAnswer : Type 0 where
@@ -47,7 +49,7 @@ callLadderScan vars k table watchdog = elim (scanQuestions vars k table watchdog
 
 -- the counts in the struct Counts
 abbrev pub countsIn : CountsStruct → LadderCounts
-countsIn c = record { rungs = c .rungs }
+countsIn c = record { rungs = c .rungs; moved = c .moved }
 
 -- document 01's values for each case of the enum LadderScanned
 unfoldable pub ladderScannedAnswer : LadderScanned → LadderScanAnswer

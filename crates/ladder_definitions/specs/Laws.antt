@@ -7,3 +7,4 @@ pub mod Held
 pub mod Trees
 pub mod Calls
 pub mod Writes
+pub mod Answers

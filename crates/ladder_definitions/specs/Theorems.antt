@@ -1,5 +1,6 @@
 -- What is proved of the definitions of this crate, a theorem to a sentence; the proofs are in Laws. Assumes nothing.
-use Prim.Native.Nat.{ℕ, _*_, _≤_}
+use Prim.Native.Nat.{ℕ, _+_, _*_, _≤_}
+use native.Mathlib.Omega.{arith}
 use mathlib.Core.Path.{_≡_, refl, ap, _∙_}
 use mathlib.Core.Logic.{_↔_}
 use mathlib.Core.Option.{some}
@@ -7,24 +8,27 @@ use mathlib.Core.List.{List, [], _∷_}
 use lib.Dec.{T}
 use lib.ListN.{length}
 use Rattle.questions.specs.Tests.{all}
-use Rattle.questions.specs.Questions.{yes}
-use Rattle.questions.specs.Laws.Answers.{each-passed}
+use Rattle.questions.specs.Questions.{yes, mostRungWatchdog}
+use Rattle.questions.specs.Laws.Answers.{each-passed, watchdog-in-range}
 use Rattle.table.specs.State.{State, stateOf, beyondVariables, SameButScratch}
-use Rattle.table.specs.Halt.{Ended, Stopped}
+use Rattle.table.specs.Halt.{Halt, Ended, Stopped}
 use Rattle.table.specs.Questions.{question11, Legal}
-use Rattle.table.specs.Writes.{replay}
+use Rattle.table.specs.Writes.{replay, changes, WritesTell}
 use Rattle.table.specs.Laws.Alike.{alike-legal, alike-same}
+use Rattle.table.specs.Laws.Legal.{legal-table}
 use Rattle.table.specs.Laws.Replaying.{makes-bytes}
+use Rattle.table.specs.Laws.Changes.{makes-moved}
 use Rattle.ladder_definitions.specs.Tree.{Input, contact, contactn, Output, coil, coiln, jump, jumpn, setCoil, resetCoil, Rung, Ladder, rungAll, outputNames}
 use Rattle.ladder_definitions.specs.Meaning.{LadderResult, scanLadder}
 use Rattle.ladder_definitions.specs.Writes.{ladderWrites, mostRungWrites}
 use Rattle.ladder_definitions.specs.Standing.{Stands}
 use Rattle.ladder_definitions.specs.Kept.{Kept, encode, decode, inputFits, outputFits, inputKind, outputKind, contactSort, outputSort, kindSorts, kindSort, variableName, nameSorts, nameSort, namedSort}
 use Rattle.ladder_definitions.specs.Questions.{question5, question6, rungBelow, ladderOf, ladderAnswer, Accepted}
-use Rattle.ladder_definitions.specs.LadderScan.{LadderScanCall, callLadderScan}
+use Rattle.ladder_definitions.specs.LadderScan.{LadderCounts, LadderScanCall, callLadderScan, scanned}
 use Rattle.ladder_definitions.specs.Laws.Watchdog.{stopped-stands, stands-stopped, ended-stands, stands-ended}
 use Rattle.ladder_definitions.specs.Laws.Scratch.{scan-alike, scan-stays}
 use Rattle.ladder_definitions.specs.Laws.Calls.{call-alike, call-stays}
+use Rattle.ladder_definitions.specs.Laws.Answers.{asked, writes-tell, sum-few, rungs-few}
 use Rattle.ladder_definitions.specs.Laws.Accepting.{decode-encode, encode-decode, ladder-is, sized, accepted, accepting}
 use Rattle.ladder_definitions.specs.Laws.Writes.{ladder-makes, ladder-few}
 
@@ -87,18 +91,44 @@ ladder-replayed gs watchdog s = ap (λ t. t .bytes) (ladder-makes gs watchdog s)
 pub few-writes : (gs : Ladder) (watchdog : ℕ) (s : State) → question5 gs ≡ yes → length (ladderWrites gs watchdog s) ≤ mostRungWrites * scanLadder gs watchdog s .rungs
 few-writes gs watchdog s q5 = ladder-few gs watchdog s (sized gs q5 .words-a-rung)
 
+-- 02, Req 02: the sum of a scan from a legal table is the number of its writes that changed a variable's byte.
+pub ladder-sum : (gs : Ladder) (watchdog : ℕ) (s : State) → Legal s
+    → scanLadder gs watchdog s .state .moved ≡ s .moved + changes (s .vars) (ladderWrites gs watchdog s) (s .bytes)
+ladder-sum gs watchdog s legal = ap (λ t. t .moved) (ladder-makes gs watchdog s) ∙ makes-moved (ladderWrites gs watchdog s) s (legal-table s legal)
+
+-- The same of the call, with its table, wherever it is not refused.
+pub call-writes-tell : (vars : ℕ) (kept : Kept) (watchdog : ℕ) (table : List ℕ) (halt : Halt) (counts : LadderCounts)
+    → callLadderScan vars kept table watchdog .answer ≡ scanned halt counts
+    → WritesTell vars (ladderWrites (ladderOf kept) watchdog (stateOf vars table)) table (counts .moved) (callLadderScan vars kept table watchdog .table)
+call-writes-tell vars kept watchdog table halt counts e = writes-tell vars kept table watchdog halt counts e
+
+-- And its sum fits 32 bits: at most 64 for each rung entered, since an output takes a word, every output but one a rear-or, and the front a word at least;
+-- and at most 65,535 rungs are entered.
+pub record SumFits (counts : LadderCounts) : Type 0 where
+  pub a-rung : counts .moved ≤ mostRungWrites * counts .rungs
+  pub a-scan : counts .moved ≤ 4194240
+
+pub call-sum-fits : (vars : ℕ) (kept : Kept) (watchdog : ℕ) (table : List ℕ) (halt : Halt) (counts : LadderCounts)
+    → callLadderScan vars kept table watchdog .answer ≡ scanned halt counts → SumFits counts
+call-sum-fits vars kept watchdog table halt counts e =
+    let few = sum-few vars kept table watchdog halt counts e in
+    let rungs = rungs-few vars kept table watchdog halt counts e in
+    let most = watchdog-in-range mostRungWatchdog watchdog (asked vars kept table watchdog halt counts e .watchdog) in
+    record { a-rung = few; a-scan = omega arith }
+
 -- A ladder scan's answer, and all that it leaves but scratch, do not depend on scratch.
 pub record ScansSame (x y : LadderResult) : Type 0 where
   pub halt : x .halt ≡ y .halt
   pub rungs : x .rungs ≡ y .rungs
+  pub moved : x .state .moved ≡ y .state .moved
   pub same : SameButScratch (x .state) (y .state)
 
 pub scratch-not-read : (gs : Ladder) (watchdog : ℕ) (s t : State) → question6 (t .vars) gs ≡ yes → Legal s → Legal t
-    → SameButScratch s t → ScansSame (scanLadder gs watchdog s) (scanLadder gs watchdog t)
+    → SameButScratch s t → s .moved ≡ t .moved → ScansSame (scanLadder gs watchdog s) (scanLadder gs watchdog t)
 unfolding question6
-scratch-not-read gs watchdog s t q6 hs ht e =
-    let x = scan-alike (t .vars) gs watchdog s t (each-passed 6 (rungBelow (t .vars)) gs q6) (alike-legal s t hs ht e) in
-    record { halt = x .halt; rungs = x .rungs; same = alike-same (x .state) }
+scratch-not-read gs watchdog s t q6 hs ht e m =
+    let x = scan-alike (t .vars) gs watchdog s t (each-passed 6 (rungBelow (t .vars)) gs q6) (alike-legal s t hs ht e m) in
+    record { halt = x .halt; rungs = x .rungs; moved = x .state .same-moved; same = alike-same (x .state) }
 
 -- Scratch stays, and with it every byte from V on.
 pub scratch-not-written : (gs : Ladder) (watchdog : ℕ) (s : State) → question6 (s .vars) gs ≡ yes → beyondVariables (scanLadder gs watchdog s .state) ≡ beyondVariables s

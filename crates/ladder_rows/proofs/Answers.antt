@@ -17,9 +17,9 @@ use Rattle.rows.specs.Parts.{gathered}
 use Rattle.rows.specs.Laws.Gathered.{gathered-whole}
 use Rattle.rows.specs.declared.Rows.{Rows}
 use Rattle.ladder_definitions.specs.LadderScan.{scanQuestions, callLadderScan, LadderScanDone}
-use Rattle.ladder_walk.specs.Laws.Scans.{scan-first, scan-refuses, scan-scans}
+use Rattle.ladder_walk.specs.Laws.Scans.{scan-first, scan-refuses, scan-fits, scan-scans}
 use Rattle.ladder_definitions.specs.declared.LadderScanned.{LadderScanned}
-use Rattle.ladder_rows.specs.Parts.{longHolds, LongRefused, RowAsked, RowScanned}
+use Rattle.ladder_rows.specs.Parts.{longHolds, LongRefused, RowAsked, RowReady, RowScanned}
 
 module _ (vars : ℕ) (ws : List ℕ) (rows : Rows) (long : Bool) (t : List ℕ) (w : ℕ) where
   -- ---- the questions
@@ -49,8 +49,11 @@ module _ (vars : ℕ) (ws : List ℕ) (rows : Rows) (long : Bool) (t : List ℕ)
 
   -- ---- the answer
 
+  pub row-ready : (v : Verdict) (rs : List RungRecord) → RowAsked vars ws rows long t w v → rows ≡ gathered rs → long ≡ longHolds ws rs → RowReady v ws w
+  row-ready v rs asked e l = record { fits = λ q. scan-fits vars (record { words = ws; records = rs }) t w (verdict-accepted (asked .same rs e l) q) }
+
   pub row-done : (v : Verdict) (rs : List RungRecord) (r : LadderScanned) (u : List ℕ) → RowAsked vars ws rows long t w v → rows ≡ gathered rs → long ≡ longHolds ws rs
-      → RowScanned v ws rs t w r u → LadderScanDone (callLadderScan vars (record { words = ws; records = rs }) t w) r u
+      → RowScanned v vars ws rs t w r u → LadderScanDone (callLadderScan vars (record { words = ws; records = rs }) t w) r u
   row-done v rs r u asked e l scanned = go v refl
     where
       answer : verdictAnswer v ≡ scanQuestions vars (record { words = ws; records = rs }) t w

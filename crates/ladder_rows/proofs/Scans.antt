@@ -20,7 +20,7 @@ use Rattle.ladder_walk.specs.Laws.Scanning.{Scanning, scanning-first, scan-ende
 use Rattle.ladder_definitions.specs.declared.LadderScanned.the-variants.{Ended as EndedCase, Stopped as StoppedCase, Refused as RefusedScan}
 use Rattle.ladder_walk.specs.declared.Ran.{Ran}
 use Rattle.ladder_walk.specs.declared.Ran.the-variants.{Onward, Jumped}
-use Rattle.ladder_rows.specs.Parts.{goesOn, accepts, begun, wayOf, Entered, arrivesAt, arrived, answered, RowScanned}
+use Rattle.ladder_rows.specs.Parts.{goesOn, accepts, begun, wayOf, Entered, arrivesAt, arrived, answered, RowReady, RowScanned}
 use Rattle.ladder_rows.specs.declared.Standing.{Standing}
 use Rattle.ladder_rows.specs.declared.Way.{Way}
 
@@ -70,22 +70,22 @@ unfolding goesOn
 goes-here rung n entered w h = rw (lt-leb n rung h)
 
 module _ (v : Verdict) (n w : ℕ) where
-  pub begun-refused : (x : Refusal) → v ≡ Refused x → record { entered = 0; rung = 0; on = false } ≡ begun v n w
+  pub begun-refused : (x : Refusal) → v ≡ Refused x → record { entered = 0; moved = 0; rung = 0; on = false } ≡ begun v n w
   unfolding begun accepts
   begun-refused x e = rw e
 
-  pub begun-accepted : v ≡ Accepted → (on : Bool) → on ≡ goesOn 0 n 0 w → record { entered = 0; rung = 0; on = on } ≡ begun v n w
+  pub begun-accepted : v ≡ Accepted → (on : Bool) → on ≡ goesOn 0 n 0 w → record { entered = 0; moved = 0; rung = 0; on = on } ≡ begun v n w
   unfolding begun accepts
   begun-accepted e on q = rw (e, q)
 
-module _ (ws : List ℕ) (r : RungRecord) (n : ℕ) (t u : List ℕ) (ran : Ran) (run : RungRun ws (r .offset) t ran u) where
-  pub entered-onward : (k : ℕ) → ran ≡ Onward k → Entered ws r n t (record { jumped = false; label = 0; upto = 0 }) u
+module _ (vars : ℕ) (ws : List ℕ) (r : RungRecord) (n : ℕ) (t : List ℕ) (moved : ℕ) (u : List ℕ) (ran : Ran) (run : RungRun vars ws (r .offset) t moved ran u) where
+  pub entered-onward : (k m : ℕ) → ran ≡ Onward k m → Entered vars ws r n t moved (record { jumped = false; label = 0; upto = 0; moved = m }) u
   unfolding wayOf
-  entered-onward k e = record { ran = ran; run = run; way = rw (e, wayOf) }
+  entered-onward k m e = record { ran = ran; run = run; way = rw (e, wayOf) }
 
-  pub entered-jumped : (l : ℕ) → ran ≡ Jumped l → Entered ws r n t (record { jumped = true; label = l; upto = n }) u
+  pub entered-jumped : (l m : ℕ) → ran ≡ Jumped l m → Entered vars ws r n t moved (record { jumped = true; label = l; upto = n; moved = m }) u
   unfolding wayOf
-  entered-jumped l e = record { ran = ran; run = run; way = rw (e, wayOf) }
+  entered-jumped l m e = record { ran = ran; run = run; way = rw (e, wayOf) }
 
 module _ (at : Standing) (way : Way) (found rung : ℕ) where
   pub arrives : ((way .jumped ≡ true) × (rung ≡ found)) ⊎ ((way .jumped ≡ false) × (rung ≡ at .rung + 1)) → rung ≡ arrivesAt at way found
@@ -94,7 +94,7 @@ module _ (at : Standing) (way : Way) (found rung : ℕ) where
   arrives (inr e) = rw (e .0, arrivesAt) (e .1)
 
   pub arrived-there : (n w : ℕ) → rung ≡ arrivesAt at way found → (on : Bool) → on ≡ goesOn rung n (at .entered + 1) w
-      → record { entered = at .entered + 1; rung = rung; on = on } ≡ arrived at way found n w
+      → record { entered = at .entered + 1; moved = way .moved; rung = rung; on = on } ≡ arrived at way found n w
   unfolding arrived
   arrived-there n w e on q = rw (q, e)
 
@@ -104,36 +104,36 @@ module _ (v : Verdict) (at : Standing) (n : ℕ) where
   answer-refused x e = rw e
 
   module _ (e : v ≡ Accepted) where
-    pub answer-ended : n ≤ at .rung → EndedCase (record { rungs = at .entered }) ≡ answered v at n
+    pub answer-ended : n ≤ at .rung → EndedCase (record { rungs = at .entered; moved = at .moved }) ≡ answered v at n
     unfolding answered
     answer-ended h = rw e (rw (le-leb n (at .rung) h, answered))
 
-    pub answer-stopped : at .rung < n → StoppedCase (record { rungs = at .entered }) ≡ answered v at n
+    pub answer-stopped : at .rung < n → StoppedCase (record { rungs = at .entered; moved = at .moved }) ≡ answered v at n
     unfolding answered
     answer-stopped h = rw e (rw (lt-leb n (at .rung) h, answered))
 
 -- ---- the loop's invariant
 
-pub record Going (v : Verdict) (ws : List ℕ) (rs : List RungRecord) (t : List ℕ) (w : ℕ) (u : List ℕ) (at : Standing) : Type 0 where
+pub record Going (v : Verdict) (vars : ℕ) (ws : List ℕ) (rs : List RungRecord) (t : List ℕ) (w : ℕ) (u : List ℕ) (at : Standing) : Type 0 where
   pub on-is : at .on ≡ (accepts v && goesOn (at .rung) (length rs) (at .entered) w)
   pub within : at .entered ≤ w
   pub long : length u ≡ length t
   pub untouched : (x : Refusal) → v ≡ Refused x → u ≡ t
-  pub going : v ≡ Accepted → Scanning ws (labels rs) (offsets rs) t w u (at .entered) (at .rung)
+  pub going : v ≡ Accepted → Scanning vars ws (labels rs) (offsets rs) t w u (at .entered) (at .moved) (at .rung)
 
-module _ (v : Verdict) (ws : List ℕ) (rs : List RungRecord) (t : List ℕ) (w : ℕ) where
-  pub going-first : Going v ws rs t w t (begun v (length rs) w)
+module _ (v : Verdict) (vars : ℕ) (ws : List ℕ) (rs : List RungRecord) (t : List ℕ) (w : ℕ) where
+  pub going-first : Going v vars ws rs t w t (begun v (length rs) w)
   unfolding begun
   going-first = record {
     on-is = refl;
     within = omega arith;
     long = refl;
     untouched = λ x e. refl;
-    going = λ e. scanning-first ws (labels rs) (offsets rs) t w;
+    going = λ e. scanning-first vars ws (labels rs) (offsets rs) t w;
   }
 
-  module _ (u : List ℕ) (at : Standing) (g : Going v ws rs t w u at) where
-    module _ (on : at .on ≡ true) where
+  module _ (u : List ℕ) (at : Standing) (g : Going v vars ws rs t w u at) where
+    module _ (ready : RowReady v ws w) (on : at .on ≡ true) where
       verdict : v ≡ Accepted
       verdict = accepts-taken v (and-left _ _ (sym (g .on-is) ∙ on))
 
@@ -153,21 +153,28 @@ module _ (v : Verdict) (ws : List ℕ) (rs : List RungRecord) (t : List ℕ) (w 
           fits : {a b c : ℕ} → a < b → b < c → a + 1 < c
           fits p q = omega arith
 
-      module _ (way : Way) (u′ : List ℕ) (e : Entered ws (recordAt rs (at .rung)) (length rs) u way u′) where
+      -- nor does the sum
+      pub going-sum : at .moved + length ws < 2 ^ 32
+      going-sum =
+          let few = g .going verdict .few in
+          let fits = ready .fits verdict in
+          omega (arith, few, fits .words, fits .rungs, going-needs .1)
+
+      module _ (way : Way) (u′ : List ℕ) (e : Entered vars ws (recordAt rs (at .rung)) (length rs) u (at .moved) way u′) where
         pub going-upto : way .upto ≤ length rs
         unfolding wayOf
         going-upto = go (e .ran) (e .way)
           where
             go : (ran : Ran) → way ≡ wayOf (length rs) ran → way .upto ≤ length rs
-            go (Onward k) q = let n = ap (λ s. s .upto) q in omega arith
-            go (Jumped l) q = let n = ap (λ s. s .upto) q in omega arith
+            go (Onward k m) q = let n = ap (λ s. s .upto) q in omega arith
+            go (Jumped l m) q = let n = ap (λ s. s .upto) q in omega arith
 
         pub going-nearer : (found : ℕ) → w - arrived at way found (length rs) w .entered < w - at .entered
         unfolding arrived
         going-nearer found = let n = going-needs .1 in omega arith
 
         pub going-next : (stays : length u′ ≡ length u) (found : ℕ) → found ≡ search (way .label) (take (way .upto) (labels rs))
-            → Going v ws rs t w u′ (arrived at way found (length rs) w)
+            → Going v vars ws rs t w u′ (arrived at way found (length rs) w)
         unfolding accepts arrived wayOf arrivesAt
         going-next stays found f =
             let n = going-needs in
@@ -188,19 +195,23 @@ module _ (v : Verdict) (ws : List ℕ) (rs : List RungRecord) (t : List ℕ) (w 
             offset : recordAt rs (at .rung) .offset ≡ getD (offsets rs) (at .rung) 0
             offset = sym (List·getD-map (λ (r : RungRecord). r .offset) rs (at .rung) noRecord)
 
-            go : (ran : Ran) → RungRun ws (recordAt rs (at .rung) .offset) u ran u′ → way ≡ wayOf (length rs) ran
-                → Scanning ws (labels rs) (offsets rs) t w u′ (at .entered + 1) (arrivesAt at way found)
-            go (Onward k) run q =
+            go : (ran : Ran) → RungRun vars ws (recordAt rs (at .rung) .offset) u (at .moved) ran u′ → way ≡ wayOf (length rs) ran
+                → Scanning vars ws (labels rs) (offsets rs) t w u′ (at .entered + 1) (way .moved) (arrivesAt at way found)
+            go (Onward k m) run q =
                 let p : arrivesAt at way found ≡ at .rung + 1 = ap (λ s. arrivesAt at s found) q in
-                rw p (scan-onward ws (labels rs) (offsets rs) t w u (at .entered) (at .rung) (g .going verdict) inside (next .before) _ offset (Onward k) u′ run stays k refl)
-            go (Jumped l) run q =
+                let sum : way .moved ≡ m = ap (λ s. s .moved) q in
+                rw (p, sum) (scan-onward vars ws (labels rs) (offsets rs) t w u (at .entered) (at .moved) (at .rung) (g .going verdict) (ready .fits verdict .words) inside (next .before) _ offset
+                (Onward k m) u′ run stays k m refl)
+            go (Jumped l m) run q =
                 let p : arrivesAt at way found ≡ found = ap (λ s. arrivesAt at s found) q in
+                let sum : way .moved ≡ m = ap (λ s. s .moved) q in
                 let n = length-map rs (λ (r : RungRecord). r .label) in
                 let all : take (length rs) (labels rs) ≡ labels rs = take-all (length rs) (labels rs) (omega arith) in
                 let z : found ≡ search l (labels rs) = f ∙ ap (λ s. search (s .label) (take (s .upto) (labels rs))) q ∙ ap (λ ls. search l ls) all in
-                rw p (scan-jumped ws (labels rs) (offsets rs) t w u (at .entered) (at .rung) (g .going verdict) inside (next .before) _ offset (Jumped l) u′ run stays l found refl z)
+                rw (p, sum) (scan-jumped vars ws (labels rs) (offsets rs) t w u (at .entered) (at .moved) (at .rung) (g .going verdict) (ready .fits verdict .words) inside (next .before) _ offset
+                (Jumped l m) u′ run stays l m found refl z)
 
-    pub going-ends : at .on ≡ false → RowScanned v ws rs t w (answered v at (length rs)) u
+    pub going-ends : at .on ≡ false → RowScanned v vars ws rs t w (answered v at (length rs)) u
     unfolding answered accepts goesOn
     going-ends off = record {
       refused = λ x e. (ap (λ v. answered v at (length rs)) e, g .untouched x e);
@@ -213,13 +224,13 @@ module _ (v : Verdict) (ws : List ℕ) (rs : List RungRecord) (t : List ℕ) (w 
         many : length (labels rs) ≡ length rs
         many = length-map rs (λ r. r .label)
 
-        go : Scanning ws (labels rs) (offsets rs) t w u (at .entered) (at .rung) → goesOn (at .rung) (length rs) (at .entered) w ≡ false
-            → (b : Bool) → leb (length rs) (at .rung) ≡ b → Scanned ws (labels rs) (offsets rs) t w (answered Accepted at (length rs)) u
+        go : Scanning vars ws (labels rs) (offsets rs) t w u (at .entered) (at .moved) (at .rung) → goesOn (at .rung) (length rs) (at .entered) w ≡ false
+            → (b : Bool) → leb (length rs) (at .rung) ≡ b → Scanned vars ws (labels rs) (offsets rs) t w (answered Accepted at (length rs)) u
         go s h true q =
             let n = many in
             let l = leb→le (length rs) (at .rung) (rw q tt) in
-            rw (q, answered) (scan-ended ws (labels rs) (offsets rs) t w u (at .entered) (at .rung) s (omega arith))
+            rw (q, answered) (scan-ended vars ws (labels rs) (offsets rs) t w u (at .entered) (at .moved) (at .rung) s (omega arith))
         go s h false q =
             let n = many in
             let l = nleb→lt (length rs) (at .rung) (rw q tt) in
-            rw (q, answered) (scan-stopped ws (labels rs) (offsets rs) t w u (at .entered) (at .rung) s (omega arith) (eqb→eq (at .entered) w (rw (not-false (eqb (at .entered) w) (rw q at h)) tt)))
+            rw (q, answered) (scan-stopped vars ws (labels rs) (offsets rs) t w u (at .entered) (at .moved) (at .rung) s (omega arith) (eqb→eq (at .entered) w (rw (not-false (eqb (at .entered) w) (rw q at h)) tt)))

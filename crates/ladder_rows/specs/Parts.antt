@@ -18,7 +18,7 @@ use Rattle.ladder_definitions.specs.Questions.{holdsLadder, ladderAnswer}
 use Rattle.ladder_definitions.specs.LadderScan.{scanQuestions}
 use Rattle.ladder_kept.specs.Pending.{completes}
 use Rattle.ladder_walk.specs.Walking.{RungRun}
-use Rattle.ladder_walk.specs.Scanned.{Scanned}
+use Rattle.ladder_walk.specs.Scanned.{WithinLimits, Scanned}
 use Rattle.ladder_definitions.specs.declared.LadderScanned.{LadderScanned}
 use Rattle.ladder_definitions.specs.declared.LadderScanned.the-variants.{Ended as EndedCase, Stopped as StoppedCase, Refused as RefusedScan}
 use Rattle.ladder_walk.specs.declared.Ran.{Ran}
@@ -68,28 +68,35 @@ accepts Accepted = true
 accepts (Refused x) = false
 
 unfoldable pub begun : Verdict → ℕ → ℕ → Standing
-begun v n w = record { entered = 0; rung = 0; on = accepts v && goesOn 0 n 0 w }
+begun v n w = record { entered = 0; moved = 0; rung = 0; on = accepts v && goesOn 0 n 0 w }
 
 -- where a rung leads in a row of n records
 unfoldable pub wayOf : ℕ → Ran → Way
-wayOf n (Onward k) = record { jumped = false; label = 0; upto = 0 }
-wayOf n (Jumped l) = record { jumped = true; label = l; upto = n }
+wayOf n (Onward k m) = record { jumped = false; label = 0; upto = 0; moved = m }
+wayOf n (Jumped l m) = record { jumped = true; label = l; upto = n; moved = m }
 
-pub record Entered (ws : List ℕ) (r : RungRecord) (n : ℕ) (t : List ℕ) (s : Way) (u : List ℕ) : Type 0 where
+pub record Entered (vars : ℕ) (ws : List ℕ) (r : RungRecord) (n : ℕ) (t : List ℕ) (moved : ℕ) (s : Way) (u : List ℕ) : Type 0 where
   pub ran : Ran
-  pub run : RungRun ws (r .offset) t ran u
+  pub run : RungRun vars ws (r .offset) t moved ran u
   pub way : s ≡ wayOf n ran
 
 unfoldable pub arrivesAt : Standing → Way → ℕ → ℕ
 arrivesAt at way found = elim (way .jumped) [ true ↦ found | false ↦ at .rung + 1 ]
 
 unfoldable pub arrived : Standing → Way → ℕ → ℕ → ℕ → Standing
-arrived at way found n w = record { entered = at .entered + 1; rung = arrivesAt at way found; on = goesOn (arrivesAt at way found) n (at .entered + 1) w }
+arrived at way found n w = record { entered = at .entered + 1; moved = way .moved; rung = arrivesAt at way found; on = goesOn (arrivesAt at way found) n (at .entered + 1) w }
 
 unfoldable pub answered : Verdict → Standing → ℕ → LadderScanned
 answered (Refused x) at n = RefusedScan x
-answered Accepted at n = elim (leb n (at .rung)) [ true ↦ EndedCase (record { rungs = at .entered }) | false ↦ StoppedCase (record { rungs = at .entered }) ]
+answered Accepted at n = elim (leb n (at .rung)) [
+  | true ↦ EndedCase (record { rungs = at .entered; moved = at .moved })
+  | false ↦ StoppedCase (record { rungs = at .entered; moved = at .moved })
+]
 
-pub record RowScanned (v : Verdict) (ws : List ℕ) (rs : List RungRecord) (t : List ℕ) (w : ℕ) (r : LadderScanned) (u : List ℕ) : Type 0 where
+-- where no question got a "no", the sum fits
+pub record RowReady (v : Verdict) (ws : List ℕ) (w : ℕ) : Type 0 where
+  pub fits : v ≡ Accepted → WithinLimits ws w
+
+pub record RowScanned (v : Verdict) (vars : ℕ) (ws : List ℕ) (rs : List RungRecord) (t : List ℕ) (w : ℕ) (r : LadderScanned) (u : List ℕ) : Type 0 where
   pub refused : (x : Refusal) → v ≡ Refused x → (r ≡ RefusedScan x) × (u ≡ t)
-  pub scanned : v ≡ Accepted → Scanned ws (labels rs) (offsets rs) t w r u
+  pub scanned : v ≡ Accepted → Scanned vars ws (labels rs) (offsets rs) t w r u

@@ -6,7 +6,7 @@ ghost use Prim.Native.Nat.{_+_, _≤_, _<_, _^_};
 ghost use Rattle.rows.specs.Rows.{recordOf, recordsOf};
 ghost use Rattle.ladder_definitions.specs.LadderScan.{callLadderScan, LadderScanDone};
 ghost use Rattle.ladder_rows.specs.Parts.{longHolds, LongRefused, laidFirst, laidNext, laidWhole, askedTo, RowAsked};
-ghost use Rattle.ladder_rows.specs.Parts.{Entered, goesOn, begun, arrived, answered, RowScanned};
+ghost use Rattle.ladder_rows.specs.Parts.{Entered, goesOn, begun, arrived, answered, RowReady, RowScanned};
 use ladder_definitions::LadderScanned;
 use ladder_walk::Ran;
 use questions::Refusal;
@@ -20,18 +20,21 @@ pub struct Laid {
     pub whole: bool,
 }
 
-// Where a scan stands: the rungs entered, the rung that comes next, and whether it is to be entered.
+// Where a scan stands: the rungs entered, how many times variables were turned over, the rung that comes next, and whether to enter it.
 pub struct Standing {
     pub entered: u32,
+    pub moved: u32,
     pub rung: usize,
     pub on: bool,
 }
 
-// Where a rung leads: to a label, which is to be searched among the first `upto` records, or onward.
+// Where a rung leads: to a label, which is to be searched among the first `upto` records, or onward. And how many times variables were
+// turned over by then.
 pub struct Way {
     pub jumped: bool,
     pub label: u32,
     pub upto: usize,
+    pub moved: u32,
 }
 
 // ---- question 4 of a row of more than 256 records
@@ -155,6 +158,7 @@ fn begin(verdict: Verdict, n: usize, watchdog: u32) -> Standing
     };
     Standing {
         entered: 0,
+        moved: 0,
         rung: 0,
         on,
     }
@@ -171,19 +175,25 @@ fn goes_on(rung: usize, n: usize, entered: u32, watchdog: u32) -> bool
 }
 
 // A rung is run, and leads on.
-fn enter(words: &[u32], r: Rung, n: usize, table: &mut [u8]) -> Way
-    ensures { λ s. ⌜ Entered (now (words .entry)) (recordOf r) n (now (table .entry)) s (now (table .exit)) ⌝ }
+fn enter(vars: u32, words: &[u32], r: Rung, n: usize, table: &mut [u8], moved: u32) -> Way
+    requires { ⌜ moved + length (now words) < 2 ^ 32 ⌝ }
+    ensures { λ s. ⌜ Entered vars (now (words .entry)) (recordOf r) n (now (table .entry)) moved s (now (table .exit)) ⌝ }
 {
-    match ladder_walk::run_rung(words, r.offset as usize, table) {
-        Ran::Onward(_) => Way {
+    match ladder_walk::run_rung(vars, words, r.offset as usize, table, moved) {
+        Ran::Onward {
+            next: _,
+            moved: sum,
+        } => Way {
             jumped: false,
             label: 0,
             upto: 0,
+            moved: sum,
         },
-        Ran::Jumped(label) => Way {
+        Ran::Jumped { label, moved: sum } => Way {
             jumped: true,
             label,
             upto: n,
+            moved: sum,
         },
     }
 }
@@ -197,6 +207,7 @@ fn arrive(at: Standing, way: Way, found: usize, n: usize, watchdog: u32) -> Stan
     let rung = if way.jumped { found } else { at.rung + 1 };
     Standing {
         entered,
+        moved: way.moved,
         rung,
         on: goes_on(rung, n, entered, watchdog),
     }
@@ -209,7 +220,10 @@ fn answer(verdict: Verdict, at: Standing, n: usize) -> LadderScanned
     match verdict {
         Verdict::Refused(refusal) => LadderScanned::Refused(refusal),
         Verdict::Accepted => {
-            let counts = ladder_definitions::Counts { rungs: at.entered };
+            let counts = ladder_definitions::Counts {
+                rungs: at.entered,
+                moved: at.moved,
+            };
             if n <= at.rung {
                 LadderScanned::Ended(counts)
             } else {
@@ -222,17 +236,26 @@ fn answer(verdict: Verdict, at: Standing, n: usize) -> LadderScanned
 // The scan, if no question got a "no".
 fn run(
     verdict: Verdict,
+    vars: u32,
     words: &[u32],
     row: &[Rung],
     table: &mut [u8],
     watchdog: u32,
 ) -> LadderScanned
-    ensures { λ r. ⌜ RowScanned verdict (now (words .entry)) (recordsOf (now (row .entry))) (now (table .entry)) watchdog
+    requires { ⌜ RowReady verdict (now words) watchdog ⌝ }
+    ensures { λ r. ⌜ RowScanned verdict vars (now (words .entry)) (recordsOf (now (row .entry))) (now (table .entry)) watchdog
         r (now (table .exit)) ⌝ }
 {
     let mut at = begin(verdict, row.len(), watchdog);
     while at.on {
-        let way = enter(words, rows::rung_at(row, at.rung), row.len(), table);
+        let way = enter(
+            vars,
+            words,
+            rows::rung_at(row, at.rung),
+            row.len(),
+            table,
+            at.moved,
+        );
         let found = rows::look_up(row, way.label, way.upto);
         at = arrive(at, way, found, row.len(), watchdog);
     }
@@ -253,5 +276,5 @@ pub fn ladder_scan(
 {
     let long = long_holds(row, words);
     let verdict = ask(vars, words, rows::gather(row), long, table, watchdog);
-    run(verdict, words, row, table, watchdog)
+    run(verdict, vars, words, row, table, watchdog)
 }

@@ -1,12 +1,20 @@
 -- What the functions of this crate promise to each other. Nothing here is a sentence of document 01. Assumes nothing.
-use Prim.Native.Nat.{ℕ}
+use Prim.Native.Nat.{ℕ, _≤_}
 use mathlib.Core.List.{List}
-use Rattle.table.specs.State.{State, withBytes}
+use lib.ListN.{length}
+use Rattle.questions.specs.Questions.{mostRungWatchdog}
+use Rattle.table.specs.State.{stateOf}
 use Rattle.ladder_definitions.specs.Tree.{Ladder}
 use Rattle.ladder_definitions.specs.Meaning.{scanLadder}
+use Rattle.ladder_definitions.specs.Questions.{mostWords}
 use Rattle.ladder_definitions.specs.Held.{LadderHeld}
 use Rattle.ladder_definitions.specs.LadderScan.{scanEnds, LadderScanDone}
 use Rattle.ladder_definitions.specs.declared.LadderScanned.{LadderScanned}
 
-pub record Scanned (ws ls os t : List ℕ) (watchdog : ℕ) (r : LadderScanned) (u : List ℕ) : Type 0 where
-  pub same : (gs : Ladder) → LadderHeld ws ls os gs → (s : State) → LadderScanDone (scanEnds (scanLadder gs watchdog (withBytes s t))) r u
+-- what questions 5 and 12 take. A rung entered turns over as many variables as there are words, at most: so the sum of a scan stays below 2^32.
+pub record WithinLimits (ws : List ℕ) (watchdog : ℕ) : Type 0 where
+  pub words : length ws ≤ mostWords
+  pub rungs : watchdog ≤ mostRungWatchdog
+
+pub record Scanned (vars : ℕ) (ws ls os t : List ℕ) (watchdog : ℕ) (r : LadderScanned) (u : List ℕ) : Type 0 where
+  pub same : (gs : Ladder) → LadderHeld ws ls os gs → LadderScanDone (scanEnds (scanLadder gs watchdog (stateOf vars t))) r u

@@ -1,5 +1,7 @@
 // A rung worked along the prefix order of its kept words: a tree is its root word, then its first part, then its second.
 // Words that hold no tree are passed over from the first that has no place there.
+ghost use Prim.Native.Nat.{_+_, _-_, _<_, _^_};
+ghost use lib.ListN.{length};
 ghost use Rattle.ladder_walk.specs.Walking.{ContactWorked, PartsJoined, RootsPassed, FrontWorked, OutputRun, RearRun, RungRun};
 use ladder_kinds::KindSort;
 
@@ -11,10 +13,10 @@ pub struct Worked {
     pub next: usize,
 }
 
-// Past a rear, at the position after its words, or away by a jump to a label.
+// Past a rear, at the position after its words, or away by a jump to a label; and how many times variables have been turned over.
 pub enum Ran {
-    Onward(usize),
-    Jumped(u32),
+    Onward { next: usize, moved: u32 },
+    Jumped { label: u32, moved: u32 },
 }
 
 // The contact at a position; where none stands there, the position stays.
@@ -92,71 +94,80 @@ fn front_at(words: &[u32], from: usize, table: &[u8]) -> Worked
 }
 
 // The output of a word, with a power: on to the position after the word, or away by a jump to a label.
-fn run_output(word: u32, next: usize, power: bool, table: &mut [u8]) -> Ran
-    ensures { λ r. ⌜ OutputRun word next power (now (table .entry)) r (now (table .exit)) ⌝ }
+fn run_output(vars: u32, word: u32, next: usize, power: bool, table: &mut [u8], moved: u32) -> Ran
+    requires { ⌜ moved + 1 < 2 ^ 32 ⌝ }
+    ensures { λ r. ⌜ OutputRun vars word next power (now (table .entry)) moved r (now (table .exit)) ⌝ }
 {
     let operand = word % rungs::OPERANDS;
     match word / rungs::OPERANDS {
         ladder_kinds::COIL => {
-            table::write(table, operand as usize, power);
-            Ran::Onward(next)
+            let sum = table::write(vars, table, operand as usize, power, moved);
+            Ran::Onward { next, moved: sum }
         }
         ladder_kinds::NEGATED_COIL => {
-            table::write(table, operand as usize, !power);
-            Ran::Onward(next)
+            let sum = table::write(vars, table, operand as usize, !power, moved);
+            Ran::Onward { next, moved: sum }
         }
         ladder_kinds::JUMP => {
             if power {
-                Ran::Jumped(operand)
+                Ran::Jumped {
+                    label: operand,
+                    moved,
+                }
             } else {
-                Ran::Onward(next)
+                Ran::Onward { next, moved }
             }
         }
         ladder_kinds::NEGATED_JUMP => {
             if power {
-                Ran::Onward(next)
+                Ran::Onward { next, moved }
             } else {
-                Ran::Jumped(operand)
+                Ran::Jumped {
+                    label: operand,
+                    moved,
+                }
             }
         }
         ladder_kinds::SET_COIL => {
-            table::write_if(table, operand as usize, power, true);
-            Ran::Onward(next)
+            let sum = table::write_if(vars, table, operand as usize, power, true, moved);
+            Ran::Onward { next, moved: sum }
         }
         ladder_kinds::RESET_COIL => {
-            table::write_if(table, operand as usize, power, false);
-            Ran::Onward(next)
+            let sum = table::write_if(vars, table, operand as usize, power, false, moved);
+            Ran::Onward { next, moved: sum }
         }
-        _ => Ran::Onward(next),
+        _ => Ran::Onward { next, moved },
     }
 }
 
-// The rear whose words begin at a position, with a power.
-fn rear_at(words: &[u32], at: usize, power: bool, table: &mut [u8]) -> Ran
-    ensures { λ r. ⌜ RearRun (now (words .entry)) at power (now (table .entry)) r (now (table .exit)) ⌝ }
+// The rear whose words begin at a position, with a power. Each output has a word of its own: the sum grows by the words left, at most.
+fn rear_at(vars: u32, words: &[u32], at: usize, power: bool, table: &mut [u8], moved: u32) -> Ran
+    requires { ⌜ moved + (length (now words) - at) < 2 ^ 32 ⌝ }
+    ensures { λ r. ⌜ RearRun vars (now (words .entry)) at power (now (table .entry)) moved r (now (table .exit)) ⌝ }
 {
     let word = rungs::word_at(words, at);
     match ladder_kinds::sort_of(word / rungs::OPERANDS) {
         // Returned at once: as the value of the match it would take ten machine instructions more.
         KindSort::Output => {
-            return run_output(word, at + 1, power, table);
+            return run_output(vars, word, at + 1, power, table, moved);
         }
         KindSort::RearAnd => {
             let front = front_at(words, at + 1, table);
-            rear_at(words, front.next, power & front.value, table)
+            rear_at(vars, words, front.next, power & front.value, table, moved)
         }
-        KindSort::RearOr => match rear_at(words, at + 1, power, table) {
-            Ran::Onward(next) => rear_at(words, next, power, table),
-            Ran::Jumped(label) => Ran::Jumped(label),
+        KindSort::RearOr => match rear_at(vars, words, at + 1, power, table, moved) {
+            Ran::Onward { next, moved: sum } => rear_at(vars, words, next, power, table, sum),
+            Ran::Jumped { label, moved: sum } => Ran::Jumped { label, moved: sum },
         },
-        _ => Ran::Onward(at),
+        _ => Ran::Onward { next: at, moved },
     }
 }
 
 // The rung whose words begin at a position.
-pub fn run_rung(words: &[u32], at: usize, table: &mut [u8]) -> Ran
-    ensures { λ r. ⌜ RungRun (now (words .entry)) at (now (table .entry)) r (now (table .exit)) ⌝ }
+pub fn run_rung(vars: u32, words: &[u32], at: usize, table: &mut [u8], moved: u32) -> Ran
+    requires { ⌜ moved + (length (now words) - at) < 2 ^ 32 ⌝ }
+    ensures { λ r. ⌜ RungRun vars (now (words .entry)) at (now (table .entry)) moved r (now (table .exit)) ⌝ }
 {
     let front = front_at(words, at, table);
-    rear_at(words, front.next, front.value, table)
+    rear_at(vars, words, front.next, front.value, table, moved)
 }

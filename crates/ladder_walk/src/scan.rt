@@ -1,36 +1,51 @@
 // One scan of a ladder: document 01, "What a ladder does".
-ghost use Rattle.ladder_walk.specs.Scanned.{Scanned};
+ghost use Rattle.ladder_walk.specs.Scanned.{WithinLimits, Scanned};
 use crate::Ran;
 use ladder_definitions::Counts;
 use ladder_definitions::LadderScanned;
 
 // A scan with a rung watchdog.
 pub fn run(
+    vars: u32,
     words: &[u32],
     labels: &[u16],
     offsets: &[u32],
     table: &mut [u8],
     watchdog: u32,
 ) -> LadderScanned
-    ensures { λ r. ⌜ Scanned (now (words .entry)) (now (labels .entry)) (now (offsets .entry)) (now (table .entry)) watchdog
+    requires { ⌜ WithinLimits (now words) watchdog ⌝ }
+    ensures { λ r. ⌜ Scanned vars (now (words .entry)) (now (labels .entry)) (now (offsets .entry)) (now (table .entry)) watchdog
         r (now (table .exit)) ⌝ }
 {
     let mut entered: u32 = 0;
+    let mut moved: u32 = 0;
     let mut rung: usize = 0;
     loop {
+        let counts = Counts {
+            rungs: entered,
+            moved,
+        };
         if labels.len() <= rung {
-            return LadderScanned::Ended(Counts { rungs: entered });
+            return LadderScanned::Ended(counts);
         }
         if entered == watchdog {
-            return LadderScanned::Stopped(Counts { rungs: entered });
+            return LadderScanned::Stopped(counts);
         }
         entered += 1;
         let start = rungs::word_at(offsets, rung) as usize;
-        match crate::run_rung(words, start, table) {
-            Ran::Onward(_) => {
+        match crate::run_rung(vars, words, start, table, moved) {
+            Ran::Onward {
+                next: _,
+                moved: past_rung,
+            } => {
+                moved = past_rung;
                 rung += 1;
             }
-            Ran::Jumped(label) => {
+            Ran::Jumped {
+                label,
+                moved: at_jump,
+            } => {
+                moved = at_jump;
                 rung = rungs::search_label(labels, label);
             }
         }

@@ -77,7 +77,7 @@ module _ (vars : ℕ) (ws : List ℕ) (rs : List RungRecord) (t : List ℕ) (w :
     asked-accepted e f = sym (rest ∙ rw (e, f))
 
 -- the scan of what question 10 took
-pub scanned-row : (vars : ℕ) (ws ls os ns t : List ℕ) (w : ℕ) (r : ListScanned) (u : List ℕ) → scanQuestions vars ws (rowOf ls os ns) t w ≡ none → Ran ws os t w r u
+pub scanned-row : (vars : ℕ) (ws ls os ns t : List ℕ) (w : ℕ) (r : ListScanned) (u : List ℕ) → scanQuestions vars ws (rowOf ls os ns) t w ≡ none → Ran vars ws os t w r u
     → ListScanDone (callListScan vars ws (rowOf ls os ns) t w) r u
 scanned-row vars ws ls os ns t w r u ok ran =
     let e = row-even ls os ns (scan-in-range vars ws (rowOf ls os ns) t w ok .some-record) in

@@ -76,7 +76,7 @@ pub fn list_scan(
 {
     match scan_questions(vars, code, labels, offsets, lengths, table, watchdog) {
         Verdict::Refused(refusal) => ListScanned::Refused(refusal),
-        Verdict::Accepted => list_machine::run(code, offsets, table, watchdog),
+        Verdict::Accepted => list_machine::run(vars, code, offsets, table, watchdog),
     }
 }
 

@@ -8,7 +8,7 @@ use lib.ListN.{replicate, length}
 use Rattle.questions.specs.Bytes.{bytes, decimal, digits}
 use Rattle.questions.specs.Tests.{all}
 use Rattle.questions.specs.Questions.{Answer, yes, ask, varsInRange, question1, firstNo}
-use Rattle.table.specs.State.{State, stateOf, scratchBytes, variables, valueAt, value, writtenAt, write, writeIf}
+use Rattle.table.specs.State.{State, stateOf, scratchBytes, variables, valueAt, value, writtenAt, turns, write, writeIf}
 use Rattle.table.specs.Halt.{Halt, Ended, Stopped}
 use Rattle.table.specs.Writes.{Write, wrote, wroteIf}
 use Rattle.rungs.specs.Records.{RungRecord, isStart, laid}
@@ -26,6 +26,7 @@ record Row : Type 0 where
   halt : Halt
   instructions : ℕ
   rungs : ℕ
+  moved : ℕ
   after : List ℕ
 
 abbrev at : ℕ → ℕ → ℕ → RungRecord
@@ -43,10 +44,10 @@ listA = record {
 rows : List Row
 rows =
     -- case A, under a watchdog of just its 12 instructions, and of one less
-    record { list = listA; before = 1 ∷ 0 ∷ 0 ∷ 0 ∷ 0 ∷ []; watchdog = 12; halt = Ended; instructions = 12; rungs = 2; after = 1 ∷ 1 ∷ 0 ∷ 0 ∷ 1 ∷ [] }
-    ∷ record { list = listA; before = 1 ∷ 0 ∷ 0 ∷ 0 ∷ 0 ∷ []; watchdog = 11; halt = Stopped; instructions = 11; rungs = 2; after = 1 ∷ 1 ∷ 0 ∷ 0 ∷ 0 ∷ [] }
+    record { list = listA; before = 1 ∷ 0 ∷ 0 ∷ 0 ∷ 0 ∷ []; watchdog = 12; halt = Ended; instructions = 12; rungs = 2; moved = 2; after = 1 ∷ 1 ∷ 0 ∷ 0 ∷ 1 ∷ [] }
+    ∷ record { list = listA; before = 1 ∷ 0 ∷ 0 ∷ 0 ∷ 0 ∷ []; watchdog = 11; halt = Stopped; instructions = 11; rungs = 2; moved = 1; after = 1 ∷ 1 ∷ 0 ∷ 0 ∷ 0 ∷ [] }
     -- the accumulator starts false, and stores keep it
-    ∷ record { list = one (STN 0 ∷ ST 1 ∷ []); before = 0 ∷ 1 ∷ []; watchdog = 9; halt = Ended; instructions = 2; rungs = 1; after = 1 ∷ 0 ∷ [] }
+    ∷ record { list = one (STN 0 ∷ ST 1 ∷ []); before = 0 ∷ 1 ∷ []; watchdog = 9; halt = Ended; instructions = 2; rungs = 1; moved = 2; after = 1 ∷ 0 ∷ [] }
     -- ORN, XOR, XORN, NOT, ANDN
     ∷ record {
       list = one (ORN 0 ∷ ST 1 ∷ XOR 2 ∷ ST 3 ∷ XORN 2 ∷ ST 4 ∷ NOT ∷ ST 5 ∷ ANDN 5 ∷ ST 6 ∷ []);
@@ -55,6 +56,7 @@ rows =
       halt = Ended;
       instructions = 10;
       rungs = 1;
+      moved = 5;
       after = 0 ∷ 1 ∷ 1 ∷ 0 ∷ 0 ∷ 1 ∷ 0 ∷ [];
     }
     -- JMPCN jumps when the accumulator is false and JMPC does not, and both keep it; a jump to the end; a jump into a rung enters none
@@ -65,10 +67,11 @@ rows =
       halt = Ended;
       instructions = 4;
       rungs = 2;
+      moved = 1;
       after = 1 ∷ [];
     }
     -- a loop, stopped
-    ∷ record { list = record { code = LDN 0 ∷ JMPC 0 ∷ []; records = at 0 0 2 ∷ [] }; before = 0 ∷ []; watchdog = 7; halt = Stopped; instructions = 7; rungs = 4; after = 0 ∷ [] }
+    ∷ record { list = record { code = LDN 0 ∷ JMPC 0 ∷ []; records = at 0 0 2 ∷ [] }; before = 0 ∷ []; watchdog = 7; halt = Stopped; instructions = 7; rungs = 4; moved = 0; after = 0 ∷ [] }
     -- 02, Req 01: S and R with the accumulator true and then false, which they keep
     ∷ record {
       list = one (LD 0 ∷ S 1 ∷ R 2 ∷ ST 3 ∷ NOT ∷ S 4 ∷ R 5 ∷ STN 6 ∷ []);
@@ -77,22 +80,28 @@ rows =
       halt = Ended;
       instructions = 8;
       rungs = 1;
+      moved = 4;
       after = 1 ∷ 1 ∷ 0 ∷ 1 ∷ 0 ∷ 1 ∷ 1 ∷ [];
     }
     -- S without power over a variable that is true
-    ∷ record { list = one (LD 0 ∷ S 1 ∷ []); before = 0 ∷ 1 ∷ []; watchdog = 9; halt = Ended; instructions = 2; rungs = 1; after = 0 ∷ 1 ∷ [] }
+    ∷ record { list = one (LD 0 ∷ S 1 ∷ []); before = 0 ∷ 1 ∷ []; watchdog = 9; halt = Ended; instructions = 2; rungs = 1; moved = 0; after = 0 ∷ 1 ∷ [] }
     -- of scratch too: t0 set, read, reset and read
-    ∷ record { list = one (LDN 0 ∷ S 3 ∷ LD 3 ∷ ST 1 ∷ R 3 ∷ LD 3 ∷ STN 2 ∷ []); before = 0 ∷ 0 ∷ 0 ∷ []; watchdog = 9; halt = Ended; instructions = 7; rungs = 1; after = 0 ∷ 1 ∷ 1 ∷ [] }
+    ∷ record { list = one (LDN 0 ∷ S 3 ∷ LD 3 ∷ ST 1 ∷ R 3 ∷ LD 3 ∷ STN 2 ∷ []); before = 0 ∷ 0 ∷ 0 ∷ []; watchdog = 9; halt = Ended; instructions = 7; rungs = 1; moved = 2; after = 0 ∷ 1 ∷ 1 ∷ [] }
+    -- 02, Req 02: v1 is turned over twice and ends as it began; the same value written again, and scratch t0, do not count
+    ∷ record { list = one (LDN 0 ∷ ST 1 ∷ ST 1 ∷ ST 2 ∷ STN 1 ∷ []); before = 0 ∷ 0 ∷ []; watchdog = 9; halt = Ended; instructions = 5; rungs = 1; moved = 2; after = 0 ∷ 0 ∷ [] }
+    -- Stopped too, after one of the two; S writes the 1 that stands there
+    ∷ record { list = one (LDN 0 ∷ ST 1 ∷ S 1 ∷ STN 1 ∷ []); before = 0 ∷ 0 ∷ []; watchdog = 3; halt = Stopped; instructions = 3; rungs = 1; moved = 1; after = 0 ∷ 1 ∷ [] }
     ∷ []
 
 record Outcome : Type 0 where
   halt : Halt
   instructions : ℕ
   rungs : ℕ
+  moved : ℕ
   variables : List ℕ
 
 expected : Row → Outcome
-expected r = record { halt = r .halt; instructions = r .instructions; rungs = r .rungs; variables = r .after }
+expected r = record { halt = r .halt; instructions = r .instructions; rungs = r .rungs; moved = r .moved; variables = r .after }
 
 -- scratch is 0
 start : Row → State
@@ -101,17 +110,17 @@ start r = stateOf (length (r .before)) (r .before ++ replicate scratchBytes 0)
 outcome : Row → Outcome
 outcome r =
     let x = scanList (r .list) (r .watchdog) (start r) in
-    record { halt = x .halt; instructions = x .counts .instructions; rungs = x .counts .rungs; variables = variables (x .state) }
+    record { halt = x .halt; instructions = x .counts .instructions; rungs = x .counts .rungs; moved = x .state .moved; variables = variables (x .state) }
 
 lists-scanned : map outcome rows ≡ map expected rows
-unfolding rows start outcome expected scanList scanMachine begin fresh step count does halted isStart valueAt value writtenAt write writeIf variables xor
+unfolding rows start outcome expected scanList scanMachine begin fresh step count does halted isStart valueAt value writtenAt turns write writeIf variables xor
 lists-scanned = refl
 
 -- a list's writes in the order in which they are made
 written : Row → List Write
 written r = listWrites (r .list) (r .watchdog) (start r)
 
--- in case A t0 is index 5, and in the last list index 3
+-- t0 is index 5 in case A, 3 in the list that sets and resets it, 2 in the next
 writes-in-order : map written rows
     ≡ (wrote 5 true ∷ wrote 5 true ∷ wrote 1 true ∷ wrote 4 true ∷ [])
     ∷ (wrote 5 true ∷ wrote 5 true ∷ wrote 1 true ∷ [])
@@ -122,6 +131,8 @@ writes-in-order : map written rows
     ∷ (wrote 1 true ∷ wrote 2 false ∷ wrote 3 true ∷ wrote 6 true ∷ [])
     ∷ []
     ∷ (wrote 3 true ∷ wrote 1 true ∷ wrote 3 false ∷ wrote 2 true ∷ [])
+    ∷ (wrote 1 true ∷ wrote 1 true ∷ wrote 2 true ∷ wrote 1 false ∷ [])
+    ∷ (wrote 1 true ∷ wrote 1 true ∷ [])
     ∷ []
 unfolding rows start written listWrites writesFrom instrWrites wroteIf begin fresh step count does isStart valueAt value writtenAt write writeIf xor
 writes-in-order = refl

@@ -5,3 +5,4 @@ pub mod Refusing
 pub mod Watchdog
 pub mod Words
 pub mod Writes
+pub mod Answers

@@ -16,13 +16,15 @@ use Rattle.list_definitions.specs.declared.Counts.{Counts as CountsStruc
 use Rattle.list_definitions.specs.declared.ListScanned.{ListScanned}
 use Rattle.list_definitions.specs.declared.ListScanned.the-variants.{Ended as EndedCase, Stopped as StoppedCase, Refused as RefusedCase}
 
--- the counts that List scan answers: the instructions carried out and the rungs entered
+-- the counts that List scan answers: the instructions carried out, the rungs entered, and how many times a variable was turned over (02, Req 02: "both scans
+-- add these up in their answers, Stopped ones included")
 pub record ListCounts : Type 0 where
   pub instructions : ℕ
   pub rungs : ℕ
+  pub moved : ℕ
 
 abbrev pub countsOf : ListResult → ListCounts
-countsOf x = record { instructions = x .counts .instructions; rungs = x .counts .rungs }
+countsOf x = record { instructions = x .counts .instructions; rungs = x .counts .rungs; moved = x .state .moved }
 
 -- Ended or Stopped with its counts, or the refusal
 pub data ListScanAnswer : Type 0 where
@@ -54,7 +56,7 @@ callListScan vars words rs table watchdog = elim (scanQuestions vars words rs ta
 
 -- the counts in the struct Counts
 unfoldable pub countsIn : CountsStruct → ListCounts
-countsIn c = record { instructions = c .instructions; rungs = c .rungs }
+countsIn c = record { instructions = c .instructions; rungs = c .rungs; moved = c .moved }
 
 -- document 01's values for each case of the enum ListScanned
 unfoldable pub listScannedAnswer : ListScanned → ListScanAnswer

@@ -1,5 +1,6 @@
 -- What is proved of the definitions of this crate, a theorem to a sentence; the proofs are in Laws. Assumes nothing.
-use Prim.Native.Nat.{ℕ, _≤_}
+use Prim.Native.Nat.{ℕ, _+_, _≤_}
+use native.Mathlib.Omega.{arith}
 use mathlib.Core.Path.{_≡_, ap, _∙_}
 use mathlib.Core.Logic.{_↔_}
 use mathlib.Core.Option.{none, some}
@@ -7,17 +8,25 @@ use mathlib.Core.List.{List, map}
 use lib.Dec.{T}
 use lib.ListN.{length}
 use Rattle.questions.specs.Tests.{all}
-use Rattle.table.specs.State.{State}
-use Rattle.table.specs.Halt.{Ended, Stopped}
-use Rattle.table.specs.Writes.{replay}
+use Rattle.questions.specs.Questions.{mostInstructionWatchdog}
+use Rattle.questions.specs.Laws.Answers.{watchdog-in-range}
+use Rattle.table.specs.State.{State, stateOf}
+use Rattle.table.specs.Halt.{Halt, Ended, Stopped}
+use Rattle.table.specs.Questions.{Legal}
+use Rattle.table.specs.Writes.{replay, changes, WritesTell}
+use Rattle.table.specs.Laws.Legal.{legal-table}
 use Rattle.table.specs.Laws.Replaying.{makes-bytes}
+use Rattle.table.specs.Laws.Changes.{makes-moved}
+use Rattle.rungs.specs.Records.{RungRecord}
 use Rattle.list_definitions.specs.Instruction.{Instr, instrWord, instrFits, decodeInstr, decodeCode}
 use Rattle.list_definitions.specs.Machine.{InstructionList, Counts, scanList}
+use Rattle.list_definitions.specs.ListScan.{ListCounts, scanned, listOf, callListScan}
 use Rattle.list_definitions.specs.Writes.{listWrites}
 use Rattle.list_definitions.specs.Standing.{StandsAt}
 use Rattle.list_definitions.specs.Laws.Decoding.{decode-instr, instr-decoded, decode-code, code-decoded}
 use Rattle.list_definitions.specs.Laws.Watchdog.{stopped-stands, stands-stopped, ended-stands, stands-ended, list-within}
 use Rattle.list_definitions.specs.Laws.Writes.{list-makes, list-few}
+use Rattle.list_definitions.specs.Laws.Answers.{asked, writes-tell, sum-few, instructions-few}
 
 -- A word is decoded to an instruction exactly when it is the word of that instruction, whose operand has 16 bits.
 pub instruction-exactly : (w : ℕ) (i : Instr) → (decodeInstr w ≡ some i) ↔ ((w ≡ instrWord i) × T (instrFits i))
@@ -48,3 +57,27 @@ few-writes l watchdog s = list-few l watchdog s
 -- The instructions carried out are at most the watchdog.
 pub within-watchdog : (l : InstructionList) (watchdog : ℕ) (s : State) → scanList l watchdog s .counts .instructions ≤ watchdog
 within-watchdog l watchdog s = list-within l watchdog s .instructions
+
+-- 02, Req 02: the sum of a scan from a legal table is the number of its writes that changed a variable's byte.
+pub list-sum : (l : InstructionList) (watchdog : ℕ) (s : State) → Legal s
+    → scanList l watchdog s .state .moved ≡ s .moved + changes (s .vars) (listWrites l watchdog s) (s .bytes)
+list-sum l watchdog s legal = ap (λ t. t .moved) (list-makes l watchdog s) ∙ makes-moved (listWrites l watchdog s) s (legal-table s legal)
+
+-- The same of the call, with its table, wherever it is not refused.
+pub call-writes-tell : (vars : ℕ) (words : List ℕ) (records : List RungRecord) (table : List ℕ) (watchdog : ℕ) (halt : Halt) (counts : ListCounts)
+    → callListScan vars words records table watchdog .answer ≡ scanned halt counts
+    → WritesTell vars (listWrites (listOf words records) watchdog (stateOf vars table)) table (counts .moved) (callListScan vars words records table watchdog .table)
+call-writes-tell vars words records table watchdog halt counts e = writes-tell vars words records table watchdog halt counts e
+
+-- And its sum fits 32 bits: at most one for each instruction carried out, and at most 16,777,215 are.
+pub record SumFits (counts : ListCounts) : Type 0 where
+  pub an-instruction : counts .moved ≤ counts .instructions
+  pub a-scan : counts .moved ≤ 16777215
+
+pub call-sum-fits : (vars : ℕ) (words : List ℕ) (records : List RungRecord) (table : List ℕ) (watchdog : ℕ) (halt : Halt) (counts : ListCounts)
+    → callListScan vars words records table watchdog .answer ≡ scanned halt counts → SumFits counts
+call-sum-fits vars words records table watchdog halt counts e =
+    let few = sum-few vars words records table watchdog halt counts e in
+    let carried = instructions-few vars words records table watchdog halt counts e in
+    let most = watchdog-in-range mostInstructionWatchdog watchdog (asked vars words records table watchdog halt counts e .watchdog) in
+    record { an-instruction = few; a-scan = omega arith }

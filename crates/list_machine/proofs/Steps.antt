@@ -8,12 +8,13 @@ use mathlib.Core.Option.{some}
 use mathlib.Core.List.{List}
 use lib.ListN.{length, getD, List·getD-eq-default}
 use Rattle.questions.specs.Laws.Tests.{none-some}
-use Rattle.table.specs.State.{State, withBytes}
+use Rattle.table.specs.State.{stateWith}
 use Rattle.rungs.specs.Words.{numberOf, operandOf}
 use Rattle.rungs.specs.Laws.Numbers.{noneTo, past-all}
 use Rattle.list_definitions.specs.Instruction.{Instr, NOT, noOp, onlyNot, ops, decodeInstr}
 use Rattle.list_definitions.specs.Machine.{does, count, step}
 use Rattle.list_machine.specs.Parts.{Did, machineCounts, machineOf, Stepped}
+use Rattle.list_definitions.specs.declared.Counts.{Counts as CountsStruct}
 use Rattle.list_machine.specs.declared.Machine.{Machine as MachineStruct}
 use Rattle.list_machine.specs.declared.Effect.{Effect}
 
@@ -27,43 +28,59 @@ op-known w i e = go (numberOf w) refl (decLe (length ops) (numberOf w))
     go zero q (no h) = absurd (none-some (rw q at e))
     go (suc k) q (no h) = (omega arith, omega arith)
 
-module _ {w : ℕ} {v : Bool} {following : ℕ} {t : List ℕ} {r : Effect} {u : List ℕ} where
+module _ {vars w : ℕ} {v : Bool} {straight : ℕ} {t : List ℕ} {moved : ℕ} {r : Effect} where
   -- an op that makes the instruction `make x` of its operand x
-  pub arm : {k : ℕ} → numberOf w ≡ k → (make : ℕ → Instr) → getD ops k noOp (operandOf w) ≡ some (make (operandOf w))
-      → {a : Bool} {j : ℕ} → r ≡ record { accumulator = a; index = j }
-      → ((s : State) (pc : ℕ) → following ≡ pc + 1 → does (make (operandOf w)) v (withBytes s t) pc ≡ record { accumulator = a; state = withBytes s u; index = j })
-      → Did w v following t r u
+  pub arm : {u : List ℕ} {k : ℕ} → numberOf w ≡ k → (make : ℕ → Instr) → getD ops k noOp (operandOf w) ≡ some (make (operandOf w))
+      → {a : Bool} {j sum : ℕ} → r ≡ record { accumulator = a; index = j; moved = sum } → sum ≤ moved + 1
+      → ((pc : ℕ) → straight ≡ pc + 1 → does (make (operandOf w)) v (stateWith vars t moved) pc ≡ record { accumulator = a; state = stateWith vars u sum; index = j })
+      → Did vars w v straight t moved r u
   unfolding decodeInstr
-  arm e make m f h = record {
-    same = λ i d s pc q.
+  arm e make m f few h = record {
+    same = λ i d pc q.
         let z : make (operandOf w) ≡ i = cc (rw e at d) in
-        rw (← z, f) (h s pc q);
+        rw (← z, f) (h pc q);
+    few = rw f few;
   }
 
+  -- the same, where it writes nothing
+  pub arm-keeps : {k : ℕ} → numberOf w ≡ k → (make : ℕ → Instr) → getD ops k noOp (operandOf w) ≡ some (make (operandOf w))
+      → {a : Bool} {j : ℕ} → r ≡ record { accumulator = a; index = j; moved = moved }
+      → ((pc : ℕ) → straight ≡ pc + 1 → does (make (operandOf w)) v (stateWith vars t moved) pc ≡ record { accumulator = a; state = stateWith vars t moved; index = j })
+      → Did vars w v straight t moved r t
+  arm-keeps e make m f h = arm e make m f (omega arith) h
+
+  pub arm-not : numberOf w ≡ 11 → r ≡ record { accumulator = not v; index = straight; moved = moved } → Did vars w v straight t moved r t
+  unfolding decodeInstr ops onlyNot does
+  arm-not e f = record {
+    same = λ i d pc q. rw (is-not i (operandOf w) (rw e at d), f, q) refl;
+    few = rw f (omega arith);
+  }
+    where
+      is-not : (i : Instr) (x : ℕ) → onlyNot x ≡ some i → i ≡ NOT
+      is-not i zero p = cc
+      is-not i (suc x) p = absurd (none-some p)
+
   -- no instruction has another op
-  pub arm-other : noneTo (numberOf w) (length ops - 1) → Did w v following t r u
-  arm-other differs = record {
-    same = λ i d s pc q.
+  pub arm-other : noneTo (numberOf w) (length ops - 1) → {a : Bool} {j : ℕ} → r ≡ record { accumulator = a; index = j; moved = moved } → Did vars w v straight t moved r t
+  arm-other differs f = record {
+    same = λ i d pc q.
         let known = op-known w i d in
         let past = past-all (numberOf w) (length ops - 1) differs (known .0) in
         absurd (omega arith);
+    few = rw f (omega arith);
   }
 
-pub arm-not : {w : ℕ} {v : Bool} {following : ℕ} {t : List ℕ} {r : Effect} → numberOf w ≡ 11 → r ≡ record { accumulator = not v; index = following }
-    → Did w v following t r t
-unfolding decodeInstr ops onlyNot does
-arm-not {w} e f = record { same = λ i d s pc q. rw (is-not i (operandOf w) (rw e at d), f, q) refl }
-  where
-    is-not : (i : Instr) (x : ℕ) → onlyNot x ≡ some i → i ≡ NOT
-    is-not i zero p = cc
-    is-not i (suc x) p = absurd (none-some p)
-
 -- the machine after an instruction, with its counts
-pub stepped : (w entered : ℕ) (m : MachineStruct) (t : List ℕ) (effect : Effect) (u : List ℕ) → Did w (m .accumulator) (m .index + 1) t effect u
-    → Stepped w entered m t (record { accumulator = effect .accumulator; index = effect .index; counts = record { instructions = m .counts .instructions + 1; rungs = m .counts .rungs + entered } }) u
-unfolding step count machineOf machineCounts
-stepped w entered m t effect u d = record {
-  same = λ i e rs starts s. rw (d .same i e s (m .index) refl, ← starts);
-  carried = refl;
-  rungs = refl;
-}
+module _ (vars w entered : ℕ) (m : MachineStruct) (t : List ℕ) (effect : Effect) (u : List ℕ) where
+  abbrev counted : CountsStruct
+  counted = record { instructions = m .counts .instructions + 1; rungs = m .counts .rungs + entered; moved = effect .moved }
+
+  pub stepped : Did vars w (m .accumulator) (m .index + 1) t (m .counts .moved) effect u
+      → Stepped vars w entered m t (record { accumulator = effect .accumulator; index = effect .index; counts = counted }) u
+  unfolding step count machineOf machineCounts
+  stepped d = record {
+    same = λ i e rs starts. rw (d .same i e (m .index) refl, ← starts);
+    carried = refl;
+    rungs = refl;
+    moved = d .few;
+  }

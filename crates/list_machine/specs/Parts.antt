@@ -7,7 +7,7 @@ use mathlib.Core.List.{List, [], _∷_}
 use lib.Dec.{eqb, leb, ltb}
 use lib.ListN.{length, getD}
 use Rattle.questions.specs.Tests.{bit}
-use Rattle.table.specs.State.{State, withBytes}
+use Rattle.table.specs.State.{stateWith, stateOf}
 use Rattle.rungs.specs.Records.{RungRecord, offsets, isStart}
 use Rattle.list_definitions.specs.Instruction.{Instr, decodeInstr, decodeCode}
 use Rattle.list_definitions.specs.Machine.{InstructionList, Counts, Machine, does, step, scanList}
@@ -19,10 +19,11 @@ use Rattle.list_definitions.specs.declared.ListScanned.the-variants.{Ended as E
 use Rattle.list_machine.specs.declared.Place.{Place}
 use Rattle.list_machine.specs.declared.Effect.{Effect}
 
--- a word that holds an instruction does what the instruction does, from accumulator v
-pub record Did (word : ℕ) (v : Bool) (following : ℕ) (t : List ℕ) (r : Effect) (u : List ℕ) : Type 0 where
-  pub same : (i : Instr) → decodeInstr word ≡ some i → (s : State) (pc : ℕ) → following ≡ pc + 1
-      → does i v (withBytes s t) pc ≡ record { accumulator = r .accumulator; state = withBytes s u; index = r .index }
+-- a word that holds an instruction does what the instruction does, from accumulator v; any word turns over one variable at most
+pub record Did (vars word : ℕ) (v : Bool) (straight : ℕ) (t : List ℕ) (moved : ℕ) (r : Effect) (u : List ℕ) : Type 0 where
+  pub same : (i : Instr) → decodeInstr word ≡ some i → (pc : ℕ) → straight ≡ pc + 1
+      → does i v (stateWith vars t moved) pc ≡ record { accumulator = r .accumulator; state = stateWith vars u (r .moved); index = r .index }
+  pub few : r .moved ≤ moved + 1
 
 -- "both counts" of a machine
 unfoldable pub machineCounts : CountsStruct → Counts
@@ -31,11 +32,12 @@ machineCounts c = record { instructions = c .instructions; rungs = c .rungs }
 unfoldable pub machineOf : MachineStruct → Machine
 machineOf m = record { accumulator = m .accumulator; index = m .index; counts = machineCounts (m .counts) }
 
-pub record Stepped (word entered : ℕ) (m : MachineStruct) (t : List ℕ) (r : MachineStruct) (u : List ℕ) : Type 0 where
-  pub same : (i : Instr) → decodeInstr word ≡ some i → (rs : List RungRecord) → entered ≡ bit (isStart rs (m .index)) → (s : State)
-      → step rs i (machineOf m) (withBytes s t) ≡ (machineOf r, withBytes s u)
+pub record Stepped (vars word entered : ℕ) (m : MachineStruct) (t : List ℕ) (r : MachineStruct) (u : List ℕ) : Type 0 where
+  pub same : (i : Instr) → decodeInstr word ≡ some i → (rs : List RungRecord) → entered ≡ bit (isStart rs (m .index))
+      → step rs i (machineOf m) (stateWith vars t (m .counts .moved)) ≡ (machineOf r, stateWith vars u (r .counts .moved))
   pub carried : r .counts .instructions ≡ m .counts .instructions + 1
   pub rungs : r .counts .rungs ≡ m .counts .rungs + entered
+  pub moved : r .counts .moved ≤ m .counts .moved + 1
 
 -- 1 where the record `next` begins at the index, and else 0
 unfoldable pub startsHere : List ℕ → ℕ → ℕ → ℕ
@@ -67,7 +69,7 @@ pub record Followed (os : List ℕ) (p : Place) (index : ℕ) (r : Place) : Type
   pub starts : r .entered ≡ startsHere os (r .next) index
 
 unfoldable pub firstMachine : MachineStruct
-firstMachine = record { accumulator = false; index = 0; counts = record { instructions = 0; rungs = 0 } }
+firstMachine = record { accumulator = false; index = 0; counts = record { instructions = 0; rungs = 0; moved = 0 } }
 
 -- the machine is before the end, and the watchdog has not come
 unfoldable pub runsOn : ℕ → ℕ → MachineStruct → Bool
@@ -77,6 +79,6 @@ unfoldable pub haltedAt : ℕ → MachineStruct → ListScanned
 haltedAt end m = elim (leb end (m .index)) [ true ↦ EndedCase (m .counts) | false ↦ StoppedCase (m .counts) ]
 
 -- a list's words and offsets are scanned as the list
-pub record Ran (ws os t : List ℕ) (watchdog : ℕ) (r : ListScanned) (u : List ℕ) : Type 0 where
-  pub same : (l : InstructionList) → decodeCode ws ≡ some (l .code) → offsets (l .records) ≡ os → ascending 0 os → (s : State)
-      → ListScanDone (scanEnds (scanList l watchdog (withBytes s t))) r u
+pub record Ran (vars : ℕ) (ws os t : List ℕ) (watchdog : ℕ) (r : ListScanned) (u : List ℕ) : Type 0 where
+  pub same : (l : InstructionList) → decodeCode ws ≡ some (l .code) → offsets (l .records) ≡ os → ascending 0 os
+      → ListScanDone (scanEnds (scanList l watchdog (stateOf vars t))) r u

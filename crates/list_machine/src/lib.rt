@@ -24,17 +24,22 @@ pub struct Place {
     pub entered: u32,
 }
 
-// Accumulator and index after an instruction.
+// Accumulator and index after an instruction, and how many times variables have been turned over.
 pub struct Effect {
     pub accumulator: bool,
     pub index: usize,
+    pub moved: u32,
 }
 
-// The effect of an instruction after which accumulator and index are these.
-fn after(accumulator: bool, index: usize) -> Effect
-    ensures { λ r. ⌜ r ≡ record { accumulator = accumulator; index = index } ⌝ }
+// The effect of an instruction after which accumulator, index and sum are these.
+fn after(accumulator: bool, index: usize, moved: u32) -> Effect
+    ensures { λ r. ⌜ r ≡ record { accumulator = accumulator; index = index; moved = moved } ⌝ }
 {
-    Effect { accumulator, index }
+    Effect {
+        accumulator,
+        index,
+        moved,
+    }
 }
 
 // The first index where the condition holds, and else the second.
@@ -44,73 +49,90 @@ fn choose(condition: bool, first: usize, second: usize) -> usize
     if condition { first } else { second }
 }
 
-// What an instruction does, from the accumulator before it and the index after it where it does not jump.
-fn carry_out(word: u32, accumulator: bool, following: usize, table: &mut [u8]) -> Effect
-    ensures { λ r. ⌜ Did word accumulator following (now (table .entry)) r (now (table .exit)) ⌝ }
+// What an instruction does, from the accumulator and the sum before it and the index after it where it does not jump.
+fn carry_out(
+    vars: u32,
+    word: u32,
+    accumulator: bool,
+    straight: usize,
+    table: &mut [u8],
+    moved: u32,
+) -> Effect
+    requires { ⌜ moved + 1 < 2 ^ 32 ⌝ }
+    ensures { λ r. ⌜ Did vars word accumulator straight (now (table .entry)) moved r (now (table .exit)) ⌝ }
 {
     let op = word / rungs::OPERANDS;
     let operand = (word % rungs::OPERANDS) as usize;
     match op {
-        list_ops::LD => after(table::value(table, operand), following),
-        list_ops::LDN => after(!table::value(table, operand), following),
+        list_ops::LD => after(table::value(table, operand), straight, moved),
+        list_ops::LDN => after(!table::value(table, operand), straight, moved),
         list_ops::ST => {
-            table::write(table, operand, accumulator);
-            after(accumulator, following)
+            let sum = table::write(vars, table, operand, accumulator, moved);
+            after(accumulator, straight, sum)
         }
         list_ops::STN => {
-            table::write(table, operand, !accumulator);
-            after(accumulator, following)
+            let sum = table::write(vars, table, operand, !accumulator, moved);
+            after(accumulator, straight, sum)
         }
-        list_ops::AND => after(accumulator & table::value(table, operand), following),
-        list_ops::ANDN => after(accumulator & !table::value(table, operand), following),
-        list_ops::OR => after(accumulator | table::value(table, operand), following),
-        list_ops::ORN => after(accumulator | !table::value(table, operand), following),
-        list_ops::XOR => after(accumulator ^ table::value(table, operand), following),
-        list_ops::XORN => after(accumulator ^ !table::value(table, operand), following),
-        list_ops::NOT => after(!accumulator, following),
-        list_ops::JMP => after(accumulator, operand),
-        list_ops::JMPC => after(accumulator, choose(accumulator, operand, following)),
-        list_ops::JMPCN => after(accumulator, choose(accumulator, following, operand)),
+        list_ops::AND => after(accumulator & table::value(table, operand), straight, moved),
+        list_ops::ANDN => after(accumulator & !table::value(table, operand), straight, moved),
+        list_ops::OR => after(accumulator | table::value(table, operand), straight, moved),
+        list_ops::ORN => after(accumulator | !table::value(table, operand), straight, moved),
+        list_ops::XOR => after(accumulator ^ table::value(table, operand), straight, moved),
+        list_ops::XORN => after(accumulator ^ !table::value(table, operand), straight, moved),
+        list_ops::NOT => after(!accumulator, straight, moved),
+        list_ops::JMP => after(accumulator, operand, moved),
+        list_ops::JMPC => after(accumulator, choose(accumulator, operand, straight), moved),
+        list_ops::JMPCN => after(accumulator, choose(accumulator, straight, operand), moved),
         list_ops::S => {
-            table::write_if(table, operand, accumulator, true);
-            after(accumulator, following)
+            let sum = table::write_if(vars, table, operand, accumulator, true, moved);
+            after(accumulator, straight, sum)
         }
         list_ops::R => {
-            table::write_if(table, operand, accumulator, false);
-            after(accumulator, following)
+            let sum = table::write_if(vars, table, operand, accumulator, false, moved);
+            after(accumulator, straight, sum)
         }
-        // No instruction has another op, so nothing is promised here. `following` in place of 0 would cost a scan a tenth more
+        // No instruction has another op, so any index will do here. `straight` in place of 0 would cost a scan a tenth more
         // machine instructions.
-        _ => after(accumulator, 0),
+        _ => after(accumulator, 0, moved),
     }
 }
 
 // The machine after the instruction at its index; `entered` is 1 where it stands at a record's offset, and else 0.
-fn stepped(m: Machine, code: &[u32], entered: u32, table: &mut [u8]) -> Machine
-    requires { ⌜ (m .index < length (now code)) × (m .counts .instructions + 1 < 2 ^ 32) × (m .counts .rungs + entered < 2 ^ 32) ⌝ }
-    ensures { λ r. ⌜ Stepped (getD (now (code .entry)) (m .index) 0) entered m (now (table .entry)) r (now (table .exit)) ⌝ }
+fn stepped(vars: u32, m: Machine, code: &[u32], entered: u32, table: &mut [u8]) -> Machine
+    requires { ⌜ (m .index < length (now code)) × (m .counts .instructions + 1 < 2 ^ 32) × (m .counts .rungs + entered < 2 ^ 32)
+        × (m .counts .moved + 1 < 2 ^ 32) ⌝ }
+    ensures { λ r. ⌜ Stepped vars (getD (now (code .entry)) (m .index) 0) entered m (now (table .entry)) r (now (table .exit)) ⌝ }
 {
     let counts = m.counts;
     let index = m.index;
-    let effect = carry_out(code[index], m.accumulator, index + 1, table);
+    let effect = carry_out(
+        vars,
+        code[index],
+        m.accumulator,
+        index + 1,
+        table,
+        counts.moved,
+    );
     Machine {
         accumulator: effect.accumulator,
         index: effect.index,
         counts: Counts {
             instructions: counts.instructions + 1,
             rungs: counts.rungs + entered,
+            moved: effect.moved,
         },
     }
 }
 
 // One instruction changes the machine: it is taken out, stepped and put back.
-pub fn step(m: &mut Machine, code: &[u32], entered: u32, table: &mut [u8])
+pub fn step(vars: u32, m: &mut Machine, code: &[u32], entered: u32, table: &mut [u8])
     requires { ⌜ (now m .index < length (now code)) × (now m .counts .instructions + 1 < 2 ^ 32)
-        × (now m .counts .rungs + entered < 2 ^ 32) ⌝ }
-    ensures { λ _. ⌜ Stepped (getD (now (code .entry)) (now (m .entry) .index) 0) entered (now (m .entry)) (now (table .entry))
+        × (now m .counts .rungs + entered < 2 ^ 32) × (now m .counts .moved + 1 < 2 ^ 32) ⌝ }
+    ensures { λ _. ⌜ Stepped vars (getD (now (code .entry)) (now (m .entry) .index) 0) entered (now (m .entry)) (now (table .entry))
         (now (m .exit)) (now (table .exit)) ⌝ }
 {
-    *m = stepped(*m, code, entered, table);
+    *m = stepped(vars, *m, code, entered, table);
 }
 
 // 1 where the record `next` begins at the index, and else 0.
@@ -173,6 +195,7 @@ pub fn first_machine() -> Machine
         counts: Counts {
             instructions: 0,
             rungs: 0,
+            moved: 0,
         },
     }
 }
@@ -211,13 +234,13 @@ fn first_place(offsets: &[u32]) -> Place
 }
 
 // A scan with a watchdog. Each instruction changes the machine, which is lent to `step`.
-pub fn run(code: &[u32], offsets: &[u32], table: &mut [u8], watchdog: u32) -> ListScanned
-    ensures { λ r. ⌜ Ran (now (code .entry)) (now (offsets .entry)) (now (table .entry)) watchdog r (now (table .exit)) ⌝ }
+pub fn run(vars: u32, code: &[u32], offsets: &[u32], table: &mut [u8], watchdog: u32) -> ListScanned
+    ensures { λ r. ⌜ Ran vars (now (code .entry)) (now (offsets .entry)) (now (table .entry)) watchdog r (now (table .exit)) ⌝ }
 {
     let mut m = first_machine();
     let mut place = first_place(offsets);
     while runs_on(m, code.len(), watchdog) {
-        step(&mut m, code, place.entered, table);
+        step(vars, &mut m, code, place.entered, table);
         place = follow(offsets, place, m.index);
     }
     halted_at(m, code.len())

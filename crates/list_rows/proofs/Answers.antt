@@ -86,7 +86,7 @@ module _ (vars : ℕ) (ws : List ℕ) (rows : Rows) (t : List ℕ) (w : ℕ) whe
       first-starts = λ q. first-starts vars ws rs t w (verdict-accepted (asked .same rs e) q) .1;
     }
 
-    pub row-done : (r : ListScanned) (u : List ℕ) → RowRan v ws rs t w r u → ListScanDone (callListScan vars ws rs t w) r u
+    pub row-done : (r : ListScanned) (u : List ℕ) → RowRan vars v ws rs t w r u → ListScanDone (callListScan vars ws rs t w) r u
     row-done r u ran = go v refl
       where
         go : (x : Verdict) → v ≡ x → ListScanDone (callListScan vars ws rs t w) r u
@@ -96,7 +96,7 @@ module _ (vars : ℕ) (ws : List ℕ) (rows : Rows) (t : List ℕ) (w : ℕ) whe
             rw (p .0, p .1) (scan-refuses vars ws rs t w x (verdict-refused x (asked .same rs e) q))
 
     -- the questions left the table as it was
-    pub row-scanned : (kept : List ℕ) → kept ≡ t → (r : ListScanned) (u : List ℕ) → RowRan v ws rs kept w r u → ListScanDone (callListScan vars ws rs t w) r u
+    pub row-scanned : (kept : List ℕ) → kept ≡ t → (r : ListScanned) (u : List ℕ) → RowRan vars v ws rs kept w r u → ListScanDone (callListScan vars ws rs t w) r u
     row-scanned kept k r u ran = row-done r u (rw k at ran)
 
 -- ---- Listing

@@ -24,10 +24,10 @@ unfolding endOf
 accepted-refused A x e = let z : _≡_ {A = ℕ} 1 0 = ap (λ v. endOf v 1) e in absurd (omega arith)
 
 -- the loop's invariant
-pub record Going (v : Verdict) (ws : List ℕ) (rs : List RungRecord) (t : List ℕ) (w : ℕ) (u : List ℕ) (m : Machine) (place : RowPlace) (end : ℕ) : Type 0 where
+pub record Going (vars : ℕ) (v : Verdict) (ws : List ℕ) (rs : List RungRecord) (t : List ℕ) (w : ℕ) (u : List ℕ) (m : Machine) (place : RowPlace) (end : ℕ) : Type 0 where
   pub ready : RowReady v rs
   pub ends : end ≡ endOf v (length ws)
-  pub standing : v ≡ Accepted → Standing ws (offsets rs) t w u m (placeOf place)
+  pub standing : v ≡ Accepted → Standing vars ws (offsets rs) t w u m (placeOf place)
   pub begins : v ≡ Accepted → Begins rs place
   pub untouched : (x : Refusal) → v ≡ Refused x → (u ≡ t) × (m ≡ firstMachine)
   pub long : length u ≡ length t
@@ -46,14 +46,14 @@ first-begins : (rs : List RungRecord) → startsHere (offsets rs) 0 0 ≡ 1 → 
 unfolding firstRowPlace
 first-begins rs e = record { offset = λ l. first-offset (offsets rs) e; starts = sym e }
 
-pub going-first : (v : Verdict) (ws : List ℕ) (rs : List RungRecord) (t : List ℕ) (w : ℕ) → RowReady v rs
+pub going-first : (vars : ℕ) (v : Verdict) (ws : List ℕ) (rs : List RungRecord) (t : List ℕ) (w : ℕ) → RowReady v rs
     → (m : Machine) → m ≡ firstMachine → (place : RowPlace) → place ≡ firstRowPlace → (end : ℕ) → end ≡ endOf v (length ws)
-    → Going v ws rs t w t m place end
+    → Going vars v ws rs t w t m place end
 unfolding firstRowPlace placeOf
-going-first v ws rs t w ready m em place ep end ee = record {
+going-first vars v ws rs t w ready m em place ep end ee = record {
   ready = ready;
   ends = ee;
-  standing = λ q. rw em (standing-first ws (offsets rs) t w (placeOf place) (ap (λ p. p .index) ep) (ap (λ p. p .next) ep) (ap (λ p. p .entered) ep ∙ sym (ready .first-starts q)));
+  standing = λ q. rw em (standing-first vars ws (offsets rs) t w (placeOf place) (ap (λ p. p .index) ep) (ap (λ p. p .next) ep) (ap (λ p. p .entered) ep ∙ sym (ready .first-starts q)));
   begins = λ q. rw ep (first-begins rs (ready .first-starts q));
   untouched = λ x q. (refl, em);
   long = refl;
@@ -64,11 +64,12 @@ pub record GoingNeeds (ws : List ℕ) (rs : List RungRecord) (m : Machine) (plac
   pub inside : m .index < length ws
   pub instructions : m .counts .instructions + 1 < 2 ^ 32
   pub rungs : m .counts .rungs + place .entered < 2 ^ 32
+  pub moved : m .counts .moved + 1 < 2 ^ 32
   pub index-within : place .index + 1 ≤ length ws
   pub next-within : place .next + place .entered ≤ length rs
 
-module _ (v : Verdict) (ws : List ℕ) (rs : List RungRecord) (t : List ℕ) (w : ℕ) (u : List ℕ) (m : Machine) (place : RowPlace) (end : ℕ)
-    (going : Going v ws rs t w u m place end) where
+module _ (vars : ℕ) (v : Verdict) (ws : List ℕ) (rs : List RungRecord) (t : List ℕ) (w : ℕ) (u : List ℕ) (m : Machine) (place : RowPlace) (end : ℕ)
+    (going : Going vars v ws rs t w u m place end) where
   -- it goes on
   module _ (on : runsOn end w m ≡ true) where
     going-accepted : v ≡ Accepted
@@ -92,7 +93,7 @@ module _ (v : Verdict) (ws : List ℕ) (rs : List RungRecord) (t : List ℕ) (w 
     pub going-needs : w < 2 ^ 32 → GoingNeeds ws rs m place
     unfolding placeOf
     going-needs b =
-        let n = standing-needs ws (offsets rs) t w u m (placeOf place) (going .standing going-accepted) b going-on in
+        let n = standing-needs vars ws (offsets rs) t w u m (placeOf place) (going .standing going-accepted) b going-on in
         let inside = n .inside in
         let same = n .same-index in
         let within = n .next-within in
@@ -101,6 +102,7 @@ module _ (v : Verdict) (ws : List ℕ) (rs : List RungRecord) (t : List ℕ) (w 
           inside = inside;
           instructions = n .instructions;
           rungs = n .rungs;
+          moved = n .moved;
           index-within = omega arith;
           next-within = omega arith;
         }
@@ -110,33 +112,33 @@ module _ (v : Verdict) (ws : List ℕ) (rs : List RungRecord) (t : List ℕ) (w 
       going-followed : Followed (offsets rs) (placeOf place) index (placeOf place′) × Begins rs place′
       going-followed = f .same (going .ready .ascends going-accepted) (going .begins going-accepted)
 
-    pub going-next : (m′ : Machine) (u′ : List ℕ) → Stepped (getD ws (m .index) 0) (place .entered) m u m′ u′ → length u′ ≡ length u
-        → (place′ : RowPlace) → RowFollowed rs place (m′ .index) place′ → Going v ws rs t w u′ m′ place′ end
+    pub going-next : (m′ : Machine) (u′ : List ℕ) → Stepped vars (getD ws (m .index) 0) (place .entered) m u m′ u′ → length u′ ≡ length u
+        → (place′ : RowPlace) → RowFollowed rs place (m′ .index) place′ → Going vars v ws rs t w u′ m′ place′ end
     unfolding placeOf
     going-next m′ u′ s len place′ f = record {
       ready = going .ready;
       ends = going .ends;
-      standing = λ q. standing-next ws (offsets rs) t w u m (placeOf place) (going .standing q) going-on m′ u′ s len (placeOf place′) (going-followed (m′ .index) place′ f .0);
+      standing = λ q. standing-next vars ws (offsets rs) t w u m (placeOf place) (going .standing q) going-on m′ u′ s len (placeOf place′) (going-followed (m′ .index) place′ f .0);
       begins = λ q. going-followed (m′ .index) place′ f .1;
       untouched = λ x q. accepted-refused _ x (sym going-accepted ∙ q);
       long = len ∙ going .long;
     }
 
-    pub going-less : (m′ : Machine) (u′ : List ℕ) → Stepped (getD ws (m .index) 0) (place .entered) m u m′ u′
+    pub going-less : (m′ : Machine) (u′ : List ℕ) → Stepped vars (getD ws (m .index) 0) (place .entered) m u m′ u′
         → w - m′ .counts .instructions < w - m .counts .instructions
     unfolding placeOf
-    going-less m′ u′ s = standing-less ws (offsets rs) t w u m (placeOf place) (going .standing going-accepted) going-on m′ u′ s
+    going-less m′ u′ s = standing-less vars ws (offsets rs) t w u m (placeOf place) (going .standing going-accepted) going-on m′ u′ s
 
-  pub going-ends : runsOn end w m ≡ false → RowRan v ws rs t w (answered v m (length ws)) u
+  pub going-ends : runsOn end w m ≡ false → RowRan vars v ws rs t w (answered v m (length ws)) u
   unfolding endOf answered
   going-ends off = record {
     refused = λ x q. (ap (λ y. answered y m (length ws)) q, going .untouched x q .0);
     ran = λ q.
         let e : end ≡ length ws = going .ends ∙ ap (λ y. endOf y (length ws)) q in
-        let d = standing-ends ws (offsets rs) t w u m (placeOf place) (going .standing q) (rw e at off) in
+        let d = standing-ends vars ws (offsets rs) t w u m (placeOf place) (going .standing q) (rw e at off) in
         rw q d;
   }
 
   -- the same for what `answer` returns
-  pub going-answer : runsOn end w m ≡ false → (r : ListScanned) → r ≡ answered v m (length ws) → RowRan v ws rs t w r u
+  pub going-answer : runsOn end w m ≡ false → (r : ListScanned) → r ≡ answered v m (length ws) → RowRan vars v ws rs t w r u
   going-answer off r e = rw e (going-ends off)

@@ -86,9 +86,9 @@ pub record RowReady (v : Verdict) (rs : List RungRecord) : Type 0 where
   pub ascends : v ≡ Accepted → ascending 0 (offsets rs)
   pub first-starts : v ≡ Accepted → startsHere (offsets rs) 0 0 ≡ 1
 
-pub record RowRan (v : Verdict) (ws : List ℕ) (rs : List RungRecord) (t : List ℕ) (w : ℕ) (r : ListScanned) (u : List ℕ) : Type 0 where
+pub record RowRan (vars : ℕ) (v : Verdict) (ws : List ℕ) (rs : List RungRecord) (t : List ℕ) (w : ℕ) (r : ListScanned) (u : List ℕ) : Type 0 where
   pub refused : (x : Refusal) → v ≡ Refused x → (r ≡ RefusedScan x) × (u ≡ t)
-  pub ran : v ≡ Accepted → Ran ws (offsets rs) t w r u
+  pub ran : v ≡ Accepted → Ran vars ws (offsets rs) t w r u
 
 -- ---- Listing
 

@@ -187,16 +187,23 @@ fn answer(verdict: Verdict, m: Machine, n: usize) -> ListScanned
 }
 
 // The scan, if no question got a "no". Each instruction changes the machine, which is lent to `step`.
-fn run(verdict: Verdict, code: &[u32], row: &[Rung], table: &mut [u8], watchdog: u32) -> ListScanned
+fn run(
+    vars: u32,
+    verdict: Verdict,
+    code: &[u32],
+    row: &[Rung],
+    table: &mut [u8],
+    watchdog: u32,
+) -> ListScanned
     requires { ⌜ RowReady verdict (recordsOf (now row)) ⌝ }
-    ensures { λ r. ⌜ RowRan verdict (now (code .entry)) (recordsOf (now (row .entry))) (now (table .entry)) watchdog
+    ensures { λ r. ⌜ RowRan vars verdict (now (code .entry)) (recordsOf (now (row .entry))) (now (table .entry)) watchdog
         r (now (table .exit)) ⌝ }
 {
     let end = end_of(verdict, code.len());
     let mut m = list_machine::first_machine();
     let mut place = first_place();
     while list_machine::runs_on(m, end, watchdog) {
-        list_machine::step(&mut m, code, place.entered, table);
+        list_machine::step(vars, &mut m, code, place.entered, table);
         place = follow(row, place, m.index);
     }
     answer(verdict, m, code.len())
@@ -214,7 +221,7 @@ pub fn list_scan(
         r (now (table .exit)) ⌝ }
 {
     let verdict = ask(vars, code, rows::gather(row), table, watchdog);
-    run(verdict, code, row, table, watchdog)
+    run(vars, verdict, code, row, table, watchdog)
 }
 
 // ---- Listing

@@ -12,7 +12,7 @@ use Rattle.translation_definitions.specs.BothScans.{BothEnds}
 use Prim.Native.Nat.{ℕ}
 use Rattle.program_definitions.specs.Lines.{lineNumber, watchdogOf, isBinaryDigit, tableOf}
 use Rattle.program_definitions.specs.Refusals.{refusalLine, explanations, explanation, lineEndsText, errorLines}
-use Rattle.program_definitions.specs.Scanout.{endWord, endLines, changedLine, changedLines, sameBytes, alike, bothStopped, notAlike, alikeIf, verdict, verdictLine, reportLines}
+use Rattle.program_definitions.specs.Scanout.{endWord, scanCountLines, endLines, changedLine, changedLines, sameBytes, alike, bothStopped, notAlike, alikeIf, verdict, verdictLine, reportLines}
 
 pub watchdogs-worked :
     (watchdogOf (bytes "2") ≡ 2) × (watchdogOf (bytes "65535") ≡ 65535) × (watchdogOf (bytes "65536") ≡ 65536) × (watchdogOf (bytes "02") ≡ 65536) × (watchdogOf [] ≡ 65536)
@@ -32,32 +32,33 @@ pub refusals-worked :
 unfolding refusalLine errorLines explanation explanations lineEndsText decimal digits bytes
 refusals-worked = (refl, refl, refl)
 
-pub ends : Halt → ℕ → Halt → ℕ → BothEnds
-ends h k g m =
+-- how each ended, the rungs that it entered, and how many times it turned a variable over
+pub ends : Halt → ℕ → ℕ → Halt → ℕ → ℕ → BothEnds
+ends h k m g n o =
     record {
       counts = record { instructions = 12; rungs = 2; longest = 10 };
       ladderHalt = h;
-      ladder = record { rungs = k };
+      ladder = record { rungs = k; moved = m };
       listHalt = g;
-      list = record { instructions = 12; rungs = m };
+      list = record { instructions = 12; rungs = n; moved = o };
     }
 
--- other variables, other rungs, or another end are not alike; two scans that stopped are both stopped, whatever their variables are
+-- other variables, other rungs, another sum, or another end are not alike; two scans that stopped are both stopped, whatever their sums and variables are
 pub verdicts-worked :
-    (verdict (ends Ended 2 Ended 2) (1 ∷ 0 ∷ []) (1 ∷ 0 ∷ []) ≡ alike) × (verdict (ends Ended 2 Ended 2) (1 ∷ 0 ∷ []) (1 ∷ 1 ∷ []) ≡ notAlike)
-    × (verdict (ends Ended 2 Ended 3) (1 ∷ []) (1 ∷ []) ≡ notAlike) × (verdict (ends Ended 2 Stopped 2) (1 ∷ []) (1 ∷ []) ≡ notAlike)
-    × (verdict (ends Stopped 1 Stopped 1) (1 ∷ []) (0 ∷ []) ≡ bothStopped)
+    (verdict (ends Ended 2 1 Ended 2 1) (1 ∷ 0 ∷ []) (1 ∷ 0 ∷ []) ≡ alike) × (verdict (ends Ended 2 1 Ended 2 1) (1 ∷ 0 ∷ []) (1 ∷ 1 ∷ []) ≡ notAlike)
+    × (verdict (ends Ended 2 1 Ended 3 1) (1 ∷ []) (1 ∷ []) ≡ notAlike) × (verdict (ends Ended 2 1 Ended 2 3) (1 ∷ []) (1 ∷ []) ≡ notAlike)
+    × (verdict (ends Ended 2 1 Stopped 2 1) (1 ∷ []) (1 ∷ []) ≡ notAlike) × (verdict (ends Stopped 1 1 Stopped 1 0) (1 ∷ []) (0 ∷ []) ≡ bothStopped)
 unfolding ends verdict alikeIf sameBytes
-verdicts-worked = (refl, refl, refl, refl, refl)
+verdicts-worked = (refl, refl, refl, refl, refl, refl)
 
 -- README's report
-pub report-worked : reportLines 5 (1 ∷ 0 ∷ 0 ∷ 0 ∷ 0 ∷ []) (ends Ended 2 Ended 2) (1 ∷ 1 ∷ 0 ∷ 0 ∷ 1 ∷ []) (1 ∷ 1 ∷ 0 ∷ 0 ∷ 1 ∷ [])
-    ≡ bytes "scan ladder list\nend Ended Ended\nrungs 2 2\ninstructions - 12\nv1 0>1 0>1\nv4 0>1 0>1\nalike\n"
-unfolding ends reportLines endLines endWord changedLines changedLine verdict alikeIf sameBytes verdictLine decimal digits bytes
+pub report-worked : reportLines 5 (1 ∷ 0 ∷ 0 ∷ 0 ∷ 0 ∷ []) (ends Ended 2 2 Ended 2 2) (1 ∷ 1 ∷ 0 ∷ 0 ∷ 1 ∷ []) (1 ∷ 1 ∷ 0 ∷ 0 ∷ 1 ∷ [])
+    ≡ bytes "scan ladder list\nend Ended Ended\nrungs 2 2\ninstructions - 12\nmoved 2 2\nv1 0>1 0>1\nv4 0>1 0>1\nalike\n"
+unfolding ends reportLines endLines scanCountLines endWord changedLines changedLine verdict alikeIf sameBytes verdictLine decimal digits bytes
 report-worked = refl
 
--- two scans that stopped, with other variables
-pub stopped-worked : reportLines 2 (1 ∷ 0 ∷ []) (ends Stopped 1 Stopped 1) (1 ∷ 1 ∷ []) (1 ∷ 0 ∷ [])
-    ≡ bytes "scan ladder list\nend Stopped Stopped\nrungs 1 1\ninstructions - 12\nv1 0>1 0>0\nboth stopped\n"
-unfolding ends reportLines endLines endWord changedLines changedLine verdict verdictLine decimal digits bytes
+-- two scans that stopped, with other sums and variables
+pub stopped-worked : reportLines 2 (1 ∷ 0 ∷ []) (ends Stopped 1 1 Stopped 1 0) (1 ∷ 1 ∷ []) (1 ∷ 0 ∷ [])
+    ≡ bytes "scan ladder list\nend Stopped Stopped\nrungs 1 1\ninstructions - 12\nmoved 1 0\nv1 0>1 0>0\nboth stopped\n"
+unfolding ends reportLines endLines scanCountLines endWord changedLines changedLine verdict verdictLine decimal digits bytes
 stopped-worked = refl

@@ -10,8 +10,10 @@ use Rattle.table.specs.Halt.{Halt, Ended, Stopped}
 use Rattle.rungs.specs.Records.{mostRecords}
 use Rattle.ladder_definitions.specs.Kept.{Kept}
 use Rattle.ladder_definitions.specs.Questions.{mostRungs, mostWords}
+use Rattle.ladder_definitions.specs.LadderScan.{LadderCounts}
 use Rattle.text_definitions.specs.Read.{readText, kept, writtenKept, refused as readRefused}
 use Rattle.list_definitions.specs.Questions.{mostInstructions}
+use Rattle.list_definitions.specs.ListScan.{ListCounts}
 use Rattle.translation_definitions.specs.BothScans.{BothEnds, Lent, lends, both, pairedScans, refused as scansRefused}
 use Rattle.program_definitions.specs.Lines.{firstLine, textAfter, variablesOf, watchdogOf, tableOf, mostKept}
 use Rattle.program_definitions.specs.Outcome.{Outcome, printed, refused, outputOf}
@@ -21,11 +23,16 @@ unfoldable pub endWord : Halt → List ℕ
 endWord Ended = bytes "Ended"
 endWord Stopped = bytes "Stopped"
 
--- for ladder and list side by side how each ended, the rungs entered, and the instructions carried out
+-- for ladder and list side by side the rungs entered, the instructions carried out, and how many times a variable was turned over (02, Req 02)
+unfoldable pub scanCountLines : LadderCounts → ListCounts → List ℕ
+scanCountLines k c =
+    bytes "rungs " ++ (decimal (k .rungs) ++ (bytes " " ++ (decimal (c .rungs) ++ (bytes "\ninstructions - " ++ (decimal (c .instructions)
+    ++ (bytes "\nmoved " ++ (decimal (k .moved) ++ (bytes " " ++ (decimal (c .moved) ++ bytes "\n")))))))))
+
+-- how each ended, and its counts
 unfoldable pub endLines : BothEnds → List ℕ
 endLines e =
-    bytes "scan ladder list\nend " ++ (endWord (e .ladderHalt) ++ (bytes " " ++ (endWord (e .listHalt) ++ (bytes "\nrungs " ++ (decimal (e .ladder .rungs)
-    ++ (bytes " " ++ (decimal (e .list .rungs) ++ (bytes "\ninstructions - " ++ (decimal (e .list .instructions) ++ bytes "\n")))))))))
+    bytes "scan ladder list\nend " ++ (endWord (e .ladderHalt) ++ (bytes " " ++ (endWord (e .listHalt) ++ (bytes "\n" ++ scanCountLines (e .ladder) (e .list)))))
 
 -- a variable's value before and after in the ladder's table, and before and after in the list's
 unfoldable pub changedLine : ℕ → ℕ → ℕ → ℕ → List ℕ
@@ -53,10 +60,14 @@ unfoldable pub alikeIf : Bool → Verdict
 alikeIf true = alike
 alikeIf false = notAlike
 
--- Demand 3, of these two scans: both Ended with the same rungs entered and the same variables, or both Stopped, when the variables may differ.
+-- Demand 3 with 02, Req 02, of these two scans: both Ended with the same rungs entered, the same sum and the same variables, or both Stopped, when sums and
+-- variables may differ.
 unfoldable pub verdict : BothEnds → List ℕ → List ℕ → Verdict
 verdict e l t = elim (e .ladderHalt) [
-  | Ended ↦ elim (e .listHalt) [ Ended ↦ alikeIf (eqb (e .ladder .rungs) (e .list .rungs) && sameBytes l t) | Stopped ↦ notAlike ]
+  | Ended ↦ elim (e .listHalt) [
+    | Ended ↦ alikeIf (eqb (e .ladder .rungs) (e .list .rungs) && (eqb (e .ladder .moved) (e .list .moved) && sameBytes l t))
+    | Stopped ↦ notAlike
+  ]
   | Stopped ↦ elim (e .listHalt) [ Ended ↦ notAlike | Stopped ↦ bothStopped ]
 ]
 

@@ -1,5 +1,5 @@
 -- Laws of the lines of the report: how far they reach, their parts put one after the other, and the variables' lines from any variable on. Assumes nothing.
-use Prim.Native.Nat.{ℕ, zero, suc, _+_, _*_, _^_, _≤_, _<_}
+use Prim.Native.Nat.{ℕ, zero, suc, _+_, _*_, _≤_, _<_}
 use native.Mathlib.Numerals.{add-one}
 use native.Mathlib.Omega.{arith}
 use mathlib.Core.Path.{_≡_, refl, sym, subst}
@@ -8,12 +8,13 @@ use mathlib.Core.List.{List, [], _∷_, _++_}
 use lib.Dec.{T, eqb}
 use lib.ListN.{length, getD, take, drop, length-append}
 use Rattle.questions.specs.Bytes.{bytes, decimal}
-use Rattle.table.specs.Halt.{Ended, Stopped}
+use Rattle.ladder_definitions.specs.LadderScan.{LadderCounts}
+use Rattle.list_definitions.specs.ListScan.{ListCounts}
 use Rattle.printing.specs.Put.{Put}
-use Rattle.printing.specs.Laws.Puts.{put-then, Left, all-left, left-none, left-more, decimal-long, decimal-most}
+use Rattle.printing.specs.Laws.Puts.{put-then, Left, all-left, left-none, left-more, decimal-long}
 use Rattle.translation_definitions.specs.BothScans.{BothEnds, haltOf}
-use Rattle.program_definitions.specs.Laws.Bounds.{word-short}
-use Rattle.program_definitions.specs.Scanout.{endWord, endLines, changedLine, changedLines, Verdict, verdictLine}
+use Rattle.program_definitions.specs.Laws.Bounds.{Fitting, ends-short}
+use Rattle.program_definitions.specs.Scanout.{endWord, scanCountLines, endLines, changedLine, changedLines, Verdict, verdictLine}
 use Rattle.program_scan_report.specs.Parts.{verdictIn}
 use Rattle.program_scan_report.specs.declared.Verdict.{Verdict as VerdictCase}
 
@@ -29,13 +30,13 @@ module _ {l : List ℕ} {i : ℕ} {r : ℕ} {x : List ℕ} where
   end-false b e p = rw e p
 
 module _ {l : List ℕ} {i m1 m2 m3 m4 m5 m6 m7 m8 m9 m10 r : ℕ} {x1 x2 x3 x4 x5 x6 x7 x8 x9 x10 y : List ℕ} where
-  pub ends-put : (e : BothEnds)
-      → Put l i (bytes "scan ladder list\nend ") m1 x1 → Put x1 m1 (endWord (e .ladderHalt)) m2 x2 → Put x2 m2 (bytes " ") m3 x3
-      → Put x3 m3 (endWord (e .listHalt)) m4 x4 → Put x4 m4 (bytes "\nrungs ") m5 x5 → Put x5 m5 (decimal (e .ladder .rungs)) m6 x6
-      → Put x6 m6 (bytes " ") m7 x7 → Put x7 m7 (decimal (e .list .rungs)) m8 x8 → Put x8 m8 (bytes "\ninstructions - ") m9 x9
-      → Put x9 m9 (decimal (e .list .instructions)) m10 x10 → Put x10 m10 (bytes "\n") r y → Put l i (endLines e) r y
-  unfolding endLines
-  ends-put e p1 p2 p3 p4 p5 p6 p7 p8 p9 p10 p11 =
+  pub counts-put : (k : LadderCounts) (c : ListCounts)
+      → Put l i (bytes "rungs ") m1 x1 → Put x1 m1 (decimal (k .rungs)) m2 x2 → Put x2 m2 (bytes " ") m3 x3 → Put x3 m3 (decimal (c .rungs)) m4 x4
+      → Put x4 m4 (bytes "\ninstructions - ") m5 x5 → Put x5 m5 (decimal (c .instructions)) m6 x6 → Put x6 m6 (bytes "\nmoved ") m7 x7
+      → Put x7 m7 (decimal (k .moved)) m8 x8 → Put x8 m8 (bytes " ") m9 x9 → Put x9 m9 (decimal (c .moved)) m10 x10 → Put x10 m10 (bytes "\n") r y
+      → Put l i (scanCountLines k c) r y
+  unfolding scanCountLines
+  counts-put k c p1 p2 p3 p4 p5 p6 p7 p8 p9 p10 p11 =
       put-then p1 (put-then p2 (put-then p3 (put-then p4 (put-then p5 (put-then p6 (put-then p7 (put-then p8 (put-then p9 (put-then p10 p11)))))))))
 
   pub changed-put : (v b a t : ℕ)
@@ -45,6 +46,13 @@ module _ {l : List ℕ} {i m1 m2 m3 m4 m5 m6 m7 m8 m9 m10 r : ℕ} {x1 x2 x3 x4 
   unfolding changedLine
   changed-put v b a t p1 p2 p3 p4 p5 p6 p7 p8 p9 p10 p11 =
       put-then p1 (put-then p2 (put-then p3 (put-then p4 (put-then p5 (put-then p6 (put-then p7 (put-then p8 (put-then p9 (put-then p10 p11)))))))))
+
+module _ {l : List ℕ} {i m1 m2 m3 m4 m5 r : ℕ} {x1 x2 x3 x4 x5 y : List ℕ} where
+  pub ends-put : (e : BothEnds)
+      → Put l i (bytes "scan ladder list\nend ") m1 x1 → Put x1 m1 (endWord (e .ladderHalt)) m2 x2 → Put x2 m2 (bytes " ") m3 x3
+      → Put x3 m3 (endWord (e .listHalt)) m4 x4 → Put x4 m4 (bytes "\n") m5 x5 → Put x5 m5 (scanCountLines (e .ladder) (e .list)) r y → Put l i (endLines e) r y
+  unfolding endLines
+  ends-put e p1 p2 p3 p4 p5 p6 = put-then p1 (put-then p2 (put-then p3 (put-then p4 (put-then p5 p6))))
 
 -- ---- the variables' lines
 
@@ -198,17 +206,8 @@ changed-reach n bs ls ts p few from hb hl ht =
     let long = lines-long 0 (take n bs) (take n ls) (take n ts) (omega arith) (small-take n bs hb) (small-take n ls hl) (small-take n ts ht) in
     omega (arith, p .end)
 
-pub ends-reach : {l : List ℕ} {r : ℕ} {x : List ℕ} (e : BothEnds) → Put l 0 (endLines e) r x
-    → e .ladder .rungs < 2 ^ 64 → e .list .rungs < 2 ^ 64 → e .list .instructions < 2 ^ 64 → r ≤ 1000
-unfolding endLines bytes
-ends-reach e p hk hr hi =
-    let w = word-short (e .ladderHalt) in
-    let w′ = word-short (e .listHalt) in
-    let dk = decimal-most (e .ladder .rungs) hk in
-    let dr = decimal-most (e .list .rungs) hr in
-    let di = decimal-most (e .list .instructions) hi in
-    let q : length (endLines e) ≤ 121 = simp length-append (omega arith) in
-    omega (arith, p .end)
+pub ends-reach : {l : List ℕ} {r : ℕ} {x : List ℕ} (e : BothEnds) → Put l 0 (endLines e) r x → Fitting (e .ladder) (e .list) → r ≤ 1000
+ends-reach e p f = omega (arith, p .end, ends-short e f)
 
 -- ---- the verdict
 

@@ -76,12 +76,12 @@ ended a b both = elim a [ true ↦ elim b [ true ↦ both | false ↦ notAlike ]
 
 module _ (e : EndsStruct) (l t : List ℕ) where
   verdict-ended : verdict (endsIn e) l t
-      ≡ ended (e .«ladder_ended») (e .«list_ended») (alikeIf (eqb (e .ladder .rungs) (e .list .rungs) && sameBytes l t))
+      ≡ ended (e .«ladder_ended») (e .«list_ended») (alikeIf (eqb (e .ladder .rungs) (e .list .rungs) && (eqb (e .ladder .moved) (e .list .moved) && sameBytes l t)))
   unfolding verdict endsIn haltOf listCountsIn
   verdict-ended = go (e .«ladder_ended») (e .«list_ended»)
     where
       both : Verdict
-      both = alikeIf (eqb (e .ladder .rungs) (e .list .rungs) && sameBytes l t)
+      both = alikeIf (eqb (e .ladder .rungs) (e .list .rungs) && (eqb (e .ladder .moved) (e .list .moved) && sameBytes l t))
 
       go : (a b : Bool) → verdict (record {
         counts = countsIn (e .counts);
@@ -114,7 +114,7 @@ module _ (e : EndsStruct) (l t : List ℕ) where
         go false false v s n = refl
 
     module _ (both : not (e .«ladder_ended») ≡ false) where
-      verdict-both : verdict (endsIn e) l t ≡ alikeIf (eqb (e .ladder .rungs) (e .list .rungs) && sameBytes l t)
+      verdict-both : verdict (endsIn e) l t ≡ alikeIf (eqb (e .ladder .rungs) (e .list .rungs) && (eqb (e .ladder .moved) (e .list .moved) && sameBytes l t))
       verdict-both = verdict-ended ∙ go (e .«ladder_ended») (e .«list_ended») _ same both
         where
           go : (a b : Bool) (v : Verdict) → not (Bool·beq a b) ≡ false → not a ≡ false → ended a b v ≡ v
@@ -124,16 +124,24 @@ module _ (e : EndsStruct) (l t : List ℕ) where
 
       pub verdict-rungs : (e .ladder .rungs ≡ e .list .rungs → ⊥) → notAlike ≡ verdict (endsIn e) l t
       unfolding alikeIf
-      verdict-rungs d = sym (verdict-both ∙ ap (λ b. alikeIf (b && sameBytes l t)) (ne-eqb _ _ d))
+      verdict-rungs d = sym (verdict-both ∙ ap (λ b. alikeIf (b && (eqb (e .ladder .moved) (e .list .moved) && sameBytes l t))) (ne-eqb _ _ d))
 
-      module _ (r : e .ladder .rungs ≡ e .list .rungs) {b : Bool} (q : b ≡ sameBytes l t) where
-        verdict-bytes : verdict (endsIn e) l t ≡ alikeIf b
-        verdict-bytes = verdict-both ∙ ap (λ x. alikeIf (x && sameBytes l t)) (eq-eqb _ _ r) ∙ ap alikeIf (sym q)
+      module _ (r : e .ladder .rungs ≡ e .list .rungs) where
+        verdict-counts : verdict (endsIn e) l t ≡ alikeIf (eqb (e .ladder .moved) (e .list .moved) && sameBytes l t)
+        verdict-counts = verdict-both ∙ ap (λ b. alikeIf (b && (eqb (e .ladder .moved) (e .list .moved) && sameBytes l t))) (eq-eqb _ _ r)
 
-        pub verdict-alike : b ≡ true → alike ≡ verdict (endsIn e) l t
+        pub verdict-moved : (e .ladder .moved ≡ e .list .moved → ⊥) → notAlike ≡ verdict (endsIn e) l t
         unfolding alikeIf
-        verdict-alike y = sym (verdict-bytes ∙ ap alikeIf y)
+        verdict-moved d = sym (verdict-counts ∙ ap (λ b. alikeIf (b && sameBytes l t)) (ne-eqb _ _ d))
 
-        pub verdict-other : b ≡ false → notAlike ≡ verdict (endsIn e) l t
-        unfolding alikeIf
-        verdict-other n = sym (verdict-bytes ∙ ap alikeIf n)
+        module _ (m : e .ladder .moved ≡ e .list .moved) {b : Bool} (q : b ≡ sameBytes l t) where
+          verdict-bytes : verdict (endsIn e) l t ≡ alikeIf b
+          verdict-bytes = verdict-counts ∙ ap (λ x. alikeIf (x && sameBytes l t)) (eq-eqb _ _ m) ∙ ap alikeIf (sym q)
+
+          pub verdict-alike : b ≡ true → alike ≡ verdict (endsIn e) l t
+          unfolding alikeIf
+          verdict-alike y = sym (verdict-bytes ∙ ap alikeIf y)
+
+          pub verdict-other : b ≡ false → notAlike ≡ verdict (endsIn e) l t
+          unfolding alikeIf
+          verdict-other n = sym (verdict-bytes ∙ ap alikeIf n)

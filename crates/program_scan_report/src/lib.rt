@@ -5,7 +5,7 @@ ghost use lib.ListN.{take};
 ghost use Rattle.questions.specs.Questions.{mostVariables};
 ghost use Rattle.printing.specs.Put.{Put};
 ghost use Rattle.translation_definitions.specs.BothScans.{haltOf, endsIn};
-ghost use Rattle.program_definitions.specs.Scanout.{endWord, endLines, changedLine, changedLines};
+ghost use Rattle.program_definitions.specs.Scanout.{endWord, scanCountLines, endLines, changedLine, changedLines};
 ghost use Rattle.program_definitions.specs.Scanout.{sameBytes, verdict, verdictLine, reportLines};
 ghost use Rattle.program_scan_report.specs.Parts.{verdictIn};
 use translation_definitions::BothEnds;
@@ -27,7 +27,25 @@ fn put_end(out: &mut [u8], at: usize, ended: bool) -> usize
     printing::put_text(out, at, b"Stopped")
 }
 
-// How each ended, the rungs entered and the instructions carried out.
+// The rungs entered, the instructions carried out, and how many times a variable was turned over (02, Req 02).
+fn put_counts(out: &mut [u8], at: usize, ends: BothEnds) -> usize
+    requires { ⌜ at ≤ 1000 ⌝ }
+    ensures { λ r. ⌜ Put (now (out .entry)) at (scanCountLines (endsIn ends .ladder) (endsIn ends .list)) r (now (out .exit)) ⌝ }
+{
+    let rungs = printing::put_text(out, at, b"rungs ");
+    let ladder_rungs = printing::put_number(out, rungs, ends.ladder.rungs as usize);
+    let apart = printing::put_text(out, ladder_rungs, b" ");
+    let list_rungs = printing::put_number(out, apart, ends.list.rungs as usize);
+    let none = printing::put_text(out, list_rungs, b"\ninstructions - ");
+    let instructions = printing::put_number(out, none, ends.list.instructions as usize);
+    let moved = printing::put_text(out, instructions, b"\nmoved ");
+    let ladder_moved = printing::put_number(out, moved, ends.ladder.moved as usize);
+    let space = printing::put_text(out, ladder_moved, b" ");
+    let list_moved = printing::put_number(out, space, ends.list.moved as usize);
+    printing::put_text(out, list_moved, b"\n")
+}
+
+// How each ended, and its counts.
 fn put_ends(out: &mut [u8], ends: BothEnds) -> usize
     ensures { λ r. ⌜ Put (now (out .entry)) 0 (endLines (endsIn ends)) r (now (out .exit)) ⌝ }
 {
@@ -35,13 +53,8 @@ fn put_ends(out: &mut [u8], ends: BothEnds) -> usize
     let first = put_end(out, head, ends.ladder_ended);
     let space = printing::put_text(out, first, b" ");
     let second = put_end(out, space, ends.list_ended);
-    let rungs = printing::put_text(out, second, b"\nrungs ");
-    let ladder_rungs = printing::put_number(out, rungs, ends.ladder.rungs as usize);
-    let apart = printing::put_text(out, ladder_rungs, b" ");
-    let list_rungs = printing::put_number(out, apart, ends.list.rungs as usize);
-    let none = printing::put_text(out, list_rungs, b"\ninstructions - ");
-    let instructions = printing::put_number(out, none, ends.list.instructions as usize);
-    printing::put_text(out, instructions, b"\n")
+    let line = printing::put_text(out, second, b"\n");
+    put_counts(out, line, ends)
 }
 
 // The line of a variable: its value before and after, in both.
@@ -123,7 +136,7 @@ fn same_bytes(left: &[u8], right: &[u8], n: u32) -> bool
     true
 }
 
-// Demand 3, of these two scans.
+// Demand 3 with 02, Req 02, of these two scans.
 fn verdict_of(vars: u32, ends: BothEnds, ladder_left: &[u8], list_left: &[u8]) -> Verdict
     ensures { λ r. ⌜ verdictIn r ≡ verdict (endsIn ends) (take vars (now («ladder_left» .entry)))
         (take vars (now («list_left» .entry))) ⌝ }
@@ -135,6 +148,9 @@ fn verdict_of(vars: u32, ends: BothEnds, ladder_left: &[u8], list_left: &[u8]) -
         return Verdict::BothStopped;
     }
     if ends.ladder.rungs != ends.list.rungs {
+        return Verdict::NotAlike;
+    }
+    if ends.ladder.moved != ends.list.moved {
         return Verdict::NotAlike;
     }
     if same_bytes(ladder_left, list_left, vars) {

@@ -2,24 +2,26 @@
 -- The table is document 000's memory e, its Var being the bytes 0 to V - 1. Assumes nothing.
 use Prim.Native.Nat.{ℕ, _+_}
 use mathlib.Core.Path.{_≡_}
-use mathlib.Core.Bool.{Bool, true, false, not}
+use mathlib.Core.Bool.{Bool, true, false, not, xor, _&&_}
 use mathlib.Core.List.{List}
-use lib.Dec.{eqb}
+use lib.Dec.{eqb, ltb}
 use lib.ListN.{getD, set, take, drop}
 use Rattle.questions.specs.Tests.{bit}
 
--- V and the bytes of the lent table
+-- V, the bytes of the lent table, and how many times the scan has turned a variable over (02, Req 02)
 pub record State : Type 0 where
   pub vars : ℕ
   pub bytes : List ℕ
+  pub moved : ℕ
 
--- A state is made in this file alone: at a scan's beginning here, and by `write` below.
+-- A state is made in this file alone: from its parts, at a scan's beginning, and by `write` below. Functions over a lent table, which are told V and
+-- the sum so far, promise by `stateWith` what they do to that state.
+abbrev pub stateWith : ℕ → List ℕ → ℕ → State
+stateWith vars bytes moved = record { vars = vars; bytes = bytes; moved = moved }
+
+-- a scan begins with nothing turned over
 abbrev pub stateOf : ℕ → List ℕ → State
-stateOf vars bytes = record { vars = vars; bytes = bytes }
-
--- a state with its bytes replaced: functions over a lent table promise by it what they do to every state with these bytes
-abbrev pub withBytes : State → List ℕ → State
-withBytes s bytes = stateOf (s .vars) bytes
+stateOf vars bytes = stateWith vars bytes 0
 
 -- "The last 32 bytes are scratch t0 to t31"
 abbrev pub scratchBytes : ℕ
@@ -59,8 +61,14 @@ value s i = valueAt (s .bytes) i
 unfoldable pub writtenAt : List ℕ → ℕ → Bool → List ℕ
 writtenAt bytes i b = set bytes i (bit b)
 
+-- 02, Req 02: whether writing b turns a variable over. "Scratch bytes don't count." It looks at the truth of the byte; where bytes are 0 and 1, as question 11
+-- asks, that is "whether the byte changed" (Writes.changesVariable, by Laws.Changes.turns-changes).
+unfoldable pub turns : ℕ → List ℕ → ℕ → Bool → Bool
+turns vars bytes i b = ltb i vars && xor (valueAt bytes i) b
+
+-- the one place where a byte is written; "Writing a variable now also tells whether the byte changed", and the state adds it up
 unfoldable pub write : State → ℕ → Bool → State
-write s i b = withBytes s (writtenAt (s .bytes) i b)
+write s i b = stateWith (s .vars) (writtenAt (s .bytes) i b) (s .moved + bit (turns (s .vars) (s .bytes) i b))
 
 -- 02, Req 01: what a set or a reset coil, and S or R, does with b true or false. "With power on, S writes 1 and R writes 0. With power off they write nothing."
 -- After IEC 61131-3: a set variable stays as it is until something writes it, in later scans too. Document 002 restores it in the next scan and is not followed.
@@ -68,12 +76,7 @@ unfoldable pub writeIf : Bool → State → ℕ → Bool → State
 writeIf true s i b = write s i b
 writeIf false s i b = s
 
--- the same of bytes
-unfoldable pub writtenIf : Bool → List ℕ → ℕ → Bool → List ℕ
-writtenIf true bytes i b = writtenAt bytes i b
-writtenIf false bytes i b = bytes
-
--- s and t have the same V and equal variables: they differ in scratch at most
+-- s and t have the same V and equal variables: they differ in scratch, and in what was turned over, at most
 pub record SameButScratch (s t : State) : Type 0 where
   pub same-vars : s .vars ≡ t .vars
   pub same-variables : variables s ≡ variables t

@@ -1,8 +1,12 @@
--- The writes of a scan, in order, and the bytes that they leave. Which writes a scan makes is defined beside what it does: ladder_definitions.Writes,
--- list_definitions.Writes. Assumes nothing.
-use Prim.Native.Nat.{ℕ}
-use mathlib.Core.Bool.{Bool, true, false}
+-- The writes of a scan, in order, and what they come to: the bytes that they leave, and how many of them changed a variable's byte (02, Req 02). Which writes
+-- a scan makes is defined beside what it does: ladder_definitions.Writes, list_definitions.Writes. Assumes nothing.
+use Prim.Native.Nat.{ℕ, _+_}
+use mathlib.Core.Path.{_≡_}
+use mathlib.Core.Bool.{Bool, true, false, not, _&&_}
 use mathlib.Core.List.{List, [], _∷_}
+use lib.Dec.{eqb, ltb}
+use lib.ListN.{getD}
+use Rattle.questions.specs.Tests.{bit}
 use Rattle.table.specs.State.{writtenAt}
 
 -- a table index, and the value written there
@@ -26,3 +30,21 @@ made w bytes = writtenAt bytes (w .index) (w .value)
 unfoldable pub replay : List Write → List ℕ → List ℕ
 replay [] bytes = bytes
 replay (w ∷ later) bytes = replay later (made w bytes)
+
+-- 02, Req 02: "whether the byte changed": the byte at the write's index, after it and before it
+unfoldable pub changesByte : Write → List ℕ → Bool
+changesByte w bytes = not (eqb (getD (made w bytes) (w .index) 0) (getD bytes (w .index) 0))
+
+-- "Scratch bytes don't count."
+unfoldable pub changesVariable : ℕ → Write → List ℕ → Bool
+changesVariable vars w bytes = ltb (w .index) vars && changesByte w bytes
+
+-- "how many times a scan turned a variable over": how many of the writes, each made in the bytes that the ones before it left, changed a variable's byte
+unfoldable pub changes : ℕ → List Write → List ℕ → ℕ
+changes vars [] bytes = 0
+changes vars (w ∷ later) bytes = bit (changesVariable vars w bytes) + changes vars later (made w bytes)
+
+-- What the writes of a scan tell of its answer: the table afterwards is the one before with the writes made, and the sum is how many of them changed a variable.
+pub record WritesTell (vars : ℕ) (writes : List Write) (table : List ℕ) (moved : ℕ) (after : List ℕ) : Type 0 where
+  pub replayed : after ≡ replay writes table
+  pub sum : moved ≡ changes vars writes table

@@ -1,6 +1,8 @@
 // The table that both scans work on: document 01, "What a ladder does". Past the table's end a byte is false and a write does nothing.
 ghost use mathlib.Core.Path.{_≡_};
-ghost use Rattle.table.specs.State.{stateOf, valueAt, writtenAt, writtenIf};
+ghost use Prim.Native.Nat.{_+_, _<_, _^_};
+ghost use Rattle.questions.specs.Tests.{bit};
+ghost use Rattle.table.specs.State.{stateWith, stateOf, valueAt, turns, write, writeIf};
 ghost use Rattle.table.specs.Questions.{tableInRange};
 
 // Scratch t0 to t31 stands after the variables.
@@ -16,9 +18,24 @@ pub fn value(table: &[u8], index: usize) -> bool
     }
 }
 
-pub fn write(table: &mut [u8], index: usize, b: bool)
-    ensures { λ _. ⌜ now (table .exit) ≡ writtenAt (now (table .entry)) index b ⌝ }
+// 1 where writing b turns a variable over, and else 0. Scratch is no variable.
+fn turned(vars: u32, table: &[u8], index: usize, b: bool) -> u32
+    ensures { λ r. ⌜ r ≡ bit (turns vars (now (table .entry)) index b) ⌝ }
 {
+    if index < vars as usize {
+        if value(table, index) != b {
+            return 1;
+        }
+    }
+    0
+}
+
+// Writes a byte, and gives how many times variables have been turned over, this write counted.
+pub fn write(vars: u32, table: &mut [u8], index: usize, b: bool, moved: u32) -> u32
+    requires { ⌜ moved + 1 < 2 ^ 32 ⌝ }
+    ensures { λ r. ⌜ stateWith vars (now (table .exit)) r ≡ write (stateWith vars (now (table .entry)) moved) index b ⌝ }
+{
+    let sum = moved + turned(vars, table, index, b);
     if index < table.len() {
         if b {
             table[index] = 1;
@@ -26,15 +43,19 @@ pub fn write(table: &mut [u8], index: usize, b: bool)
             table[index] = 0;
         }
     }
+    sum
 }
 
 // With power as write, and without power nothing.
-pub fn write_if(table: &mut [u8], index: usize, power: bool, b: bool)
-    ensures { λ _. ⌜ now (table .exit) ≡ writtenIf power (now (table .entry)) index b ⌝ }
+pub fn write_if(vars: u32, table: &mut [u8], index: usize, power: bool, b: bool, moved: u32) -> u32
+    requires { ⌜ moved + 1 < 2 ^ 32 ⌝ }
+    ensures { λ r. ⌜ stateWith vars (now (table .exit)) r
+        ≡ writeIf power (stateWith vars (now (table .entry)) moved) index b ⌝ }
 {
     if power {
-        write(table, index, b);
+        return write(vars, table, index, b, moved);
     }
+    moved
 }
 
 // Question 11.

@@ -11,7 +11,8 @@ use test_requests::output;
 
 fn put_counts(room: &mut [u8], placed: usize, ending: u64, counts: Counts) -> usize {
     let ended = output::put_number(room, placed, ending);
-    output::put_next(room, ended, counts.rungs as u64)
+    let rungs = output::put_next(room, ended, counts.rungs as u64);
+    output::put_next(room, rungs, counts.moved as u64)
 }
 
 fn put_scanned(room: &mut [u8], placed: usize, answer: LadderScanned) -> usize {
@@ -43,7 +44,7 @@ fn answer_scan(
 {
     let n = lent.words;
     let m = lent.records;
-    let mut answer = LadderScanned::Stopped(Counts { rungs: 0 });
+    let mut answer = LadderScanned::Stopped(Counts { rungs: 0, moved: 0 });
     let mut left = turns;
     while 0 < left {
         test_requests::copy_bytes(given, table);

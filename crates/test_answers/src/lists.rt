@@ -2,6 +2,7 @@
 ghost use mathlib.Core.Path.{_≡_};
 ghost use Prim.Native.Nat.{_≤_};
 ghost use lib.ListN.{length};
+use list_definitions::Counts;
 use list_definitions::ListScanned;
 use list_definitions::Listed;
 use test_requests::State;
@@ -9,21 +10,21 @@ use test_requests::input;
 use test_requests::input::Input;
 use test_requests::input::Lent;
 use test_requests::output;
-use test_requests::output::Head;
 
-fn scan_head(answer: ListScanned) -> Head {
+fn put_counts(room: &mut [u8], placed: usize, ending: u64, counts: Counts) -> usize {
+    let ended = output::put_number(room, placed, ending);
+    let instructions = output::put_next(room, ended, counts.instructions as u64);
+    let rungs = output::put_next(room, instructions, counts.rungs as u64);
+    output::put_next(room, rungs, counts.moved as u64)
+}
+
+fn put_scanned(room: &mut [u8], placed: usize, answer: ListScanned) -> usize {
     match answer {
-        ListScanned::Ended(counts) => Head {
-            ending: 1,
-            first: counts.instructions as u64,
-            second: counts.rungs as u64,
-        },
-        ListScanned::Stopped(counts) => Head {
-            ending: 2,
-            first: counts.instructions as u64,
-            second: counts.rungs as u64,
-        },
-        ListScanned::Refused(refusal) => output::refused_head(refusal),
+        ListScanned::Ended(counts) => put_counts(room, placed, 1, counts),
+        ListScanned::Stopped(counts) => put_counts(room, placed, 2, counts),
+        ListScanned::Refused(refusal) => {
+            output::put_head(room, placed, output::refused_head(refusal))
+        }
     }
 }
 
@@ -39,9 +40,10 @@ fn put_listed(room: &mut [u8], placed: usize, answer: Listed) -> usize {
 
 // Before the first turn.
 fn none_scanned() -> ListScanned {
-    ListScanned::Stopped(list_definitions::Counts {
+    ListScanned::Stopped(Counts {
         instructions: 0,
         rungs: 0,
+        moved: 0,
     })
 }
 
@@ -79,7 +81,7 @@ fn answer_scan(
         );
         left -= 1;
     }
-    let ended = output::put_head(room, placed, scan_head(answer));
+    let ended = put_scanned(room, placed, answer);
     let shown = output::put_bytes(room, ended, table, table.len());
     output::put_byte(room, shown, b'\n')
 }

@@ -189,28 +189,30 @@ fn put_translated(room: &mut [u8], placed: usize, answer: Translated) -> usize {
     }
 }
 
+// The counts that both scans answer.
+fn put_counts(room: &mut [u8], placed: usize, rungs: u32, moved: u32) -> usize {
+    let after_rungs = put_count(room, placed, b" rungs", rungs as u64);
+    put_count(room, after_rungs, b" moved", moved as u64)
+}
+
 fn put_ladder(room: &mut [u8], placed: usize, answer: LadderScanned) -> usize {
     let name = output::put_text(room, placed, b"\nladder scan");
     match answer {
-        LadderScanned::Ended(counts) => put_count(
-            room,
-            name,
-            b" ended, rungs",
-            counts.rungs as u64,
-        ),
-        LadderScanned::Stopped(counts) => put_count(
-            room,
-            name,
-            b" stopped, rungs",
-            counts.rungs as u64,
-        ),
+        LadderScanned::Ended(counts) => {
+            let ended = output::put_text(room, name, b" ended,");
+            put_counts(room, ended, counts.rungs, counts.moved)
+        }
+        LadderScanned::Stopped(counts) => {
+            let stopped = output::put_text(room, name, b" stopped,");
+            put_counts(room, stopped, counts.rungs, counts.moved)
+        }
         LadderScanned::Refused(refusal) => put_refusal(room, name, refusal),
     }
 }
 
-fn put_counts(room: &mut [u8], placed: usize, counts: list_definitions::Counts) -> usize {
-    let rungs = put_count(room, placed, b" rungs", counts.rungs as u64);
-    put_count(room, rungs, b" instructions", counts.instructions as u64)
+fn put_list_counts(room: &mut [u8], placed: usize, counts: list_definitions::Counts) -> usize {
+    let shared = put_counts(room, placed, counts.rungs, counts.moved);
+    put_count(room, shared, b" instructions", counts.instructions as u64)
 }
 
 fn put_list(room: &mut [u8], placed: usize, answer: ListScanned) -> usize {
@@ -218,11 +220,11 @@ fn put_list(room: &mut [u8], placed: usize, answer: ListScanned) -> usize {
     match answer {
         ListScanned::Ended(counts) => {
             let ended = output::put_text(room, name, b" ended,");
-            put_counts(room, ended, counts)
+            put_list_counts(room, ended, counts)
         }
         ListScanned::Stopped(counts) => {
             let stopped = output::put_text(room, name, b" stopped,");
-            put_counts(room, stopped, counts)
+            put_list_counts(room, stopped, counts)
         }
         ListScanned::Refused(refusal) => put_refusal(room, name, refusal),
     }

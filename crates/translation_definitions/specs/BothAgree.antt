@@ -13,7 +13,7 @@ use Rattle.ladder_definitions.specs.Kept.{Kept}
 use Rattle.ladder_definitions.specs.LadderScan.{scanned as ladderScanned}
 use Rattle.list_definitions.specs.ListScan.{scanned as listScanned}
 use Rattle.translation_definitions.specs.TranslateKept.{translateKept, translated}
-use Rattle.translation_definitions.specs.Demand3.{EndedAlike, StoppedAlike, ScansAlike}
+use Rattle.translation_definitions.specs.Demand3.{EndedAlike, SameSum, StoppedAlike, ScansAlike, SumsAlike}
 use Rattle.translation_definitions.specs.Calls.{Given}
 use Rattle.translation_definitions.specs.BothScans.{Lent, BothEnds, BothAnswer, both}
 
@@ -37,12 +37,16 @@ pub record BothAgree (vars : ℕ) (kept : Kept) (lent : Buffers) (n w : ℕ) (an
   pub ran : BothRan vars kept lent n answer after
   pub alike : ScansAlike 2 (ran .ends .counts .longest) n w (ladderScanned (ran .ends .ladderHalt) (ran .ends .ladder)) (stateOf vars (after .ladderTable))
       (listScanned (ran .ends .listHalt) (ran .ends .list)) (stateOf vars (after .listTable))
+  -- 02, Req 02: "reports the same sum"
+  pub sums : SumsAlike (ran .ends .counts .longest) w (ladderScanned (ran .ends .ladderHalt) (ran .ends .ladder)) (listScanned (ran .ends .listHalt) (ran .ends .list))
 
 -- Demand 3 under its own instruction watchdog, k × L or 2 × n: the two scans end alike, or both are stopped.
 pub record PairedAgree (vars : ℕ) (kept : Kept) (lent : Buffers) (n : ℕ) (answer : BothAnswer) (after : Lent) : Type 0 where
   pub ran : BothRan vars kept lent n answer after
   pub ended : ran .ends .ladderHalt ≡ Ended → EndedAlike 2 (ran .ends .counts .longest) (ran .ends .ladder .rungs) (stateOf vars (after .ladderTable))
       (listScanned (ran .ends .listHalt) (ran .ends .list)) (stateOf vars (after .listTable))
+  -- 02, Req 02: "reports the same sum"
+  pub same-sum : ran .ends .ladderHalt ≡ Ended → SameSum (ran .ends .ladder .moved) (listScanned (ran .ends .listHalt) (ran .ends .list))
   pub stopped : ran .ends .ladderHalt ≡ Stopped → StoppedAlike (listScanned (ran .ends .listHalt) (ran .ends .list))
 
 -- what both_scans promises besides: where the hypotheses hold and w is legal, demand 3

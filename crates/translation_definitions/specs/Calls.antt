@@ -16,7 +16,7 @@ use Rattle.list_definitions.specs.Questions.{listAnswer}
 use Rattle.list_definitions.specs.ListScan.{callListScan}
 use Rattle.translation_definitions.specs.Translate.{translate}
 use Rattle.translation_definitions.specs.TranslateKept.{Counts, translateKept, listBuffers, translated}
-use Rattle.translation_definitions.specs.Demand3.{ScansAlike}
+use Rattle.translation_definitions.specs.Demand3.{ScansAlike, SumsAlike}
 
 -- "for every accepted ladder of V variables that is translated, every legal table and every rung watchdog n from 0 to 65,535"; Translate has room enough
 pub record Given (vars : ℕ) (kept : Kept) (lent : Buffers) (table : List ℕ) (n : ℕ) : Type 0 where
@@ -32,6 +32,11 @@ CallsAlike least longest vars kept words records table n = (w : ℕ) →
     let list = callListScan vars words records table w in
     ScansAlike least longest n w (ladder .answer) (stateOf vars (ladder .table)) (list .answer) (stateOf vars (list .table))
 
+-- The sums of these two scans.
+unfoldable pub CallsSums : ℕ → ℕ → Kept → List ℕ → List RungRecord → List ℕ → ℕ → Type 0
+CallsSums longest vars kept words records table n = (w : ℕ) →
+    SumsAlike longest w (callLadderScan vars kept table n .answer) (callListScan vars words records table w .answer)
+
 pub record ScansAgree (vars : ℕ) (kept : Kept) (words : List ℕ) (records : List RungRecord) (longest : ℕ) (table : List ℕ) (n : ℕ) : Type 0 where
   -- the list is one that List scan and Listing take
   pub list-accepted : listAnswer vars words records ≡ yes
@@ -45,6 +50,8 @@ pub record ScansAgree (vars : ℕ) (kept : Kept) (words : List ℕ) (records : L
   -- "Stopped at n rungs"
   pub stopped-at : halt ≡ Stopped → counts .rungs ≡ n
   pub alike : CallsAlike 2 longest vars kept words records table n
+  -- 02, Req 02: "reports the same sum"
+  pub sums : CallsSums longest vars kept words records table n
 
 pub record CallsAgree (vars : ℕ) (kept : Kept) (lent : Buffers) (table : List ℕ) (n : ℕ) : Type 0 where
   pub counts : Counts

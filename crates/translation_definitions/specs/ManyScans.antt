@@ -17,7 +17,7 @@ use Rattle.list_definitions.specs.Instruction.{instrWord}
 use Rattle.list_definitions.specs.Machine.{InstructionList}
 use Rattle.list_definitions.specs.ListScan.{ListScanCall, callListScan}
 use Rattle.translation_definitions.specs.Translate.{translate}
-use Rattle.translation_definitions.specs.Demand3.{EndedAlike}
+use Rattle.translation_definitions.specs.Demand3.{EndedAlike, SameSum}
 
 -- a variable, and the value, 0 or 1, that the input phase gives it; that it is below V need not be asked
 pub record InputValue : Type 0 where
@@ -76,6 +76,8 @@ module _ (vars : ℕ) (kept : Kept) where
     pub counts : LadderCounts
     pub ladder-ended : ladder .answer ≡ ladderScanned Ended counts
     pub list-ended : EndedAlike 2 longestFor (counts .rungs) (stateOf vars (ladder .table)) (list .answer) (stateOf vars (list .table))
+    -- 02, Req 02: "reports the same sum"
+    pub same-sum : SameSum (counts .moved) (list .answer)
 
   -- Both scans do so every time, from the tables t and u on.
   unfoldable pub ManyAgree : List Scan → List ℕ → List ℕ → Type 0

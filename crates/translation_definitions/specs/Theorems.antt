@@ -25,10 +25,10 @@ use Rattle.list_definitions.specs.Questions.{instrInRange, question10}
 use Rattle.translation_definitions.specs.Translate.{rungCode, translate, codeBound}
 use Rattle.translation_definitions.specs.declared.Translated.{Translated}
 use Rattle.translation_definitions.specs.TranslateKept.{translateKept, TranslateDone}
-use Rattle.translation_definitions.specs.Agreement.{Agreement}
+use Rattle.translation_definitions.specs.Agreement.{Agreement, SumsAgree}
 use Rattle.translation_definitions.specs.Calls.{Given, ScansAgree, CallsAgree}
 use Rattle.translation_definitions.specs.RowsAgree.{keptIn, RowsAgree}
-use Rattle.translation_definitions.specs.Laws.Lists.{start, records-are, start-near, translated-agrees}
+use Rattle.translation_definitions.specs.Laws.Lists.{start, records-are, start-near, translated-agrees, translated-sums}
 use Rattle.translation_definitions.specs.Laws.Legal.{list-in-range, list-decodes, watchdog-in-range, codes-in-range, codes-short}
 use Rattle.translation_definitions.specs.Laws.Exact.{codes-within}
 use Rattle.translation_definitions.specs.BothScans.{Lent, BothEnds, both, refused, bothScans, pairedScans}
@@ -41,7 +41,11 @@ use Rattle.translation_definitions.specs.Laws.Rows.{rows-alike}
 
 -- Demand 3: for every accepted ladder of V variables, every legal table, every rung watchdog n and every instruction watchdog.
 pub agreement : (gs : Ladder) (s : State) (n : ℕ) → Accepted (s .vars) gs → Legal s → Agreement 2 gs (translate (s .vars) gs) s n
-agreement gs s n accepted legal = translated-agrees (s .vars) gs s n accepted (alike-self s legal)
+agreement gs s n accepted legal = translated-agrees (s .vars) gs accepted s n (alike-self s legal)
+
+-- 02, Req 02: for the same ladders, tables and watchdogs, "When a ladder scan ends, its list, scanned as in demand 3, reports the same sum."
+pub same-sum : (gs : Ladder) (s : State) (n : ℕ) → Accepted (s .vars) gs → Legal s → SumsAgree gs (translate (s .vars) gs) s n
+same-sum gs s n accepted legal = translated-sums (s .vars) gs accepted s n (alike-self s legal)
 
 -- An accepted ladder's list gets a "yes" to question 10,
 pub list-accepted : (vars : ℕ) (gs : Ladder) → Accepted vars gs → question10 vars (map instrWord (translate vars gs .code)) (translate vars gs .records) ≡ yes

@@ -26,7 +26,7 @@ list-end-requires : tie.Need-list-end-requires
 list-end-requires c κs = search needs
 
 same-length : tie.Need-same-length
-same-length c = search needs
+same-length c = search (needs, c .before .before .before .before .before .before .before .before .before .before .before .before .before .before .before .before .before .before .before .copy-table .kept, c .before .before .before .before .before .before .before .before .before .before .before .ladder-scan .kept)
 
 same-length-2 : tie.Need-same-length-2
 same-length-2 c = search needs

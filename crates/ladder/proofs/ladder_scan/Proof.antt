@@ -1,6 +1,6 @@
 -- `ladder::ladder_scan` meets its contract: the questions' answer, and then the scan. Assumes nothing.
 use Rattle.questions.specs.Laws.Answers.{verdict-refused, verdict-accepted}
-use Rattle.ladder_walk.specs.Laws.Scans.{scan-refuses}
+use Rattle.ladder_walk.specs.Laws.Scans.{scan-refuses, scan-fits}
 use Rattle.ladder.proofs.Answers.{scan-done}
 use borrow.Author.Needs.{needs}
 use Rattle.ladder.proofs.ladder_scan.Statement.{statement}
@@ -16,7 +16,7 @@ enum-told : tie.Need-enum-told
 enum-told c = search needs
 
 run-requires : tie.Need-run-requires
-run-requires c κs = search needs
+run-requires c κs = scan-fits _ _ _ _ (verdict-accepted (c .before .before .before .scan-questions .ensures) (c .before .enum-told .given .1))
 
 same-length : tie.Need-same-length
 same-length c = search needs

@@ -10,7 +10,7 @@ use Rattle.questions.specs.Questions.{Answer, Refusal, question12, mostRungWatc
 use Rattle.questions.specs.Laws.Answers.{each-passed, first-yes}
 use Rattle.table.specs.State.{stateOf, beyondVariables, SameButScratch}
 use Rattle.table.specs.Questions.{question11}
-use Rattle.table.specs.Laws.Alike.{alike-legal, alike-same}
+use Rattle.table.specs.Laws.Alike.{alike-legal, alike-same, same-tables}
 use Rattle.ladder_definitions.specs.Tree.{Ladder}
 use Rattle.ladder_definitions.specs.Meaning.{LadderResult, scanLadder}
 use Rattle.ladder_definitions.specs.Kept.{Kept}
@@ -53,23 +53,23 @@ module _ (vars : ℕ) (k : Kept) (n : ℕ) where
       let ok = first-yes (ladderAnswer vars k) later (sym (ladder-first vars k later) ∙ e) in
       each-passed 6 (rungBelow vars) gs (accepted vars k ok .1 .variables)
 
-  -- the state that the scan left, from its table
-  left-state : (table : List ℕ) → asked table ≡ none → stateOf vars (scanEnds (scan table) .table) ≡ scan table .state
-  unfolding scanEnds
-  left-state table e = λ i. stateOf (sym (scan-stays gs n (stateOf vars table) (below table e) .same-vars) i) (scan table .state .bytes)
+  -- the scan leaves V
+  same-vars : (table : List ℕ) → asked table ≡ none → scan table .state .vars ≡ vars
+  same-vars table e = scan-stays gs n (stateOf vars table) (below table e) .same-vars
 
   pub call-stays : (table : List ℕ) → beyondVariables (stateOf vars (call table .table)) ≡ beyondVariables (stateOf vars table)
+  unfolding scanEnds beyondVariables
   call-stays table = go (asked table) refl
     where
       go : (a : Answer) → asked table ≡ a → beyondVariables (stateOf vars (call table .table)) ≡ beyondVariables (stateOf vars table)
       go (some refusal) e = rw (call-refused table refusal e)
-      go none e = rw (call-scanned table e, left-state table e) (scan-stays gs n (stateOf vars table) (below table e) .same-beyond)
+      go none e = rw (call-scanned table e) (rw (same-vars table e) at (scan-stays gs n (stateOf vars table) (below table e) .same-beyond))
 
   module _ (t u : List ℕ) (ht : question11 (stateOf vars t) ≡ none) (hu : question11 (stateOf vars u) ≡ none)
       (same : SameButScratch (stateOf vars t) (stateOf vars u)) where
     scans : asked u ≡ none → ScansAlike vars (scan t) (scan u)
     scans e = scan-alike vars gs n (stateOf vars t) (stateOf vars u) (below u e)
-        (alike-legal (stateOf vars t) (stateOf vars u) (record { table = ht }) (record { table = hu }) same)
+        (alike-legal (stateOf vars t) (stateOf vars u) (record { table = ht }) (record { table = hu }) same refl)
 
     pub call-alike : (call t .answer ≡ call u .answer) × SameButScratch (stateOf vars (call t .table)) (stateOf vars (call u .table))
     unfolding scanEnds
@@ -80,5 +80,7 @@ module _ (vars : ℕ) (k : Kept) (n : ℕ) where
         go none e =
             let et = same-asked t u ht hu ∙ e in
             let x = scans e in
-            rw (call-scanned t et, call-scanned u e, left-state t et, left-state u e)
-            (λ i. scanned (x .halt i) (record { rungs = x .rungs i }), alike-same (x .state))
+            rw (call-scanned t et, call-scanned u e) (
+              λ i. scanned (x .halt i) (record { rungs = x .rungs i; moved = x .state .same-moved i }),
+              same-tables vars (same-vars t et) (same-vars u e) (alike-same (x .state)),
+            )

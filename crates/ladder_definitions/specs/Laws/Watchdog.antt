@@ -6,7 +6,7 @@ use mathlib.Core.Path.{_≡_, refl, sym, ap, _∙_}
 use mathlib.Core.Logic.{_⊎_, inl, inr}
 use mathlib.Core.List.{[], _∷_}
 use Rattle.table.specs.State.{State}
-use Rattle.table.specs.Halt.{Ended, Stopped}
+use Rattle.table.specs.Halt.{Halt, Ended, Stopped}
 use Rattle.ladder_definitions.specs.Tree.{Rung, Ladder}
 use Rattle.ladder_definitions.specs.Meaning.{runRung, follow, left, LadderResult, scanFrom, scanLadder}
 use Rattle.ladder_definitions.specs.Standing.{Stands, atFirst, afterRung}
@@ -75,3 +75,18 @@ module _ (gs : Ladder) (s : State) where
           let u : h .1 ≡ t = ap (λ y. y .state) (sym (h .4) ∙ e) in
           (rw n at (h .3), rw (n, u) at (h .2))
       go (inr h) = absurd (apart e (h .4))
+
+-- the rungs entered are at most the watchdog, and equal it where the scan is Stopped
+module _ (gs : Ladder) (n : ℕ) (s : State) where
+  abbrev x : LadderResult
+  x = scanLadder gs n s
+
+  pub stopped-rungs : x .halt ≡ Stopped → x .rungs ≡ n
+  stopped-rungs e = stopped-stands gs s n (x .rungs) (x .state) (λ i. record { halt = e i; rungs = x .rungs; state = x .state }) .0
+
+  pub few-rungs : x .rungs ≤ n
+  few-rungs = go (x .halt) refl
+    where
+      go : (h : Halt) → x .halt ≡ h → x .rungs ≤ n
+      go Ended e = ended-stands gs s n (x .rungs) (x .state) (λ i. record { halt = e i; rungs = x .rungs; state = x .state }) .0
+      go Stopped e = let q = stopped-rungs e in omega arith

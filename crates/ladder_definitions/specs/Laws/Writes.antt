@@ -11,6 +11,7 @@ use Rattle.questions.specs.Laws.Tests.{all-head, all-tail}
 use Rattle.table.specs.State.{State}
 use Rattle.table.specs.Writes.{Write}
 use Rattle.table.specs.Laws.Legal.{LegalTable}
+use Rattle.table.specs.Laws.Changes.{makes-few}
 use Rattle.table.specs.Laws.Replaying.{makes, makes-append, makes-legal, write-if-makes, wrote-if-few}
 use Rattle.ladder_definitions.specs.Tree.{contact, contactn, Front, input, frontAnd, frontOr, Output, coil, coiln, jump, jumpn, setCoil, resetCoil, Rear, output, rearAnd, rearOr, Rung, Ladder}
 use Rattle.ladder_definitions.specs.Meaning.{workInput, workFront, Run, onward, jumped, left, jumpIf, unlessJumped, runOutput, runRear, runRung, follow, scanFrom, scanLadder}
@@ -145,3 +146,11 @@ from-few gs (suc n) k (g ∷ rest) s b c =
 pub ladder-few : (gs : Ladder) (n : ℕ) (s : State) → T (all shortRung gs) → length (ladderWrites gs n s) ≤ mostRungWrites * scanLadder gs n s .rungs
 unfolding scanLadder ladderWrites
 ladder-few gs n s b = let h = from-few gs n 0 gs s b b in omega arith
+
+-- each turns one variable over at most
+pub ladder-moved : (gs : Ladder) (n : ℕ) (s : State) → T (all shortRung gs) → scanLadder gs n s .state .moved ≤ s .moved + mostRungWrites * scanLadder gs n s .rungs
+ladder-moved gs n s b =
+    let few = ladder-few gs n s b in
+    let most = makes-few (ladderWrites gs n s) s in
+    let state = ap (λ t. t .moved) (ladder-makes gs n s) in
+    omega arith

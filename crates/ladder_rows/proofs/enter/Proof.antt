@@ -10,8 +10,8 @@ cast-run-rung c = search needs
 run-rung-requires : tie.Need-run-rung-requires
 run-rung-requires c κs = search needs
 
-enum-told : tie.Need-enum-told
-enum-told c = search needs
+enum-known-sum : tie.Need-enum-known-sum
+enum-known-sum c = search needs
 
 enum-known-label : tie.Need-enum-known-label
 enum-known-label c = search needs
@@ -20,13 +20,13 @@ same-length : tie.Need-same-length
 same-length c = search needs
 
 returns : tie.Need-returns
-returns c = entered-onward _ _ _ _ _ _ (c .before .before .before .before .run-rung .ensures) _ (c .enum-told .given .1)
+returns c = entered-onward _ _ _ _ _ _ _ _ (c .before .before .before .before .before .run-rung .ensures) _ _ (c .before .sum .given .1)
 
 same-length-2 : tie.Need-same-length-2
 same-length-2 c = search needs
 
 returns-2 : tie.Need-returns-2
-returns-2 c = entered-jumped _ _ _ _ _ _ (c .before .before .before .before .before .run-rung .ensures) _ (c .before .label .given .1)
+returns-2 c = entered-jumped _ _ _ _ _ _ _ _ (c .before .before .before .before .before .run-rung .ensures) _ _ (c .before .label .given .1)
 
 pub enter-spec : {M : Type 1} → statement M
 enter-spec =
@@ -34,7 +34,7 @@ enter-spec =
     (tie.spec
     cast-run-rung
     run-rung-requires
-    enum-told
+    enum-known-sum
     enum-known-label
     same-length
     returns

@@ -63,9 +63,9 @@ use Rattle.rows.proofs.gather as gather
 use Rattle.rows.proofs.gather.Symbol as gather-def
 use Rattle.rows.proofs.gather.Symbol.{name as #rows·gather}
 use Rattle.rows.proofs.gather.Met as gather-thm
-use Rattle.ladder_rows.specs.Parts.{longHolds, RowAsked, RowScanned}
+use Rattle.ladder_rows.specs.Parts.{longHolds, RowAsked, RowReady, RowScanned}
 use Rattle.rungs.proofs.Again.{LentAgain, lends-again, comes-back}
-use Rattle.ladder_rows.proofs.Answers.{row-done}
+use Rattle.ladder_rows.proofs.Answers.{row-ready, row-done}
 use Rattle.ladder_rows.proofs.long_holds as long-holds
 use Rattle.ladder_rows.proofs.long_holds.Symbol as long-holds-def
 use Rattle.ladder_rows.proofs.long_holds.Symbol.{name as #ladder-rows·long-holds}
@@ -252,18 +252,18 @@ module _ {M : Type 1} (𝓤 : URA M) (H : Heap 𝓤) (A : Atoms 𝓤) (W : Given
   abbrev Asked : Verdict → List ℕ → Type 0
   Asked d zs = RowAsked vars (words .now) G long ts watchdog d × (zs ≡ ts)
 
-  abbrev run-of : Verdict → Verdict × (RefT (List ℕ) × (RefT (List Rung) × (RefT (List ℕ) × (ℕ × Unit {0}))))
-  run-of d = (d, (words, (row, (named-table γ, (watchdog, tt)))))
+  abbrev run-of : Verdict → Verdict × (ℕ × (RefT (List ℕ) × (RefT (List Rung) × (RefT (List ℕ) × (ℕ × Unit {0})))))
+  run-of d = (d, (vars, (words, (row, (named-table γ, (watchdog, tt))))))
 
   abbrev to-run : Verdict → Val → Run 𝓤 H A at-mem run .Ghost
-  to-run d v = (((κ₀, (κ₁, (κ₂, tt))), (q₀, (q₁, (q₂, tt))), tt, run-of d, (v ∷ [], (sw ∷ [], (sr ∷ [], (st ∷ [], (vint w32 watchdog ∷ [], tt)))))), tt)
+  to-run d v = (((κ₀, (κ₁, (κ₂, tt))), (q₀, (q₁, (q₂, tt))), tt, run-of d, (v ∷ [], (vint w32 vars ∷ [], (sw ∷ [], (sr ∷ [], (st ∷ [], (vint w32 watchdog ∷ [], tt))))))), tt)
 
-  goes-run : (d : Verdict) (v : Val) → Is D.the-row d (v ∷ []) → ent 𝓤 (⋆ 𝓤 H A (tokens ∷ (‵ Own-words ⊛ ‵ Own-row) ∷ ‵ Own-table ∷ [])) (Run 𝓤 H A at-mem run .pre (to-run d v))
-  goes-run d v is =
-      qed W (tokens ∷ (‵ Own-words ⊛ ‵ Own-row) ∷ ‵ Own-table ∷ []) ∵ nothing ! $ owned ! u32 (Is u32) (uint-makes 𝓤 H A W w32) watchdog _ (refl, watchdog-fits) $ fjoin ! $ move ! (3 ∷ 0 ∷ []) $ fjoin ! $
-      -- [the table and the watchdog; the tokens; the words and the row]
-      move ! (2 ∷ []) $ split ! $ move ! (1 ∷ 2 ∷ []) $ fjoin ! $ move ! (1 ∷ 0 ∷ []) $ fjoin ! $
-      owned ! D.the-row (Is D.the-row) (EL.makes D.the-type D′.the-plain 𝓤 H A) d _ is $ fjoin ! $ move ! (1 ∷ 0 ∷ []) $ join ! $ frame ! $ done !
+  goes-run : (d : Verdict) (v : Val) → Is D.the-row d (v ∷ []) → RowReady d (words .now) watchdog → ent 𝓤 (⋆ 𝓤 H A (tokens ∷ (‵ Own-words ⊛ ‵ Own-row) ∷ ‵ Own-table ∷ [])) (Run 𝓤 H A at-mem run .pre (to-run d v))
+  goes-run d v is ready =
+      qed W (tokens ∷ (‵ Own-words ⊛ ‵ Own-row) ∷ ‵ Own-table ∷ []) ∵ says ! ready $ frame ! $ nothing ! $ owned ! u32 (Is u32) (uint-makes 𝓤 H A W w32) watchdog _ (refl, watchdog-fits) $ fjoin ! $ move ! (2 ∷ 0 ∷ []) $ fjoin ! $
+      -- [the table and the watchdog; the words and the row]
+      move ! (1 ∷ []) $ split ! $ move ! (1 ∷ 2 ∷ []) $ fjoin ! $ move ! (1 ∷ 0 ∷ []) $ fjoin ! $ owned ! u32 (Is u32) (uint-makes 𝓤 H A W w32) vars _ (refl, vars-fits) $ fjoin ! $
+      owned ! D.the-row (Is D.the-row) (EL.makes D.the-type D′.the-plain 𝓤 H A) d _ is $ fjoin ! $ done !
 
   module _ (C : Calls 𝓤 H) (Λ : Loops 𝓤 H) (fm : FmC 𝓤 H (W .laws) C) (known-long : Triple 𝓤 (C #ladder-rows·long-holds) (Long 𝓤 H A at-mem run)) (known-gather : Triple 𝓤 (C #rows·gather) (Gather 𝓤 H A at-mem run))
       (known-ask : Triple 𝓤 (C #ladder-rows·ask) (Ask 𝓤 H A at-mem run)) (known-run : Triple 𝓤 (C #ladder-rows·run) (Run 𝓤 H A at-mem run)) where
@@ -293,20 +293,20 @@ module _ {M : Type 1} (𝓤 : URA M) (H : Heap 𝓤) (A : Atoms 𝓤) (W : Given
           move ! (29 ∷ []) $ use1 W (‵ Own-words ⊛ ‵ Own-words) (shr-slice-copy 𝓤 H A W (named 0) κ₀ u32 .twice words (sw ∷ [])) $ split ! $
           move ! (31 ∷ []) $ use1 W (‵ Own-row ⊛ ‵ Own-row) (shr-slice-copy 𝓤 H A W (named 1) κ₁ T.the-row .twice row (sr ∷ [])) $ split ! $ move ! (2 ∷ 0 ∷ []) $ join ! $
           nothing ! $ move ! (32 ∷ 0 ∷ []) $ join ! $ move ! (31 ∷ 0 ∷ []) $ join ! $ move ! (30 ∷ 0 ∷ []) $ join ! $ move ! (0 ∷ 1 ∷ 30 ∷ []) $
-          use3 W (raw (Run 𝓤 H A at-mem run .pre (to-run d v))) (goes-run d v is) $
+          use3 W (raw (Run 𝓤 H A at-mem run .pre (to-run d v))) (goes-run d v is (row-ready vars (words .now) G long ts watchdog d rs asked refl refl)) $
           -- [what `run` asks; the row; the words; _12; …; _11; …; room for _10; …]
           calls-at ! fm (Run 𝓤 H A at-mem run) known-run (to-run d v)
-          (and-then ! (load ! (from ! (stop !)) (look ! 13 refl)) (and-then ! (load ! (from ! (stop !)) (look ! 23 refl)) (and-then ! (load ! (from ! (stop !)) (look ! 21 refl)) (and-then ! (load ! (from ! (stop !)) (look ! 3 refl)) (and-then ! (load ! (from ! (stop !)) (look ! 17 refl)) (no-more !)))))) (λ w.
+          (and-then ! (load ! (from ! (stop !)) (look ! 13 refl)) (and-then ! (load ! (from ! (stop !)) (look ! 25 refl)) (and-then ! (load ! (from ! (stop !)) (look ! 23 refl)) (and-then ! (load ! (from ! (stop !)) (look ! 21 refl)) (and-then ! (load ! (from ! (stop !)) (look ! 3 refl)) (and-then ! (load ! (from ! (stop !)) (look ! 17 refl)) (no-more !))))))) (λ w.
           use1 W (later (some (λ (r : LadderScanned). (tokens ⊛ ‵ (E.the-row .own r (w ∷ []))) ⊛ raw (ensured 𝓤 H A run-fn.ended (run-fn.clauses 𝓤 H A at-mem run) (κ₀, (κ₁, (κ₂, tt))) (run-of d) tt r)))) (id⊢ 𝓤 _) $ await ! tt $ pick ! (λ r.
-          split ! $ move ! (1 ∷ []) $ use1 W (some (λ (zs : Unit {0} × (Unit {0} × (Unit {0} × (List ℕ × (Unit {0} × Unit {0}))))). ‵ (lasts run-fn.ended (κ₀, (κ₁, (κ₂, tt))) (run-of d) zs) ⊛ raw (fact 𝓤 (RowScanned d (words .now) rs ts watchdog r (zs .1 .1 .1 .0))))) (id⊢ 𝓤 _) $ pick ! (λ zs.
-          split ! $ move ! (1 ∷ []) $ heard ! (RowScanned d (words .now) rs ts watchdog r (zs .1 .1 .1 .0)) (λ e. fsplit ! $ drop ! $ fsplit ! $ drop ! $ fsplit ! $ drop ! $ fsplit ! $ fsplit ! $ move ! (1 ∷ []) $ feqL ! (λ l.
+          split ! $ move ! (1 ∷ []) $ use1 W (some (λ (zs : Unit {0} × (Unit {0} × (Unit {0} × (Unit {0} × (List ℕ × (Unit {0} × Unit {0})))))). ‵ (lasts run-fn.ended (κ₀, (κ₁, (κ₂, tt))) (run-of d) zs) ⊛ raw (fact 𝓤 (RowScanned d vars (words .now) rs ts watchdog r (zs .1 .1 .1 .1 .0))))) (id⊢ 𝓤 _) $ pick ! (λ zs.
+          split ! $ move ! (1 ∷ []) $ heard ! (RowScanned d vars (words .now) rs ts watchdog r (zs .1 .1 .1 .1 .0)) (λ e. fsplit ! $ drop ! $ fsplit ! $ drop ! $ fsplit ! $ drop ! $ fsplit ! $ drop ! $ fsplit ! $ fsplit ! $ move ! (1 ∷ []) $ feqL ! (λ l.
           move ! (1 ∷ []) $ drop ! $ move ! (1 ∷ []) $ split ! $ move ! (1 ∷ []) $ peeks ! E.the-row (Is E.the-row) (shows 𝓤 H A E.the-row) r (w ∷ []) (λ is′.
           -- [the result; the tokens; the last list; the row; the words; _12; …; _11; …; room for _10; …; room for _9; …; room for _8; …; _7; …; room for _6; …; _5; …; _4; …; _3; …; _2; …; _1; …; room for _0; …]
           land ! (from ! (stop !)) (init ! 29 refl (typed-scanned r w is′)) $
           returns ! (look ! 29 refl) $ forget ! 5 refl $ forget ! 7 refl $ forget ! 15 refl $ forget ! 19 refl $ forget ! 21 refl $ forget ! 23 refl $ forget ! 25 refl $ forget ! 27 refl $ forget ! 29 refl $
           move ! (29 ∷ 30 ∷ []) $ free1 ! $ move ! (27 ∷ 28 ∷ []) $ free1 ! $ move ! (25 ∷ 26 ∷ []) $ free1 ! $ move ! (23 ∷ 24 ∷ []) $ free1 ! $ move ! (21 ∷ 22 ∷ []) $ free1 ! $ move ! (19 ∷ 20 ∷ []) $ free1 ! $ move ! (17 ∷ 18 ∷ []) $ free1 ! $
           move ! (15 ∷ 16 ∷ []) $ free1 ! $ move ! (13 ∷ 14 ∷ []) $ free1 ! $ move ! (11 ∷ 12 ∷ []) $ free1 ! $ move ! (9 ∷ 10 ∷ []) $ free1 ! $ move ! (7 ∷ 8 ∷ []) $ free1 ! $ move ! (5 ∷ 6 ∷ []) $ free1 ! $ free0 ! $
-          keep ! (1 ∷ 4 ∷ 3 ∷ 2 ∷ 0 ∷ []) $ by ! (exits r w (zs .1 .1 .1 .0) (row-done vars (words .now) G long ts watchdog d rs r (zs .1 .1 .1 .0) asked refl refl e) l)))))))
+          keep ! (1 ∷ 4 ∷ 3 ∷ 2 ∷ 0 ∷ []) $ by ! (exits r w (zs .1 .1 .1 .1 .0) (row-done vars (words .now) G long ts watchdog d rs r (zs .1 .1 .1 .1 .0) asked refl refl e) l)))))))
 
       abbrev Gathered : Val → List (Item 𝓤)
       Gathered v = Unused (‵ (fat fullShare rows-ty l₈ 0 v) ∷ ‵ (fdies rows-ty l₈) ∷ ‵ (froom verdict-ty l₇ 0) ∷ ‵ (fdies verdict-ty l₇) ∷ ‵ (fat fullShare bool-ty l₆ 0 (vbool long)) ∷ ‵ (fdies bool-ty l₆) ∷ Params)

@@ -15,7 +15,7 @@ use mir.Syntax.{Ty, Body as Code, named, erased, imm, mut, w8, w32, w64, tyInt, 
 use mir.MapTy.{mapBody}
 use mir.Table.{spell}
 use mir.Val.{Val, WT, hasTy, vint}
-use base.Logic.{SProp, ent, emp, via, fst∗, snd∗, exE, id⊢}
+use base.Logic.{SProp, ent, emp, snd∗, exE, id⊢}
 use base.Fml.{Lft, GName, Share, Fml, ftrue, fat, froom, fdies, flft}
 use prog.Memory.{Memory}
 use prog.Routine.{Routine}
@@ -45,7 +45,7 @@ use denote.Triple.Entry.{onEntry}
 use denote.Triple.Spec.{Meets, tripleOf}
 use denote.Triple.Statement.{Contract, Triple}
 use denote.Triple.Table.{entered, cited}
-use denote.Triple.Walked.{says, Stays, stay-none-slice, stay-slice, stay-none, walkOf, goes-none-slice, goes-slice, goes-none, Walks, ends-at, walked, walk-meets}
+use denote.Triple.Walked.{says, needs, Stays, stay-none-slice, stay-slice, stay-none, walkOf, goes-none-slice, goes-slice, goes-none, Walks, ends-at, walked, walk-meets}
 use denote.Exit.{yes}
 use Rattle.questions.specs.declared.Verdict.{Verdict}
 use Rattle.questions.proofs.Verdict as VerdictType
@@ -67,11 +67,11 @@ use Rattle.rows.proofs.look_up.Met as look-up-thm
 use Rattle.ladder_definitions.specs.declared.LadderScanned.{LadderScanned}
 use Rattle.ladder_definitions.proofs.LadderScanned as L
 use Rattle.ladder_definitions.proofs.LadderScanned.Laws as L′
-use Rattle.ladder_rows.specs.Parts.{begun, Entered, arrived, answered, RowScanned}
+use Rattle.ladder_rows.specs.Parts.{begun, Entered, arrived, answered, RowReady, RowScanned}
 use Rattle.ladder_rows.specs.declared.Standing.{Standing}
 use Rattle.ladder_rows.specs.declared.Way.{Way}
 use Rattle.rungs.proofs.Again.{LentAgain, lends-again, comes-back}
-use Rattle.ladder_rows.proofs.Scans.{Going, going-first, going-needs, going-fits, going-upto, going-nearer, going-next, going-ends}
+use Rattle.ladder_rows.proofs.Scans.{Going, going-first, going-needs, going-fits, going-sum, going-upto, going-nearer, going-next, going-ends}
 use Rattle.ladder_rows.proofs.Standing as S
 use Rattle.ladder_rows.proofs.Standing.Laws as S′
 use Rattle.ladder_rows.proofs.Way as P
@@ -99,7 +99,7 @@ use Rattle.ladder_rows.proofs.run.Code as code
 use Rattle.ladder_rows.proofs.run.Code.Mir as parts
 
 abbrev stayed : Stays (scan.ended .signature .params) (scan.ended .kept)
-stayed = (stay-none (λ _. VerdictType.the-row) yes, (stay-none-slice (0 ∷ []) tt (plain (λ _. u32)) yes, (stay-none-slice (1 ∷ []) tt (plain (λ _. R.the-row)) yes, (stay-slice (2 ∷ []) tt (plain (λ _. u8)), (stay-none (λ _. u32) yes, tt)))))
+stayed = (stay-none (λ _. VerdictType.the-row) yes, (stay-none (λ _. u32) yes, (stay-none-slice (0 ∷ []) tt (plain (λ _. u32)) yes, (stay-none-slice (1 ∷ []) tt (plain (λ _. R.the-row)) yes, (stay-slice (2 ∷ []) tt (plain (λ _. u8)), (stay-none (λ _. u32) yes, tt))))))
 
 -- the locals' types, spelled as the function spells them: so antt compares the two by their text, and does not run the code to compare them
 abbrev spelt : Ty → Ty
@@ -111,6 +111,9 @@ scanned-ty = spelt (pointee (L.the-row .written))
 abbrev verdict-ty : Ty
 verdict-ty = spelt (pointee (VerdictType.the-row .written))
 
+abbrev number : Ty
+number = spelt (tyInt w32)
+
 abbrev words-ty : Ty
 words-ty = spelt (sliceTy (tyRef (named 0) imm (tyInt w32)))
 
@@ -119,9 +122,6 @@ row-ty = spelt (sliceTy (tyRef (named 1) imm (pointee (R.the-row .written))))
 
 abbrev table-ty : Ty
 table-ty = spelt (sliceTy (tyRef (named 2) mut (tyInt w8)))
-
-abbrev watchdog-ty : Ty
-watchdog-ty = spelt (tyInt w32)
 
 abbrev standing-ty : Ty
 standing-ty = spelt (pointee (S.the-row .written))
@@ -146,21 +146,21 @@ lent-ty = spelt (sliceTy (tyRef erased mut (tyInt w8)))
 
 -- a turn, once `enter` has returned, by its types' names
 abbrev last-named : Code
-last-named = seq (call #rows·look-up (copy (place 3 []) ∷ copy (place 7 (field 1 ∷ [])) ∷ copy (place 7 (field 2 ∷ [])) ∷ []) (place 8 []))
-    (seq (assign (place 12 []) (rvOpd (copy (place 3 (field 1 ∷ [])))))
-    (call #ladder-rows·arrive (copy (place 6 []) ∷ copy (place 7 []) ∷ copy (place 8 []) ∷ copy (place 12 []) ∷ copy (place 5 []) ∷ []) (place 6 [])))
+last-named = seq (call #rows·look-up (copy (place 4 []) ∷ copy (place 8 (field 1 ∷ [])) ∷ copy (place 8 (field 2 ∷ [])) ∷ []) (place 9 []))
+    (seq (assign (place 13 []) (rvOpd (copy (place 4 (field 1 ∷ [])))))
+    (call #ladder-rows·arrive (copy (place 7 []) ∷ copy (place 8 []) ∷ copy (place 9 []) ∷ copy (place 13 []) ∷ copy (place 6 []) ∷ []) (place 7 [])))
 
 -- a turn, once `rung_at` has returned
 abbrev rest-named : Code
-rest-named = seq (assign (place 12 []) (rvOpd (copy (place 3 (field 1 ∷ [])))))
-    (seq (assign (place 13 []) (addrOf (place 4 (field 0 ∷ deref (tyInt w8) ∷ []))))
-    (seq (assign (place 14 []) (aggregate (copy (place 13 []) ∷ copy (place 4 (field 1 ∷ [])) ∷ [])))
-    (seq (call #ladder-rows·enter (copy (place 2 []) ∷ copy (place 11 []) ∷ copy (place 12 []) ∷ copy (place 14 []) ∷ []) (place 7 []))
+rest-named = seq (assign (place 13 []) (rvOpd (copy (place 4 (field 1 ∷ [])))))
+    (seq (assign (place 14 []) (addrOf (place 5 (field 0 ∷ deref (tyInt w8) ∷ []))))
+    (seq (assign (place 15 []) (aggregate (copy (place 14 []) ∷ copy (place 5 (field 1 ∷ [])) ∷ [])))
+    (seq (call #ladder-rows·enter (copy (place 2 []) ∷ copy (place 3 []) ∷ copy (place 12 []) ∷ copy (place 13 []) ∷ copy (place 15 []) ∷ copy (place 7 (field 1 ∷ [])) ∷ []) (place 8 []))
     last-named)))
 
 -- a turn, once its test has passed
 abbrev more-named : Code
-more-named = seq (call #rows·rung-at (copy (place 3 []) ∷ copy (place 6 (field 1 ∷ [])) ∷ []) (place 11 [])) rest-named
+more-named = seq (call #rows·rung-at (copy (place 4 []) ∷ copy (place 7 (field 2 ∷ [])) ∷ []) (place 12 [])) rest-named
 
 abbrev last : Code
 last = mapBody spelt last-named
@@ -180,11 +180,11 @@ is-false true h = absurd h
 is-false false h = refl
 
 -- a place in the loop: where the scan stands, the table, and what holds of them
-record Here (v : Verdict) (ws : List ℕ) (rs : List RungRecord) (ts : List ℕ) (w : ℕ) : Type 0 where
+record Here (v : Verdict) (vars : ℕ) (ws : List ℕ) (rs : List RungRecord) (ts : List ℕ) (w : ℕ) : Type 0 where
   at : Standing
   u : List ℕ
   is : Is S.the-row at (S′.lowered at ∷ [])
-  going : Going v ws rs ts w u at
+  going : Going v vars ws rs ts w u at
 
 module _ {M : Type 1} (𝓤 : URA M) (H : Heap 𝓤) (A : Atoms 𝓤) (at-mem : Memory → SProp 𝓤) (run : Routine → Fun 𝓤) where
   -- the contracts that the proof cites, and of each callee's `ensured` the clause alone
@@ -221,8 +221,8 @@ module _ {M : Type 1} (𝓤 : URA M) (H : Heap 𝓤) (A : Atoms 𝓤) (at-mem : 
   said-answer : (v : Verdict) (s : Standing) (n : ℕ) (r : LadderScanned) → ent 𝓤 (ensured 𝓤 H A answer.ended (answer.clauses 𝓤 H A at-mem run) tt (v, (s, (n, tt))) tt r) (fact 𝓤 (r ≡ answered v s n))
   said-answer v s n r = exE 𝓤 _ (λ ws. snd∗ 𝓤 (sem 𝓤 H A (lasts answer.ended tt (v, (s, (n, tt))) ws)) (fact 𝓤 (r ≡ answered v s n)))
 
-module _ {M : Type 1} (𝓤 : URA M) (H : Heap 𝓤) (A : Atoms 𝓤) (W : Given 𝓤 H A) (at-mem : Memory → SProp 𝓤) (run : Routine → Fun 𝓤) (κ₁ κ₂ κ₃ : Lft) (q₁ q₂ q₃ : Share) (v : Verdict) (words : RefT (List ℕ)) (row : RefT (List Rung)) (b o : ℕ) (γ : GName) (ts : List ℕ) (w : ℕ)
-    (is-v : Is VerdictType.the-row v (EL.val VerdictType.the-type VerdictLaws.the-laws v ∷ [])) (room-w : Room u32 (length (words .now))) (room-r : Room R.the-row (length (row .now))) (room-t : Room u8 (length ts)) (w-fits : w < 2 ^ 32) where
+module _ {M : Type 1} (𝓤 : URA M) (H : Heap 𝓤) (A : Atoms 𝓤) (W : Given 𝓤 H A) (at-mem : Memory → SProp 𝓤) (run : Routine → Fun 𝓤) (κ₁ κ₂ κ₃ : Lft) (q₁ q₂ q₃ : Share) (v : Verdict) (vars : ℕ) (words : RefT (List ℕ)) (row : RefT (List Rung)) (b o : ℕ) (γ : GName) (ts : List ℕ) (w : ℕ)
+    (is-v : Is VerdictType.the-row v (EL.val VerdictType.the-type VerdictLaws.the-laws v ∷ [])) (vars-fits : vars < 2 ^ 32) (room-w : Room u32 (length (words .now))) (room-r : Room R.the-row (length (row .now))) (room-t : Room u8 (length ts)) (w-fits : w < 2 ^ 32) (ready : RowReady v (words .now) w) where
   abbrev n : ℕ
   n = length (row .now)
 
@@ -248,17 +248,17 @@ module _ {M : Type 1} (𝓤 : URA M) (H : Heap 𝓤) (A : Atoms 𝓤) (W : Given
   abbrev st : List ℕ → Val
   st l = sliceVal (b, o) (length l)
 
-  abbrev x : Verdict × (RefT (List ℕ) × (RefT (List Rung) × (RefT (List ℕ) × (ℕ × Unit {0}))))
-  x = (v, (words, (row, (at-list γ ts, (w, tt)))))
+  abbrev x : Verdict × (ℕ × (RefT (List ℕ) × (RefT (List Rung) × (RefT (List ℕ) × (ℕ × Unit {0})))))
+  x = (v, (vars, (words, (row, (at-list γ ts, (w, tt))))))
 
-  abbrev vals : List Val × (List Val × (List Val × (List Val × (List Val × Unit {0}))))
-  vals = (vv ∷ [], (sw ∷ [], (sr ∷ [], (st ts ∷ [], (vint w32 w ∷ [], tt)))))
+  abbrev vals : List Val × (List Val × (List Val × (List Val × (List Val × (List Val × Unit {0})))))
+  vals = (vv ∷ [], (vint w32 vars ∷ [], (sw ∷ [], (sr ∷ [], (st ts ∷ [], (vint w32 w ∷ [], tt))))))
 
   abbrev Post : Val → SProp 𝓤
   Post = walkOf 𝓤 H A scan.ended stayed (scan.clauses 𝓤 H A at-mem run) .post (((κ₁, (κ₂, (κ₃, tt))), (q₁, (q₂, (q₃, tt))), tt, x, vals), tt)
 
   abbrev Place : Type 0
-  Place = Here v (words .now) rs ts w
+  Place = Here v vars (words .now) rs ts w
 
   typed : (r : Standing) (z : Val) → Is S.the-row r (z ∷ []) → Holds (hasTy S′.mir z) × WT z
   typed r z is = LL.lawful S.the-type S′.the-laws 𝓤 H A W .typed r _ is .0
@@ -281,16 +281,16 @@ module _ {M : Type 1} (𝓤 : URA M) (H : Heap 𝓤) (A : Atoms 𝓤) (W : Given
   abbrev row-token : Item 𝓤
   row-token = ‵ (flft κ₂ q₂) ⊛ ‵ ftrue
 
-  exits : (i : Place) (r : LadderScanned) (z : Val) → Is L.the-row r (z ∷ []) → RowScanned v (words .now) rs ts w r (i .u)
+  exits : (i : Place) (r : LadderScanned) (z : Val) → Is L.the-row r (z ∷ []) → RowScanned v vars (words .now) rs ts w r (i .u)
       → ent 𝓤 (⋆ 𝓤 H A (‵ (flft κ₁ q₁) ∷ ‵ (flft κ₂ q₂) ∷ ‵ (flft κ₃ q₃) ∷ ‵ Own-words ∷ ‵ Own-row ∷ ‵ (Own-table (i .u)) ∷ [])) (Post z)
   exits i r z is e =
       qed W (‵ (flft κ₁ q₁) ∷ ‵ (flft κ₂ q₂) ∷ ‵ (flft κ₃ q₃) ∷ ‵ Own-words ∷ ‵ Own-row ∷ ‵ (Own-table (i .u)) ∷ []) ∵
-      suffices ! _ (ends-at 𝓤 H A scan.ended stayed (scan.clauses 𝓤 H A at-mem run) W (((κ₁, (κ₂, (κ₃, tt))), (q₁, (q₂, (q₃, tt))), tt, x, vals), tt) z r (tt, (tt, (tt, (i .u, (tt, tt))))) (tt, (tt, (tt, (i .going .long, (tt, tt)))))) $ says ! e $
+      suffices ! _ (ends-at 𝓤 H A scan.ended stayed (scan.clauses 𝓤 H A at-mem run) W (((κ₁, (κ₂, (κ₃, tt))), (q₁, (q₂, (q₃, tt))), tt, x, vals), tt) z r (tt, (tt, (tt, (tt, (i .u, (tt, tt)))))) (tt, (tt, (tt, (tt, (i .going .long, (tt, tt))))))) $ says ! e $
       nothing ! $ move ! (3 ∷ 0 ∷ []) $ join ! $ move ! (2 ∷ 0 ∷ []) $ join ! $ move ! (1 ∷ 0 ∷ []) $ join ! $ frame ! $
       -- [the words; the row; the table]: the table's machine value is the one passed
       rewrite ! 2 (λ (l : ℕ). ‵ (MutSlice (named 2) κ₃ u8 .own (at-list γ (i .u)) (sliceVal (b, o) l ∷ []))) (i .going .long) refl $
       nothing ! $ owned ! u32 (Is u32) (uint-makes 𝓤 H A W w32) w _ (refl, w-fits) $ fjoin ! $ move ! (3 ∷ 0 ∷ []) $ fjoin ! $ move ! (2 ∷ 0 ∷ []) $ fjoin ! $ move ! (1 ∷ 0 ∷ []) $ fjoin ! $
-      owned ! VerdictType.the-row (Is VerdictType.the-row) (EL.makes VerdictType.the-type VerdictLaws.the-plain 𝓤 H A) v _ is-v $ fjoin ! $ frame ! $
+      owned ! u32 (Is u32) (uint-makes 𝓤 H A W w32) vars _ (refl, vars-fits) $ fjoin ! $ owned ! VerdictType.the-row (Is VerdictType.the-row) (EL.makes VerdictType.the-type VerdictLaws.the-plain 𝓤 H A) v _ is-v $ fjoin ! $ frame ! $
       owned ! L.the-row (Is L.the-row) (EL.makes L.the-type L′.the-plain 𝓤 H A) r _ is $ done !
 
   abbrev to-begin : Begin 𝓤 H A at-mem run .Ghost
@@ -335,11 +335,11 @@ module _ {M : Type 1} (𝓤 : URA M) (H : Heap 𝓤) (A : Atoms 𝓤) (W : Given
 
   -- what `enter` is passed in turn i: the record r at the machine value z, and the table lent again for μ under ε
   module _ (i : Place) (r : Rung) (z : Val) (μ : ℕ) (ε : GName) where
-    abbrev passed : RefT (List ℕ) × (Rung × (ℕ × (RefT (List ℕ) × Unit {0})))
-    passed = (words, (r, (n, (at-list ε (i .u), tt))))
+    abbrev passed : ℕ × (RefT (List ℕ) × (Rung × (ℕ × (RefT (List ℕ) × (ℕ × Unit {0})))))
+    passed = (vars, (words, (r, (n, (at-list ε (i .u), (i .at .moved, tt))))))
 
-    abbrev passed-vals : List Val × (List Val × (List Val × (List Val × Unit {0})))
-    passed-vals = (sw ∷ [], (z ∷ [], (vint w64 n ∷ [], (st ts ∷ [], tt))))
+    abbrev passed-vals : List Val × (List Val × (List Val × (List Val × (List Val × (List Val × Unit {0})))))
+    passed-vals = (vint w32 vars ∷ [], (sw ∷ [], (z ∷ [], (vint w64 n ∷ [], (st ts ∷ [], (vint w32 (i .at .moved) ∷ [], tt))))))
 
     abbrev tokens : Item 𝓤
     tokens = ‵ (flft κ₁ q₁) ⊛ (‵ (flft (μ ∷ []) fullShare) ⊛ ‵ ftrue)
@@ -348,13 +348,13 @@ module _ {M : Type 1} (𝓤 : URA M) (H : Heap 𝓤) (A : Atoms 𝓤) (W : Given
     to-enter = (((κ₁, (μ ∷ [], tt)), (q₁, (fullShare, tt)), tt, passed, passed-vals), tt)
 
     abbrev Owns : Fml
-    Owns = owns (ShrSlice (named 0) κ₁ u32 ∷ R.the-row ∷ usize ∷ MutSlice (named 1) (μ ∷ []) u8 ∷ []) passed passed-vals
+    Owns = owns (u32 ∷ ShrSlice (named 0) κ₁ u32 ∷ R.the-row ∷ usize ∷ MutSlice (named 1) (μ ∷ []) u8 ∷ u32 ∷ []) passed passed-vals
 
-    goes-enter : ent 𝓤 (⋆ 𝓤 H A (tokens ∷ ‵ Owns ∷ [])) (Enter 𝓤 H A at-mem run .pre to-enter)
-    goes-enter = qed W (tokens ∷ ‵ Owns ∷ []) ∵ join ! $ frame ! $ done !
+    goes-enter : i .at .moved + length (words .now) < 2 ^ 32 → ent 𝓤 (⋆ 𝓤 H A (tokens ∷ ‵ Owns ∷ [])) (Enter 𝓤 H A at-mem run .pre to-enter)
+    goes-enter sum = qed W (tokens ∷ ‵ Owns ∷ []) ∵ says ! sum $ frame ! $ done !
 
     abbrev Said : Way → List ℕ → Type 0
-    Said s zs = Entered (words .now) (recordOf r) n (i .u) s zs
+    Said s zs = Entered vars (words .now) (recordOf r) n (i .u) (i .at .moved) s zs
 
   abbrev Nearer : Place → Place → Type 0
   Nearer j i = w - j .at .entered < w - i .at .entered
@@ -367,23 +367,26 @@ module _ {M : Type 1} (𝓤 : URA M) (H : Heap 𝓤) (A : Atoms 𝓤) (W : Given
     on : i .at .on ≡ true
     way : Is P.the-row p (P′.lowered p ∷ [])
     stays : length zs ≡ length (i .u)
-    entry : Entered (words .now) (recordAt rs (i .at .rung)) (length rs) (i .u) p zs
+    entry : Entered vars (words .now) (recordAt rs (i .at .rung)) (length rs) (i .u) (i .at .moved) p zs
 
   needed : (i : Place) → i .at .on ≡ true → (i .at .rung < n) × (i .at .entered < w)
-  needed i on = let h = going-needs v (words .now) rs ts w (i .u) (i .at) (i .going) on in let c = count in (omega arith, h .1)
+  needed i on = let h = going-needs v vars (words .now) rs ts w (i .u) (i .at) (i .going) ready on in let c = count in (omega arith, h .1)
 
   small : (i : Place) → i .at .on ≡ true → (i .at .entered + 1 < 2 ^ 32) × (i .at .rung + 1 < 2 ^ 64)
-  small i on = going-fits v (words .now) rs ts w (i .u) (i .at) (i .going) on w-fits (subst (λ (k : ℕ). k < 2 ^ 64) (sym count) (room-r .0))
+  small i on = going-fits v vars (words .now) rs ts w (i .u) (i .at) (i .going) ready on w-fits (subst (λ (k : ℕ). k < 2 ^ 64) (sym count) (room-r .0))
+
+  sums : (i : Place) → i .at .on ≡ true → i .at .moved + length (words .now) < 2 ^ 32
+  sums i on = going-sum v vars (words .now) rs ts w (i .u) (i .at) (i .going) ready on
 
   upto : (i : Place) (p : Way) (zs : List ℕ) → Gone i p zs → p .upto ≤ n
-  upto i p zs g = let h = going-upto v (words .now) rs ts w (i .u) (i .at) (i .going) (g .on) p zs (g .entry) in let c = count in omega arith
+  upto i p zs g = let h = going-upto v vars (words .now) rs ts w (i .u) (i .at) (i .going) ready (g .on) p zs (g .entry) in let c = count in omega arith
 
   abbrev next : Place → Way → ℕ → Standing
   next i p f = arrived (i .at) p f (length rs) w
 
   after : (i : Place) (p : Way) (zs : List ℕ) → Gone i p zs → (f : ℕ) → f ≡ search (p .label) (take (p .upto) (labels rs)) → Is S.the-row (next i p f) (S′.lowered (next i p f) ∷ []) → Place
   after i p zs g f e is =
-      record { at = next i p f; u = zs; is = is; going = going-next v (words .now) rs ts w (i .u) (i .at) (i .going) (g .on) p zs (g .entry) (g .stays) f e }
+      record { at = next i p f; u = zs; is = is; going = going-next v vars (words .now) rs ts w (i .u) (i .at) (i .going) ready (g .on) p zs (g .entry) (g .stays) f e }
 
   module _ (𝓣 : Tables 𝓤 H) (known-at : Triple 𝓤 (𝓣 .C #rows·rung-at) (RungAt 𝓤 H A at-mem run)) (known-look : Triple 𝓤 (𝓣 .C #rows·look-up) (LookUp 𝓤 H A at-mem run))
       (known-begin : Triple 𝓤 (𝓣 .C #ladder-rows·begin) (Begin 𝓤 H A at-mem run)) (known-enter : Triple 𝓤 (𝓣 .C #ladder-rows·enter) (Enter 𝓤 H A at-mem run))
@@ -397,29 +400,29 @@ module _ {M : Type 1} (𝓤 : URA M) (H : Heap 𝓤) (A : Atoms 𝓤) (W : Given
     fm : FmC 𝓤 H (W .laws) C
     fm = fmOf 𝓤 H (W .laws) 𝓣
 
-    module _ (l₀ l₁ l₂ l₃ l₄ l₅ l₆ l₇ l₈ l₉ l₁₀ l₁₁ l₁₂ l₁₃ l₁₄ : ℕ) where
+    module _ (l₀ l₁ l₂ l₃ l₄ l₅ l₆ l₇ l₈ l₉ l₁₀ l₁₁ l₁₂ l₁₃ l₁₄ l₁₅ : ℕ) where
       abbrev En : Env 𝓤 H
-      En = (scanned-ty, l₀) ∷ (verdict-ty, l₁) ∷ (words-ty, l₂) ∷ (row-ty, l₃) ∷ (table-ty, l₄) ∷ (watchdog-ty, l₅) ∷ (standing-ty, l₆) ∷ (way-ty, l₇) ∷ (word, l₈) ∷ (word, l₉) ∷ (bool-ty, l₁₀) ∷ (rung-ty, l₁₁) ∷ (word, l₁₂) ∷ (byte-ref, l₁₃) ∷ (lent-ty, l₁₄) ∷ []
+      En = (scanned-ty, l₀) ∷ (verdict-ty, l₁) ∷ (number, l₂) ∷ (words-ty, l₃) ∷ (row-ty, l₄) ∷ (table-ty, l₅) ∷ (number, l₆) ∷ (standing-ty, l₇) ∷ (way-ty, l₈) ∷ (word, l₉) ∷ (word, l₁₀) ∷ (bool-ty, l₁₁) ∷ (rung-ty, l₁₂) ∷ (word, l₁₃) ∷ (byte-ref, l₁₄) ∷ (lent-ty, l₁₅) ∷ []
 
-      -- the locals from _6 down, and what is owned, at the list that the table holds
+      -- the locals from _7 down, and what is owned, at the list that the table holds
       abbrev Kept : Place → List ℕ → List (Item 𝓤)
-      Kept i zs = ‵ (fat fullShare standing-ty l₆ 0 (S′.lowered (i .at))) ∷ ‵ (fdies standing-ty l₆) ∷ ‵ (fat fullShare watchdog-ty l₅ 0 (vint w32 w)) ∷ ‵ (fdies watchdog-ty l₅) ∷ ‵ (fat fullShare table-ty l₄ 0 (st ts)) ∷ ‵ (fdies table-ty l₄)
-          ∷ ‵ (fat fullShare row-ty l₃ 0 sr) ∷ ‵ (fdies row-ty l₃) ∷ ‵ (fat fullShare words-ty l₂ 0 sw) ∷ ‵ (fdies words-ty l₂) ∷ ‵ (fat fullShare verdict-ty l₁ 0 vv) ∷ ‵ (fdies verdict-ty l₁) ∷ ‵ (froom scanned-ty l₀ 0) ∷ ‵ (fdies scanned-ty l₀)
+      Kept i zs = ‵ (fat fullShare standing-ty l₇ 0 (S′.lowered (i .at))) ∷ ‵ (fdies standing-ty l₇) ∷ ‵ (fat fullShare number l₆ 0 (vint w32 w)) ∷ ‵ (fdies number l₆) ∷ ‵ (fat fullShare table-ty l₅ 0 (st ts)) ∷ ‵ (fdies table-ty l₅)
+          ∷ ‵ (fat fullShare row-ty l₄ 0 sr) ∷ ‵ (fdies row-ty l₄) ∷ ‵ (fat fullShare words-ty l₃ 0 sw) ∷ ‵ (fdies words-ty l₃) ∷ ‵ (fat fullShare number l₂ 0 (vint w32 vars)) ∷ ‵ (fdies number l₂) ∷ ‵ (fat fullShare verdict-ty l₁ 0 vv) ∷ ‵ (fdies verdict-ty l₁) ∷ ‵ (froom scanned-ty l₀ 0) ∷ ‵ (fdies scanned-ty l₀)
           ∷ ‵ (flft κ₁ q₁) ∷ ‵ (flft κ₂ q₂) ∷ ‵ (flft κ₃ q₃) ∷ ‵ Own-words ∷ ‵ Own-row ∷ ‵ (Own-table zs) ∷ []
 
       abbrev At : Place → List (Item 𝓤)
-      At i = ‵ (froom lent-ty l₁₄ 0) ∷ ‵ (fdies lent-ty l₁₄) ∷ ‵ (froom byte-ref l₁₃ 0) ∷ ‵ (fdies byte-ref l₁₃) ∷ ‵ (froom word l₁₂ 0) ∷ ‵ (fdies word l₁₂) ∷ ‵ (froom rung-ty l₁₁ 0) ∷ ‵ (fdies rung-ty l₁₁)
-          ∷ ‵ (froom bool-ty l₁₀ 0) ∷ ‵ (fdies bool-ty l₁₀) ∷ ‵ (froom word l₉ 0) ∷ ‵ (fdies word l₉) ∷ ‵ (froom word l₈ 0) ∷ ‵ (fdies word l₈) ∷ ‵ (froom way-ty l₇ 0) ∷ ‵ (fdies way-ty l₇) ∷ Kept i (i .u)
+      At i = ‵ (froom lent-ty l₁₅ 0) ∷ ‵ (fdies lent-ty l₁₅) ∷ ‵ (froom byte-ref l₁₄ 0) ∷ ‵ (fdies byte-ref l₁₄) ∷ ‵ (froom word l₁₃ 0) ∷ ‵ (fdies word l₁₃) ∷ ‵ (froom rung-ty l₁₂ 0) ∷ ‵ (fdies rung-ty l₁₂)
+          ∷ ‵ (froom bool-ty l₁₁ 0) ∷ ‵ (fdies bool-ty l₁₁) ∷ ‵ (froom word l₁₀ 0) ∷ ‵ (fdies word l₁₀) ∷ ‵ (froom word l₉ 0) ∷ ‵ (fdies word l₉) ∷ ‵ (froom way-ty l₈ 0) ∷ ‵ (fdies way-ty l₈) ∷ Kept i (i .u)
 
       -- once `rung_at` has returned z
       abbrev AtRung : Place → Val → List (Item 𝓤)
-      AtRung i z = ‵ (froom lent-ty l₁₄ 0) ∷ ‵ (fdies lent-ty l₁₄) ∷ ‵ (froom byte-ref l₁₃ 0) ∷ ‵ (fdies byte-ref l₁₃) ∷ ‵ (froom word l₁₂ 0) ∷ ‵ (fdies word l₁₂) ∷ ‵ (fat fullShare rung-ty l₁₁ 0 z) ∷ ‵ (fdies rung-ty l₁₁)
-          ∷ ‵ (froom bool-ty l₁₀ 0) ∷ ‵ (fdies bool-ty l₁₀) ∷ ‵ (froom word l₉ 0) ∷ ‵ (fdies word l₉) ∷ ‵ (froom word l₈ 0) ∷ ‵ (fdies word l₈) ∷ ‵ (froom way-ty l₇ 0) ∷ ‵ (fdies way-ty l₇) ∷ Kept i (i .u)
+      AtRung i z = ‵ (froom lent-ty l₁₅ 0) ∷ ‵ (fdies lent-ty l₁₅) ∷ ‵ (froom byte-ref l₁₄ 0) ∷ ‵ (fdies byte-ref l₁₄) ∷ ‵ (froom word l₁₃ 0) ∷ ‵ (fdies word l₁₃) ∷ ‵ (fat fullShare rung-ty l₁₂ 0 z) ∷ ‵ (fdies rung-ty l₁₂)
+          ∷ ‵ (froom bool-ty l₁₁ 0) ∷ ‵ (fdies bool-ty l₁₁) ∷ ‵ (froom word l₁₀ 0) ∷ ‵ (fdies word l₁₀) ∷ ‵ (froom word l₉ 0) ∷ ‵ (fdies word l₉) ∷ ‵ (froom way-ty l₈ 0) ∷ ‵ (fdies way-ty l₈) ∷ Kept i (i .u)
 
       -- once `enter` has returned the way p
       abbrev AtWay : Place → Way → List ℕ → List (Item 𝓤)
-      AtWay i p zs = ‵ (froom lent-ty l₁₄ 0) ∷ ‵ (fdies lent-ty l₁₄) ∷ ‵ (froom byte-ref l₁₃ 0) ∷ ‵ (fdies byte-ref l₁₃) ∷ ‵ (froom word l₁₂ 0) ∷ ‵ (fdies word l₁₂) ∷ ‵ (froom rung-ty l₁₁ 0) ∷ ‵ (fdies rung-ty l₁₁)
-          ∷ ‵ (froom bool-ty l₁₀ 0) ∷ ‵ (fdies bool-ty l₁₀) ∷ ‵ (froom word l₉ 0) ∷ ‵ (fdies word l₉) ∷ ‵ (froom word l₈ 0) ∷ ‵ (fdies word l₈) ∷ ‵ (fat fullShare way-ty l₇ 0 (P′.lowered p)) ∷ ‵ (fdies way-ty l₇) ∷ Kept i zs
+      AtWay i p zs = ‵ (froom lent-ty l₁₅ 0) ∷ ‵ (fdies lent-ty l₁₅) ∷ ‵ (froom byte-ref l₁₄ 0) ∷ ‵ (fdies byte-ref l₁₄) ∷ ‵ (froom word l₁₃ 0) ∷ ‵ (fdies word l₁₃) ∷ ‵ (froom rung-ty l₁₂ 0) ∷ ‵ (fdies rung-ty l₁₂)
+          ∷ ‵ (froom bool-ty l₁₁ 0) ∷ ‵ (fdies bool-ty l₁₁) ∷ ‵ (froom word l₁₀ 0) ∷ ‵ (fdies word l₁₀) ∷ ‵ (froom word l₉ 0) ∷ ‵ (fdies word l₉) ∷ ‵ (fat fullShare way-ty l₈ 0 (P′.lowered p)) ∷ ‵ (fdies way-ty l₈) ∷ Kept i zs
 
       abbrev Turned : Place → Out → SProp 𝓤
       Turned i = afterTurn 𝓤 H (Below 𝓤 H A Nearer At i) (afterBlock 𝓤 H (afterSeq 𝓤 H (Wp 𝓤 H C Λ En parts.t-4 (atReturn 𝓤 H En Post)) (atReturn 𝓤 H En Post)))
@@ -428,26 +431,26 @@ module _ {M : Type 1} (𝓤 : URA M) (H : Heap 𝓤) (A : Atoms 𝓤) (W : Given
       arrives : (i : Place) (p : Way) (zs : List ℕ) → Gone i p zs → ent 𝓤 (⋆ 𝓤 H A (AtWay i p zs)) (Wp 𝓤 H C Λ En last (Turned i))
       unfolding afterTurn after
       arrives i p zs g =
-          -- [room for _14; …; room for _13; …; room for _12; …; room for _11; …; room for _10; …; room for _9; …; room for _8; …; _7, the way; …; _6, at; …; _5; …; _4; …; _3; …; _2; …; _1; …; room for _0; …; κ₁; κ₂; κ₃; the words; the row; the table]
+          -- [room for _15; …; room for _14; …; room for _13; …; room for _12; …; room for _11; …; room for _10; …; room for _9; …; _8, the way; …; _7, at; …; _6; …; _5; …; _4; …; _3; …; _2, vars; …; _1; …; room for _0; …; κ₁; κ₂; κ₃; the words; the row; the table]
           qed W (AtWay i p zs) ∵ exec ! C Λ En last (anyQ (Turned i)) $
-          move ! (34 ∷ []) $ use1 W (‵ Own-row ⊛ ‵ Own-row) (shr-slice-copy 𝓤 H A W (named 1) κ₂ R.the-row .twice row (sr ∷ [])) $ split ! $ move ! (33 ∷ 0 ∷ []) $
+          move ! (36 ∷ []) $ use1 W (‵ Own-row ⊛ ‵ Own-row) (shr-slice-copy 𝓤 H A W (named 1) κ₂ R.the-row .twice row (sr ∷ [])) $ split ! $ move ! (35 ∷ 0 ∷ []) $
           use2 W (raw (LookUp 𝓤 H A at-mem run .pre (to-look p))) (goes-look p (LL.owed P.the-type P′.the-laws p _ (g .way) .1 .0 .1) (upto i p zs g)) $
           calls-at ! fm (LookUp 𝓤 H A at-mem run) known-look (to-look p) (and-then ! (load ! (from ! (stop !)) (look ! 24 refl)) (and-then ! (load ! (from ! (fld ! refl (stop !))) (look-in ! 16 (sub ! 1 refl (whole !)))) (and-then ! (load ! (from ! (fld ! refl (stop !))) (look-in ! 16 (sub ! 2 refl (whole !)))) (no-more !)))) (λ z₁.
           use1 W (later (some (λ (f : ℕ). (row-token ⊛ ‵ (usize .own f (z₁ ∷ []))) ⊛ raw (ensured 𝓤 H A look-up.ended (look-up.clauses 𝓤 H A at-mem run) (κ₂, tt) (row, (p .label, (p .upto, tt))) tt f)))) (id⊢ 𝓤 _) $ await ! tt $ pick ! (λ f.
           split ! $ move ! (1 ∷ []) $ use1 W (raw (fact 𝓤 (f ≡ search (p .label) (take (p .upto) (labels rs))))) (said-look 𝓤 H A at-mem run κ₂ row (p .label) (p .upto) f) $ heard ! (f ≡ search (p .label) (take (p .upto) (labels rs))) (λ e. split ! $ move ! (1 ∷ []) $
           facts ! usize (Is usize) (shows 𝓤 H A usize) f (z₁ ∷ []) (λ is. split ! $ move ! (1 ∷ []) $ drop ! $
-          -- [κ₂; the row; _14; …; _13; …; _12; …; _11; …; _10; …; _9; …; _8; …; _7; …; _6; …; _5; …; _4; …; _3; …; _2; …; _1; …; room for _0; …; κ₁; κ₃; the words; the table]
-          land ! (from ! (stop !)) (init ! 14 refl (uint-lawful 𝓤 H A W w64 .typed f _ is .0)) $ rewrite ! 14 (λ (z : Val). ‵ (fat fullShare word l₈ 0 z)) (ap only (is .0)) refl $
+          -- [κ₂; the row; _15; …; _14; …; _13; …; _12; …; _11; …; _10; …; _9; …; _8; …; _7; …; _6; …; _5; …; _4; …; _3; …; _2, vars; …; _1; …; room for _0; …; κ₁; κ₃; the words; the table]
+          land ! (from ! (stop !)) (init ! 14 refl (uint-lawful 𝓤 H A W w64 .typed f _ is .0)) $ rewrite ! 14 (λ (z : Val). ‵ (fat fullShare word l₉ 0 z)) (ap only (is .0)) refl $
           assigns ! (of-opd ! (load ! (from ! (fld ! refl (stop !))) (look-in ! 24 (sub ! 1 refl (whole !))))) (from ! (stop !)) (init ! 6 refl (tt, record { fits = room-r .0 })) $
           use0 W (raw (Arrive 𝓤 H A at-mem run .pre (to-arrive i p f))) (goes-arrive i p f (g .way) (is .1) (small i (g .on))) $
           calls-at-last ! fm (Arrive 𝓤 H A at-mem run) known-arrive (to-arrive i p f) (and-then ! (load ! (from ! (stop !)) (look ! 19 refl)) (and-then ! (load ! (from ! (stop !)) (look ! 17 refl)) (and-then ! (load ! (from ! (stop !)) (look ! 15 refl)) (and-then ! (load ! (from ! (stop !)) (look ! 7 refl)) (and-then ! (load ! (from ! (stop !)) (look ! 21 refl)) (no-more !)))))) (λ z₂.
           use1 W (later (some (λ (a : Standing). (‵ ftrue ⊛ ‵ (S.the-row .own a (z₂ ∷ []))) ⊛ raw (ensured 𝓤 H A arrive.ended (arrive.clauses 𝓤 H A at-mem run) tt (i .at, (p, (f, (n, (w, tt))))) tt a)))) (id⊢ 𝓤 _) $ await ! tt $ pick ! (λ a.
           split ! $ move ! (1 ∷ []) $ use1 W (raw (fact 𝓤 (a ≡ arrived (i .at) p f n w))) (said-arrive 𝓤 H A at-mem run (i .at) p f n w a) $ heard ! (a ≡ arrived (i .at) p f n w) (λ e′. split ! $ drop ! $
           rewrite ! 0 (λ (y : Standing). ‵ (S.the-row .own y (z₂ ∷ []))) (e′ ∙ ap (λ (k : ℕ). arrived (i .at) p f k w) (sym count)) refl $ facts ! S.the-row (Is S.the-row) (shows 𝓤 H A S.the-row) (next i p f) (z₂ ∷ []) (λ is′.
-          land-last ! (from ! (stop !)) (store ! 18 refl (typed (next i p f) z₂ is′)) $ rewrite ! 18 (λ (z : Val). ‵ (fat fullShare standing-ty l₆ 0 z)) (spelled (next i p f) z₂ is′) refl $
+          land-last ! (from ! (stop !)) (store ! 18 refl (typed (next i p f) z₂ is′)) $ rewrite ! 18 (λ (z : Val). ‵ (fat fullShare standing-ty l₇ 0 z)) (spelled (next i p f) z₂ is′) refl $
           forget ! 6 refl $ forget ! 14 refl $ forget ! 16 refl $
-          keep ! (2 ∷ 3 ∷ 4 ∷ 5 ∷ 6 ∷ 7 ∷ 8 ∷ 9 ∷ 10 ∷ 11 ∷ 12 ∷ 13 ∷ 14 ∷ 15 ∷ 16 ∷ 17 ∷ 18 ∷ 19 ∷ 20 ∷ 21 ∷ 22 ∷ 23 ∷ 24 ∷ 25 ∷ 26 ∷ 27 ∷ 28 ∷ 29 ∷ 30 ∷ 31 ∷ 32 ∷ 0 ∷ 33 ∷ 34 ∷ 1 ∷ 35 ∷ []) $
-          again ! Nearer At i (after i p zs g f e (good (next i p f) z₂ is′)) (going-nearer v (words .now) rs ts w (i .u) (i .at) (i .going) (g .on) p zs (g .entry) f)))))))))
+          keep ! (2 ∷ 3 ∷ 4 ∷ 5 ∷ 6 ∷ 7 ∷ 8 ∷ 9 ∷ 10 ∷ 11 ∷ 12 ∷ 13 ∷ 14 ∷ 15 ∷ 16 ∷ 17 ∷ 18 ∷ 19 ∷ 20 ∷ 21 ∷ 22 ∷ 23 ∷ 24 ∷ 25 ∷ 26 ∷ 27 ∷ 28 ∷ 29 ∷ 30 ∷ 31 ∷ 32 ∷ 33 ∷ 34 ∷ 0 ∷ 35 ∷ 36 ∷ 1 ∷ 37 ∷ []) $
+          again ! Nearer At i (after i p zs g f e (good (next i p f) z₂ is′)) (going-nearer v vars (words .now) rs ts w (i .u) (i .at) (i .going) ready (g .on) p zs (g .entry) f)))))))))
 
       -- `enter`, on the record r
       enters : (i : Place) → i .at .on ≡ true → (r : Rung) (z : Val) → Is R.the-row r (z ∷ []) → recordOf r ≡ recordAt rs (i .at .rung) → ent 𝓤 (⋆ 𝓤 H A (AtRung i z)) (Wp 𝓤 H C Λ En rest (Turned i))
@@ -457,103 +460,105 @@ module _ {M : Type 1} (𝓤 : URA M) (H : Heap 𝓤) (A : Atoms 𝓤) (W : Given
           assigns ! (addr ! (from ! (fld ! refl (hop ! (look-in ! 20 (sub ! 0 refl (whole !))) (stop !))))) (from ! (stop !)) (init ! 2 refl (tt, tt)) $
           assigns ! (agg ! (and-then ! (load ! (from ! (stop !)) (look ! 2 refl)) (and-then ! (load ! (from ! (fld ! refl (stop !))) (look-in ! 20 (sub ! 1 refl (whole !)))) (no-more !)))) (from ! (stop !)) (init ! 0 refl (tt, (tt, (record { fits = room-t .0 }, tt)))) $
           -- the table is lent again for μ
-          lft-new ! tt (λ μ. move ! (36 ∷ 33 ∷ []) $
+          lft-new ! tt (λ μ. move ! (38 ∷ 35 ∷ []) $
           use2 W (later (some (λ (ε : GName). ‵ (MutSlice (named 1) (μ ∷ []) u8 .own (at-list ε (i .u)) (st (i .u) ∷ [])) ⊛ ‵ (LentAgain u8 κ₃ (μ ∷ []) q₃ γ b o ε (i .u))))) (lends-again u8 κ₃ (μ ∷ []) q₃ γ b o 𝓤 H A W (named 2) (named 1) (i .u)) $ await ! tt $ pick ! (λ ε. split ! $
           rewrite ! 0 (λ (j : ℕ). ‵ (MutSlice (named 1) (μ ∷ []) u8 .own (at-list ε (i .u)) (sliceVal (b, o) j ∷ []))) (i .going .long) refl $
-          -- [the table lent; what lends it; μ; _14; …; room for _0; …; κ₁; κ₂; the words; the row]
-          move ! (35 ∷ []) $ use1 W (‵ Own-words ⊛ ‵ Own-words) (shr-slice-copy 𝓤 H A W (named 0) κ₁ u32 .twice words (sw ∷ [])) $ split ! $
-          move ! (35 ∷ 4 ∷ []) $ nothing ! $ move ! (2 ∷ 0 ∷ []) $ join ! $ move ! (1 ∷ 0 ∷ []) $ join ! $
-          nothing ! $ move ! (4 ∷ 0 ∷ []) $ fjoin ! $ owned ! usize (Is usize) (uint-makes 𝓤 H A W w64) n _ (refl, room-r .0) $ fjoin ! $ owned ! R.the-row (Is R.the-row) (LL.makes R.the-type R′.the-plain 𝓤 H A) r _ is-r $ fjoin ! $ move ! (2 ∷ 0 ∷ []) $ fjoin ! $ move ! (1 ∷ 0 ∷ []) $
-          use2 W (raw (Enter 𝓤 H A at-mem run .pre (to-enter i r z μ ε))) (goes-enter i r z μ ε) $
-          -- [what `enter` is passed; the words; what lends the table; _14; …; room for _0; …; κ₂; the row]
-          calls-at ! fm (Enter 𝓤 H A at-mem run) known-enter (to-enter i r z μ ε) (and-then ! (load ! (from ! (stop !)) (look ! 27 refl)) (and-then ! (load ! (from ! (stop !)) (look ! 9 refl)) (and-then ! (load ! (from ! (stop !)) (look ! 7 refl)) (and-then ! (load ! (from ! (stop !)) (look ! 3 refl)) (no-more !))))) (λ z₁.
+          -- [the table lent; what lends it; μ; _15; …; room for _0; …; κ₁; κ₂; the words; the row]
+          move ! (37 ∷ []) $ use1 W (‵ Own-words ⊛ ‵ Own-words) (shr-slice-copy 𝓤 H A W (named 0) κ₁ u32 .twice words (sw ∷ [])) $ split ! $
+          move ! (37 ∷ 4 ∷ []) $ nothing ! $ move ! (2 ∷ 0 ∷ []) $ join ! $ move ! (1 ∷ 0 ∷ []) $ join ! $
+          nothing ! $ owned ! u32 (Is u32) (uint-makes 𝓤 H A W w32) (i .at .moved) _ (refl, omega (arith, sums i on)) $ fjoin ! $ move ! (4 ∷ 0 ∷ []) $ fjoin ! $ owned ! usize (Is usize) (uint-makes 𝓤 H A W w64) n _ (refl, room-r .0) $ fjoin ! $ owned ! R.the-row (Is R.the-row) (LL.makes R.the-type R′.the-plain 𝓤 H A) r _ is-r $ fjoin ! $ move ! (2 ∷ 0 ∷ []) $ fjoin ! $
+          owned ! u32 (Is u32) (uint-makes 𝓤 H A W w32) vars _ (refl, vars-fits) $ fjoin ! $ move ! (1 ∷ 0 ∷ []) $
+          use2 W (raw (Enter 𝓤 H A at-mem run .pre (to-enter i r z μ ε))) (goes-enter i r z μ ε (sums i on)) $
+          -- [what `enter` is passed; the words; what lends the table; _15; …; room for _0; …; κ₂; the row]
+          calls-at ! fm (Enter 𝓤 H A at-mem run) known-enter (to-enter i r z μ ε) (and-then ! (load ! (from ! (stop !)) (look ! 29 refl)) (and-then ! (load ! (from ! (stop !)) (look ! 27 refl)) (and-then ! (load ! (from ! (stop !)) (look ! 9 refl)) (and-then ! (load ! (from ! (stop !)) (look ! 7 refl)) (and-then ! (load ! (from ! (stop !)) (look ! 3 refl)) (and-then ! (load ! (from ! (fld ! refl (stop !))) (look-in ! 19 (sub ! 1 refl (whole !)))) (no-more !))))))) (λ z₁.
           use1 W (later (some (λ (p : Way). (tokens i r z μ ε ⊛ ‵ (P.the-row .own p (z₁ ∷ []))) ⊛ raw (ensured 𝓤 H A entering.ended (entering.clauses 𝓤 H A at-mem run) (κ₁, (μ ∷ [], tt)) (passed i r z μ ε) tt p)))) (id⊢ 𝓤 _) $ await ! tt $ pick ! (λ p.
-          split ! $ move ! (1 ∷ []) $ use1 W (some (λ (zs : Unit {0} × (Unit {0} × (Unit {0} × (List ℕ × Unit {0})))). ‵ (lasts entering.ended (κ₁, (μ ∷ [], tt)) (passed i r z μ ε) zs) ⊛ raw (fact 𝓤 (Said i r z μ ε p (zs .1 .1 .1 .0))))) (id⊢ 𝓤 _) $ pick ! (λ zs.
-          split ! $ move ! (1 ∷ []) $ heard ! (Said i r z μ ε p (zs .1 .1 .1 .0)) (λ e. fsplit ! $ drop ! $ fsplit ! $ drop ! $ fsplit ! $ drop ! $ fsplit ! $ fsplit ! $ move ! (1 ∷ []) $ feqL ! (λ len.
-          -- [the last list; true; the tokens and the way; the words; what lends the table; _14; …; room for _0; …; κ₂; the row]
+          split ! $ move ! (1 ∷ []) $ use1 W (some (λ (zs : Unit {0} × (Unit {0} × (Unit {0} × (Unit {0} × (List ℕ × (Unit {0} × Unit {0})))))). ‵ (lasts entering.ended (κ₁, (μ ∷ [], tt)) (passed i r z μ ε) zs) ⊛ raw (fact 𝓤 (Said i r z μ ε p (zs .1 .1 .1 .1 .0))))) (id⊢ 𝓤 _) $ pick ! (λ zs.
+          split ! $ move ! (1 ∷ []) $ heard ! (Said i r z μ ε p (zs .1 .1 .1 .1 .0)) (λ e. fsplit ! $ drop ! $ fsplit ! $ drop ! $ fsplit ! $ drop ! $ fsplit ! $ drop ! $ fsplit ! $ fsplit ! $ move ! (1 ∷ []) $ feqL ! (λ len.
+          -- [the last list; true; the tokens and the way; the words; what lends the table; _15; …; room for _0; …; κ₂; the row]
           move ! (2 ∷ []) $ split ! $ move ! (1 ∷ []) $ facts ! P.the-row (Is P.the-row) (shows 𝓤 H A P.the-row) p (z₁ ∷ []) (λ is.
           split ! $ move ! (1 ∷ []) $ split ! $ lft-end ! tt $ move ! (0 ∷ 6 ∷ 3 ∷ []) $
-          use3 W (later (‵ (MutSlice (named 2) κ₃ u8 .own (at-list γ (zs .1 .1 .1 .0)) (st (i .u) ∷ [])) ⊛ ‵ (flft κ₃ q₃))) (comes-back u8 κ₃ (μ ∷ []) q₃ γ b o 𝓤 H A W (named 2) (named 1) (i .u) ε (zs .1 .1 .1 .0) (subst (Room u8) (sym (i .going .long)) room-t) len) $ await ! tt $ split ! $
-          rewrite ! 0 (λ (j : ℕ). ‵ (MutSlice (named 2) κ₃ u8 .own (at-list γ (zs .1 .1 .1 .0)) (sliceVal (b, o) j ∷ []))) (sym len) refl $
-          -- [the table; κ₃; true; κ₁; true; the words; _14; …; room for _0; …; κ₂; the row]
-          land ! (from ! (stop !)) (init ! 20 refl (LL.lawful P.the-type P′.the-laws 𝓤 H A W .typed p _ is .0)) $ rewrite ! 20 (λ (y : Val). ‵ (fat fullShare way-ty l₇ 0 y)) (led p z₁ is) refl $
+          use3 W (later (‵ (MutSlice (named 2) κ₃ u8 .own (at-list γ (zs .1 .1 .1 .1 .0)) (st (i .u) ∷ [])) ⊛ ‵ (flft κ₃ q₃))) (comes-back u8 κ₃ (μ ∷ []) q₃ γ b o 𝓤 H A W (named 2) (named 1) (i .u) ε (zs .1 .1 .1 .1 .0) (subst (Room u8) (sym (i .going .long)) room-t) len) $ await ! tt $ split ! $
+          rewrite ! 0 (λ (j : ℕ). ‵ (MutSlice (named 2) κ₃ u8 .own (at-list γ (zs .1 .1 .1 .1 .0)) (sliceVal (b, o) j ∷ []))) (sym len) refl $
+          -- [the table; κ₃; true; κ₁; true; the words; _15; …; room for _0; …; κ₂; the row]
+          land ! (from ! (stop !)) (init ! 20 refl (LL.lawful P.the-type P′.the-laws 𝓤 H A W .typed p _ is .0)) $ rewrite ! 20 (λ (y : Val). ‵ (fat fullShare way-ty l₈ 0 y)) (led p z₁ is) refl $
           forget ! 6 refl $ forget ! 8 refl $ forget ! 10 refl $ forget ! 12 refl $
-          keep ! (6 ∷ 7 ∷ 8 ∷ 9 ∷ 10 ∷ 11 ∷ 12 ∷ 13 ∷ 14 ∷ 15 ∷ 16 ∷ 17 ∷ 18 ∷ 19 ∷ 20 ∷ 21 ∷ 22 ∷ 23 ∷ 24 ∷ 25 ∷ 26 ∷ 27 ∷ 28 ∷ 29 ∷ 30 ∷ 31 ∷ 32 ∷ 33 ∷ 34 ∷ 35 ∷ 3 ∷ 36 ∷ 1 ∷ 5 ∷ 37 ∷ 0 ∷ []) $
-          by ! (arrives i p (zs .1 .1 .1 .0) (record { on = on; way = subst (λ (y : Val). Is P.the-row p (y ∷ [])) (led p z₁ is) is; stays = len; entry = there p (zs .1 .1 .1 .0) e }))))))))))
+          keep ! (6 ∷ 7 ∷ 8 ∷ 9 ∷ 10 ∷ 11 ∷ 12 ∷ 13 ∷ 14 ∷ 15 ∷ 16 ∷ 17 ∷ 18 ∷ 19 ∷ 20 ∷ 21 ∷ 22 ∷ 23 ∷ 24 ∷ 25 ∷ 26 ∷ 27 ∷ 28 ∷ 29 ∷ 30 ∷ 31 ∷ 32 ∷ 33 ∷ 34 ∷ 35 ∷ 36 ∷ 37 ∷ 3 ∷ 38 ∷ 1 ∷ 5 ∷ 39 ∷ 0 ∷ []) $
+          by ! (arrives i p (zs .1 .1 .1 .1 .0) (record { on = on; way = subst (λ (y : Val). Is P.the-row p (y ∷ [])) (led p z₁ is) is; stays = len; entry = there p (zs .1 .1 .1 .1 .0) e }))))))))))
         where
           led : (p : Way) (y : Val) → Is P.the-row p (y ∷ []) → y ≡ P′.lowered p
           led p y is = ap only (P′.lowers .val-is p (y ∷ []) is)
 
-          there : (p : Way) (zs : List ℕ) → Entered (words .now) (recordOf r) n (i .u) p zs → Entered (words .now) (recordAt rs (i .at .rung)) (length rs) (i .u) p zs
-          there p zs e = subst (λ (k : ℕ). Entered (words .now) (recordAt rs (i .at .rung)) k (i .u) p zs) (sym count) (subst (λ (y : RungRecord). Entered (words .now) y n (i .u) p zs) e₀ e)
+          there : (p : Way) (zs : List ℕ) → Entered vars (words .now) (recordOf r) n (i .u) (i .at .moved) p zs → Entered vars (words .now) (recordAt rs (i .at .rung)) (length rs) (i .u) (i .at .moved) p zs
+          there p zs e = subst (λ (k : ℕ). Entered vars (words .now) (recordAt rs (i .at .rung)) k (i .u) (i .at .moved) p zs) (sym count) (subst (λ (y : RungRecord). Entered vars (words .now) y n (i .u) (i .at .moved) p zs) e₀ e)
 
       turns : (i : Place) → Sq W (At i) (runs C Λ En parts.turn-1 (anyQ (Turned i)))
       unfolding afterTurn
       turns i =
-          assigns ! (of-opd ! (load ! (from ! (fld ! refl (stop !))) (look-in ! 16 (sub ! 2 refl (whole !))))) (from ! (stop !)) (init ! 8 refl (tt, tt)) $
+          assigns ! (of-opd ! (load ! (from ! (fld ! refl (stop !))) (look-in ! 16 (sub ! 3 refl (whole !))))) (from ! (stop !)) (init ! 8 refl (tt, tt)) $
           first ! $ branches ! (load ! (from ! (stop !)) (look ! 8 refl))
           (λ on. skips ! $ exec ! C Λ En more (anyQ (Turned i)) $ forget ! 8 refl $
           -- `rung_at`
-          move ! (34 ∷ []) $ use1 W (‵ Own-row ⊛ ‵ Own-row) (shr-slice-copy 𝓤 H A W (named 1) κ₂ R.the-row .twice row (sr ∷ [])) $ split ! $ move ! (33 ∷ 0 ∷ []) $
+          move ! (36 ∷ []) $ use1 W (‵ Own-row ⊛ ‵ Own-row) (shr-slice-copy 𝓤 H A W (named 1) κ₂ R.the-row .twice row (sr ∷ [])) $ split ! $ move ! (35 ∷ 0 ∷ []) $
           use2 W (raw (RungAt 𝓤 H A at-mem run .pre (to-at (i .at .rung)))) (goes-at (i .at .rung) (needed i (is-true (i .at .on) on) .0)) $
-          calls-at ! fm (RungAt 𝓤 H A at-mem run) known-at (to-at (i .at .rung)) (and-then ! (load ! (from ! (stop !)) (look ! 24 refl)) (and-then ! (load ! (from ! (fld ! refl (stop !))) (look-in ! 18 (sub ! 1 refl (whole !)))) (no-more !))) (λ z.
+          calls-at ! fm (RungAt 𝓤 H A at-mem run) known-at (to-at (i .at .rung)) (and-then ! (load ! (from ! (stop !)) (look ! 24 refl)) (and-then ! (load ! (from ! (fld ! refl (stop !))) (look-in ! 18 (sub ! 2 refl (whole !)))) (no-more !))) (λ z.
           use1 W (later (some (λ (r : Rung). (row-token ⊛ ‵ (R.the-row .own r (z ∷ []))) ⊛ raw (ensured 𝓤 H A rung-at.ended (rung-at.clauses 𝓤 H A at-mem run) (κ₂, tt) (row, (i .at .rung, tt)) tt r)))) (id⊢ 𝓤 _) $ await ! tt $ pick ! (λ r.
           split ! $ move ! (1 ∷ []) $ use1 W (raw (fact 𝓤 (recordOf r ≡ recordAt rs (i .at .rung)))) (said-at 𝓤 H A at-mem run κ₂ row (i .at .rung) r) $ heard ! (recordOf r ≡ recordAt rs (i .at .rung)) (λ e. split ! $ move ! (1 ∷ []) $
           facts ! R.the-row (Is R.the-row) (shows 𝓤 H A R.the-row) r (z ∷ []) (λ is. split ! $ move ! (1 ∷ []) $ drop ! $
-          -- [κ₂; the row; _14; …; room for _0; …; κ₁; κ₃; the words; the table]
+          -- [κ₂; the row; _15; …; room for _0; …; κ₁; κ₃; the words; the table]
           land ! (from ! (stop !)) (init ! 8 refl (LL.lawful R.the-type R′.the-laws 𝓤 H A W .typed r _ is .0)) $
-          keep ! (2 ∷ 3 ∷ 4 ∷ 5 ∷ 6 ∷ 7 ∷ 8 ∷ 9 ∷ 10 ∷ 11 ∷ 12 ∷ 13 ∷ 14 ∷ 15 ∷ 16 ∷ 17 ∷ 18 ∷ 19 ∷ 20 ∷ 21 ∷ 22 ∷ 23 ∷ 24 ∷ 25 ∷ 26 ∷ 27 ∷ 28 ∷ 29 ∷ 30 ∷ 31 ∷ 32 ∷ 0 ∷ 33 ∷ 34 ∷ 1 ∷ 35 ∷ []) $
+          keep ! (2 ∷ 3 ∷ 4 ∷ 5 ∷ 6 ∷ 7 ∷ 8 ∷ 9 ∷ 10 ∷ 11 ∷ 12 ∷ 13 ∷ 14 ∷ 15 ∷ 16 ∷ 17 ∷ 18 ∷ 19 ∷ 20 ∷ 21 ∷ 22 ∷ 23 ∷ 24 ∷ 25 ∷ 26 ∷ 27 ∷ 28 ∷ 29 ∷ 30 ∷ 31 ∷ 32 ∷ 33 ∷ 34 ∷ 0 ∷ 35 ∷ 36 ∷ 1 ∷ 37 ∷ []) $
           by ! (enters i (is-true (i .at .on) on) r z is e))))))
           (λ off. jumps ! $ exec ! C Λ En parts.t-4 (atRet En Post) $
           assigns ! (of-opd ! (load ! (from ! (fld ! refl (stop !))) (look-in ! 22 (sub ! 1 refl (whole !))))) (from ! (stop !)) (init ! 10 refl (tt, record { fits = room-r .0 })) $
           -- `answer`
           use0 W (raw (Answer 𝓤 H A at-mem run .pre (to-answer i))) (goes-answer i) $
-          calls-at ! fm (Answer 𝓤 H A at-mem run) known-answer (to-answer i) (and-then ! (load ! (from ! (stop !)) (look ! 27 refl)) (and-then ! (load ! (from ! (stop !)) (look ! 17 refl)) (and-then ! (load ! (from ! (stop !)) (look ! 11 refl)) (no-more !)))) (λ z.
+          calls-at ! fm (Answer 𝓤 H A at-mem run) known-answer (to-answer i) (and-then ! (load ! (from ! (stop !)) (look ! 29 refl)) (and-then ! (load ! (from ! (stop !)) (look ! 17 refl)) (and-then ! (load ! (from ! (stop !)) (look ! 11 refl)) (no-more !)))) (λ z.
           use1 W (later (some (λ (r : LadderScanned). (‵ ftrue ⊛ ‵ (L.the-row .own r (z ∷ []))) ⊛ raw (ensured 𝓤 H A answer.ended (answer.clauses 𝓤 H A at-mem run) tt (v, (i .at, (n, tt))) tt r)))) (id⊢ 𝓤 _) $ await ! tt $ pick ! (λ r.
           split ! $ move ! (1 ∷ []) $ use1 W (raw (fact 𝓤 (r ≡ answered v (i .at) n))) (said-answer 𝓤 H A at-mem run v (i .at) n r) $ heard ! (r ≡ answered v (i .at) n) (λ e. split ! $ drop ! $
           facts ! L.the-row (Is L.the-row) (shows 𝓤 H A L.the-row) r (z ∷ []) (λ is.
-          land ! (from ! (stop !)) (init ! 28 refl (EL.lawful L.the-type L′.the-laws 𝓤 H A W tt .typed r _ is .0)) $
-          returns ! (look ! 28 refl) $ forget ! 8 refl $ forget ! 10 refl $ forget ! 16 refl $ forget ! 18 refl $ forget ! 20 refl $ forget ! 22 refl $ forget ! 24 refl $ forget ! 26 refl $ forget ! 28 refl $
-          move ! (28 ∷ 29 ∷ []) $ free1 ! $ move ! (26 ∷ 27 ∷ []) $ free1 ! $ move ! (24 ∷ 25 ∷ []) $ free1 ! $ move ! (22 ∷ 23 ∷ []) $ free1 ! $ move ! (20 ∷ 21 ∷ []) $ free1 ! $ move ! (18 ∷ 19 ∷ []) $ free1 ! $ move ! (16 ∷ 17 ∷ []) $ free1 ! $ move ! (14 ∷ 15 ∷ []) $ free1 ! $ move ! (12 ∷ 13 ∷ []) $ free1 ! $ move ! (10 ∷ 11 ∷ []) $ free1 ! $ move ! (8 ∷ 9 ∷ []) $ free1 ! $ move ! (6 ∷ 7 ∷ []) $ free1 ! $ move ! (4 ∷ 5 ∷ []) $ free1 ! $ move ! (2 ∷ 3 ∷ []) $ free1 ! $ free1 ! $ free0 ! $
+          land ! (from ! (stop !)) (init ! 30 refl (EL.lawful L.the-type L′.the-laws 𝓤 H A W tt .typed r _ is .0)) $
+          returns ! (look ! 30 refl) $ forget ! 8 refl $ forget ! 10 refl $ forget ! 16 refl $ forget ! 18 refl $ forget ! 20 refl $ forget ! 22 refl $ forget ! 24 refl $ forget ! 26 refl $ forget ! 28 refl $ forget ! 30 refl $
+          move ! (30 ∷ 31 ∷ []) $ free1 ! $ move ! (28 ∷ 29 ∷ []) $ free1 ! $ move ! (26 ∷ 27 ∷ []) $ free1 ! $ move ! (24 ∷ 25 ∷ []) $ free1 ! $ move ! (22 ∷ 23 ∷ []) $ free1 ! $ move ! (20 ∷ 21 ∷ []) $ free1 ! $ move ! (18 ∷ 19 ∷ []) $ free1 ! $ move ! (16 ∷ 17 ∷ []) $ free1 ! $ move ! (14 ∷ 15 ∷ []) $ free1 ! $ move ! (12 ∷ 13 ∷ []) $ free1 ! $ move ! (10 ∷ 11 ∷ []) $ free1 ! $ move ! (8 ∷ 9 ∷ []) $ free1 ! $ move ! (6 ∷ 7 ∷ []) $ free1 ! $ move ! (4 ∷ 5 ∷ []) $ free1 ! $ move ! (2 ∷ 3 ∷ []) $ free1 ! $ free1 ! $ free0 ! $
           by ! (exits i r z is (ends r e (is-false (i .at .on) off))))))))
         where
-          ends : (r : LadderScanned) → r ≡ answered v (i .at) n → i .at .on ≡ false → RowScanned v (words .now) rs ts w r (i .u)
-          ends r e off = subst (λ (y : LadderScanned). RowScanned v (words .now) rs ts w y (i .u)) (sym (e ∙ ap (λ (k : ℕ). answered v (i .at) k) (sym count))) (going-ends v (words .now) rs ts w (i .u) (i .at) (i .going) off)
+          ends : (r : LadderScanned) → r ≡ answered v (i .at) n → i .at .on ≡ false → RowScanned v vars (words .now) rs ts w r (i .u)
+          ends r e off = subst (λ (y : LadderScanned). RowScanned v vars (words .now) rs ts w y (i .u)) (sym (e ∙ ap (λ (k : ℕ). answered v (i .at) k) (sym count))) (going-ends v vars (words .now) rs ts w (i .u) (i .at) (i .going) off)
 
     starts : Is S.the-row (begun v (length rs) w) (S′.lowered (begun v (length rs) w) ∷ []) → Place
-    starts is = record { at = begun v (length rs) w; u = ts; is = is; going = going-first v (words .now) rs ts w }
+    starts is = record { at = begun v (length rs) w; u = ts; is = is; going = going-first v vars (words .now) rs ts w }
 
-    walk : ent 𝓤 (onEntry 𝓤 H A scan.signature (κ₁, (κ₂, (κ₃, tt))) (q₁, (q₂, (q₃, tt))) x vals) (WpFn 𝓤 H C Λ code.function (vv ∷ sw ∷ sr ∷ st ts ∷ vint w32 w ∷ []) Post)
+    walk : ent 𝓤 (onEntry 𝓤 H A scan.signature (κ₁, (κ₂, (κ₃, tt))) (q₁, (q₂, (q₃, tt))) x vals) (WpFn 𝓤 H C Λ code.function (vv ∷ vint w32 vars ∷ sw ∷ sr ∷ st ts ∷ vint w32 w ∷ []) Post)
     unfolding starts
     walk =
-        qed W ((‵ (flft κ₁ q₁) ⊛ (‵ (flft κ₂ q₂) ⊛ (‵ (flft κ₃ q₃) ⊛ ‵ ftrue))) ∷ ‵ (owns (VerdictType.the-row ∷ ShrSlice (named 0) κ₁ u32 ∷ ShrSlice (named 1) κ₂ R.the-row ∷ MutSlice (named 2) κ₃ u8 ∷ u32 ∷ []) x vals) ∷ []) ∵
-        split ! $ move ! (1 ∷ []) $ split ! $ move ! (1 ∷ []) $ split ! $ move ! (4 ∷ []) $ fsplit ! $ move ! (1 ∷ []) $ fsplit ! $ move ! (1 ∷ []) $ fsplit ! $ move ! (1 ∷ []) $ fsplit ! $
-        -- [the table; the watchdog's; the row; the words; the verdict; κ₃; true; κ₂; κ₁]
-        keep ! (8 ∷ 7 ∷ 5 ∷ 3 ∷ 2 ∷ 0 ∷ []) $ enter ! C Λ code.function (vv ∷ sw ∷ sr ∷ st ts ∷ vint w32 w ∷ []) _ $
-        alloc1 ! (λ l₀. alloc1 ! (λ l₁. alloc1 ! (λ l₂. alloc1 ! (λ l₃. alloc1 ! (λ l₄. alloc1 ! (λ l₅. alloc1 ! (λ l₆. alloc1 ! (λ l₇. alloc1 ! (λ l₈. alloc1 ! (λ l₉. alloc1 ! (λ l₁₀. alloc1 ! (λ l₁₁. alloc1 ! (λ l₁₂. alloc1 ! (λ l₁₃. alloc1 ! (λ l₁₄. alloc0 ! $ params1 ! $
-        pass1 ! (init ! 26 refl (EL.lawful VerdictType.the-type VerdictLaws.the-laws 𝓤 H A W tt .typed v _ is-v .0)) $ pass1 ! (init ! 24 refl (tt, (tt, (record { fits = room-w .0 }, tt)))) $ pass1 ! (init ! 22 refl (tt, (tt, (record { fits = room-r .0 }, tt)))) $ pass1 ! (init ! 20 refl (tt, (tt, (record { fits = room-t .0 }, tt)))) $ pass1 ! (init ! 18 refl (tt, record { fits = w-fits })) $ pass0 ! $
+        qed W ((‵ (flft κ₁ q₁) ⊛ (‵ (flft κ₂ q₂) ⊛ (‵ (flft κ₃ q₃) ⊛ ‵ ftrue))) ∷ ‵ (owns (VerdictType.the-row ∷ u32 ∷ ShrSlice (named 0) κ₁ u32 ∷ ShrSlice (named 1) κ₂ R.the-row ∷ MutSlice (named 2) κ₃ u8 ∷ u32 ∷ []) x vals) ∷ []) ∵
+        split ! $ move ! (1 ∷ []) $ split ! $ move ! (1 ∷ []) $ split ! $ move ! (4 ∷ []) $ fsplit ! $ move ! (1 ∷ []) $ fsplit ! $ move ! (1 ∷ []) $ fsplit ! $ move ! (1 ∷ []) $ fsplit ! $ move ! (1 ∷ []) $ fsplit ! $
+        -- [the table; the watchdog's; the row; the words; vars'; the verdict; κ₃; true; κ₂; κ₁]
+        keep ! (9 ∷ 8 ∷ 6 ∷ 3 ∷ 2 ∷ 0 ∷ []) $ enter ! C Λ code.function (vv ∷ vint w32 vars ∷ sw ∷ sr ∷ st ts ∷ vint w32 w ∷ []) _ $
+        alloc1 ! (λ l₀. alloc1 ! (λ l₁. alloc1 ! (λ l₂. alloc1 ! (λ l₃. alloc1 ! (λ l₄. alloc1 ! (λ l₅. alloc1 ! (λ l₆. alloc1 ! (λ l₇. alloc1 ! (λ l₈. alloc1 ! (λ l₉. alloc1 ! (λ l₁₀. alloc1 ! (λ l₁₁. alloc1 ! (λ l₁₂. alloc1 ! (λ l₁₃. alloc1 ! (λ l₁₄. alloc1 ! (λ l₁₅. alloc0 ! $ params1 ! $
+        pass1 ! (init ! 28 refl (EL.lawful VerdictType.the-type VerdictLaws.the-laws 𝓤 H A W tt .typed v _ is-v .0)) $ pass1 ! (init ! 26 refl (tt, record { fits = vars-fits })) $ pass1 ! (init ! 24 refl (tt, (tt, (record { fits = room-w .0 }, tt)))) $ pass1 ! (init ! 22 refl (tt, (tt, (record { fits = room-r .0 }, tt)))) $ pass1 ! (init ! 20 refl (tt, (tt, (record { fits = room-t .0 }, tt)))) $ pass1 ! (init ! 18 refl (tt, record { fits = w-fits })) $ pass0 ! $
         assigns ! (of-opd ! (load ! (from ! (fld ! refl (stop !))) (look-in ! 22 (sub ! 1 refl (whole !))))) (from ! (stop !)) (init ! 10 refl (tt, record { fits = room-r .0 })) $
         -- `begin`
         use0 W (raw (Begin 𝓤 H A at-mem run .pre to-begin)) goes-begin $
-        calls-at ! fm (Begin 𝓤 H A at-mem run) known-begin to-begin (and-then ! (load ! (from ! (stop !)) (look ! 27 refl)) (and-then ! (load ! (from ! (stop !)) (look ! 11 refl)) (and-then ! (load ! (from ! (stop !)) (look ! 19 refl)) (no-more !)))) (λ z.
+        calls-at ! fm (Begin 𝓤 H A at-mem run) known-begin to-begin (and-then ! (load ! (from ! (stop !)) (look ! 29 refl)) (and-then ! (load ! (from ! (stop !)) (look ! 11 refl)) (and-then ! (load ! (from ! (stop !)) (look ! 19 refl)) (no-more !)))) (λ z.
         use1 W (later (some (λ (r : Standing). (‵ ftrue ⊛ ‵ (S.the-row .own r (z ∷ []))) ⊛ raw (ensured 𝓤 H A begin.ended (begin.clauses 𝓤 H A at-mem run) tt (v, (n, (w, tt))) tt r)))) (id⊢ 𝓤 _) $ await ! tt $ pick ! (λ r.
         split ! $ move ! (1 ∷ []) $ use1 W (raw (fact 𝓤 (r ≡ begun v n w))) (said-begin 𝓤 H A at-mem run v n w r) $ heard ! (r ≡ begun v n w) (λ e. split ! $ drop ! $
         rewrite ! 0 (λ (y : Standing). ‵ (S.the-row .own y (z ∷ []))) (e ∙ ap (λ (k : ℕ). begun v k w) (sym count)) refl $ facts ! S.the-row (Is S.the-row) (shows 𝓤 H A S.the-row) (begun v (length rs) w) (z ∷ []) (λ is.
-        land ! (from ! (stop !)) (init ! 16 refl (typed (begun v (length rs) w) z is)) $ rewrite ! 16 (λ (y : Val). ‵ (fat fullShare standing-ty l₆ 0 y)) (spelled (begun v (length rs) w) z is) refl $ forget ! 10 refl $
-        first ! $ blocks ! $ loops ! 𝓣 Nearer Nearer-wf (At l₀ l₁ l₂ l₃ l₄ l₅ l₆ l₇ l₈ l₉ l₁₀ l₁₁ l₁₂ l₁₃ l₁₄) (turns l₀ l₁ l₂ l₃ l₄ l₅ l₆ l₇ l₈ l₉ l₁₀ l₁₁ l₁₂ l₁₃ l₁₄) (starts (good (begun v (length rs) w) z is)))))))))))))))))))))
+        land ! (from ! (stop !)) (init ! 16 refl (typed (begun v (length rs) w) z is)) $ rewrite ! 16 (λ (y : Val). ‵ (fat fullShare standing-ty l₇ 0 y)) (spelled (begun v (length rs) w) z is) refl $ forget ! 10 refl $
+        first ! $ blocks ! $ loops ! 𝓣 Nearer Nearer-wf (At l₀ l₁ l₂ l₃ l₄ l₅ l₆ l₇ l₈ l₉ l₁₀ l₁₁ l₁₂ l₁₃ l₁₄ l₁₅) (turns l₀ l₁ l₂ l₃ l₄ l₅ l₆ l₇ l₈ l₉ l₁₀ l₁₁ l₁₂ l₁₃ l₁₄ l₁₅) (starts (good (begun v (length rs) w) z is))))))))))))))))))))))
 
 module _ {M : Type 1} (𝓤 : URA M) (H : Heap 𝓤) (A : Atoms 𝓤) (W : Given 𝓤 H A) (at-mem : Memory → SProp 𝓤) (run : Routine → Fun 𝓤) (𝓣 : Tables 𝓤 H) (known-at : Triple 𝓤 (𝓣 .C #rows·rung-at) (RungAt 𝓤 H A at-mem run)) (known-look : Triple 𝓤 (𝓣 .C #rows·look-up) (LookUp 𝓤 H A at-mem run))
     (known-begin : Triple 𝓤 (𝓣 .C #ladder-rows·begin) (Begin 𝓤 H A at-mem run)) (known-enter : Triple 𝓤 (𝓣 .C #ladder-rows·enter) (Enter 𝓤 H A at-mem run))
     (known-arrive : Triple 𝓤 (𝓣 .C #ladder-rows·arrive) (Arrive 𝓤 H A at-mem run)) (known-answer : Triple 𝓤 (𝓣 .C #ladder-rows·answer) (Answer 𝓤 H A at-mem run)) where
   scan-walks : Walks 𝓤 H A scan.ended stayed (WpFn 𝓤 H (𝓣 .C) (𝓣 .Λ) code.function) (scan.clauses 𝓤 H A at-mem run)
-  scan-walks = walked 𝓤 H A scan.ended stayed (scan.clauses 𝓤 H A at-mem run) (WpFn 𝓤 H (𝓣 .C) (𝓣 .Λ) code.function) (λ κs. (EL.vals VerdictType.the-type VerdictLaws.the-laws, (slice-vals, (slice-vals, (slice-vals, (uint-vals w32, tt))))))
-      (λ κs. (EL.tells VerdictType.the-type VerdictLaws.the-laws, (shr-slice-tells (named 0) (κs .0) u32, (shr-slice-tells (named 1) (κs .1 .0) R.the-row, (mut-slice-tells (named 2) (κs .1 .1 .0) u8, (uint-tells w32, tt))))))
-      (λ κs qs bounds a g are. via 𝓤 _ (fst∗ 𝓤 _ (emp 𝓤)) (walk 𝓤 H A W at-mem run (κs .0) (κs .1 .0) (κs .1 .1 .0) (qs .0) (qs .1 .0) (qs .1 .1 .0) (a .0) (a .1 .0) (a .1 .1 .0) (a .1 .1 .1 .0 .ptr .0) (a .1 .1 .1 .0 .ptr .1) (a .1 .1 .1 .0 .name) (a .1 .1 .1 .0 .now) (a .1 .1 .1 .1 .0)
-      (are .0) (are .1 .0 .0 .1) (are .1 .1 .0 .0 .1) (are .1 .1 .1 .0 .0 .1) (are .1 .1 .1 .1 .0 .1) 𝓣 known-at known-look known-begin known-enter known-arrive known-answer))
+  scan-walks = walked 𝓤 H A scan.ended stayed (scan.clauses 𝓤 H A at-mem run) (WpFn 𝓤 H (𝓣 .C) (𝓣 .Λ) code.function) (λ κs. (EL.vals VerdictType.the-type VerdictLaws.the-laws, (uint-vals w32, (slice-vals, (slice-vals, (slice-vals, (uint-vals w32, tt)))))))
+      (λ κs. (EL.tells VerdictType.the-type VerdictLaws.the-laws, (uint-tells w32, (shr-slice-tells (named 0) (κs .0) u32, (shr-slice-tells (named 1) (κs .1 .0) R.the-row, (mut-slice-tells (named 2) (κs .1 .1 .0) u8, (uint-tells w32, tt)))))))
+      (λ κs qs bounds a g are. needs 𝓤 (RowReady (a .0) (a .1 .1 .0 .now) (a .1 .1 .1 .1 .1 .0)) _ (λ ready.
+      walk 𝓤 H A W at-mem run (κs .0) (κs .1 .0) (κs .1 .1 .0) (qs .0) (qs .1 .0) (qs .1 .1 .0) (a .0) (a .1 .0) (a .1 .1 .0) (a .1 .1 .1 .0) (a .1 .1 .1 .1 .0 .ptr .0) (a .1 .1 .1 .1 .0 .ptr .1) (a .1 .1 .1 .1 .0 .name) (a .1 .1 .1 .1 .0 .now) (a .1 .1 .1 .1 .1 .0)
+      (are .0) (are .1 .0 .1) (are .1 .1 .0 .0 .1) (are .1 .1 .1 .0 .0 .1) (are .1 .1 .1 .1 .0 .0 .1) (are .1 .1 .1 .1 .1 .0 .1) ready 𝓣 known-at known-look known-begin known-enter known-arrive known-answer))
 
   scan-meets : Meets 𝓤 H A scan.signature (WpFn 𝓤 H (𝓣 .C) (𝓣 .Λ) code.function) (scan.spec 𝓤 H A at-mem run)
   scan-meets =
-      walk-meets 𝓤 H A scan.ended stayed W (goes-none 𝓤 H A W 3 (λ _. VerdictType.the-row) yes (λ κs x f. refl), (goes-none-slice 𝓤 H A W 3 (0 ∷ []) tt (plain (λ _. u32)) yes, (goes-none-slice 𝓤 H A W 3 (1 ∷ []) tt (plain (λ _. R.the-row)) yes, (goes-slice 𝓤 H A W 3 2 tt (plain (λ _. u8)), (goes-none 𝓤 H A W 3 (λ _. u32) yes (λ κs x f. refl), tt)))))
+      walk-meets 𝓤 H A scan.ended stayed W (goes-none 𝓤 H A W 3 (λ _. VerdictType.the-row) yes (λ κs x f. refl), (goes-none 𝓤 H A W 3 (λ _. u32) yes (λ κs x f. refl), (goes-none-slice 𝓤 H A W 3 (0 ∷ []) tt (plain (λ _. u32)) yes, (goes-none-slice 𝓤 H A W 3 (1 ∷ []) tt (plain (λ _. R.the-row)) yes, (goes-slice 𝓤 H A W 3 2 tt (plain (λ _. u8)), (goes-none 𝓤 H A W 3 (λ _. u32) yes (λ κs x f. refl), tt))))))
       (scan.clauses 𝓤 H A at-mem run) (WpFn 𝓤 H (𝓣 .C) (𝓣 .Λ) code.function) (WpFn-mono 𝓤 H (W .laws) 𝓣 code.function) scan-walks
 
 pub run-spec : {M : Type 1} → stated.statement M

@@ -22,7 +22,7 @@ use Rattle.ladder_walk.proofs.+rear_at.{statement}
 use Rattle.ladder_walk.proofs.+rear_at.Tie.{close}
 
 abbrev μ-rear-at : Measures 2 rear-at-kinds.ps ℕ
-μ-rear-at κs a = length (a .0 .now) - a .1 .0
+μ-rear-at κs a = length (a .1 .0 .now) - a .1 .1 .0
 
 abbrev rear-at-at : ℕ → In 2 rear-at-kinds.ps
 rear-at-at t = and 2 rear-at-kinds.ps (is 2 rear-at-kinds.ps μ-rear-at t) rear-at.Pre
@@ -47,14 +47,15 @@ unfolding sortIn
 rear-at-add-run-output t c = let l = inside-sort (c .before .before .before .before .before .before .args .words .now) (c .before .before .before .before .before .before .args .at) _ (c .before .before .before .word-at .ensures) _ (told _ _ (c .before .before .sort-of .ensures) _ (c .enum-told .given .1)) (λ z. let n : _≡_ {A = ℕ} 0 1 = cc in omega arith) in omega arith
 
 rear-at-run-output-requires : (t : ℕ) → rear-at-lts.Need-run-output-requires (rear-at-uses t) (rear-at-at t) rear-at.Post
-rear-at-run-output-requires t c κs = tt
+unfolding sortIn
+rear-at-run-output-requires t c κs = let l = inside-sort (c .before .before .before .before .before .before .before .args .words .now) (c .before .before .before .before .before .before .before .args .at) _ (c .before .before .before .before .word-at .ensures) _ (told _ _ (c .before .before .before .sort-of .ensures) _ (c .before .enum-told .given .1)) (λ z. let n : _≡_ {A = ℕ} 0 1 = cc in omega arith) in omega (arith, l, c .before .before .before .before .before .before .before .pre .1)
 
 rear-at-same-length : (t : ℕ) → rear-at-lts.Need-same-length (rear-at-uses t) (rear-at-at t) rear-at.Post
 rear-at-same-length t c = search needs
 
 rear-at-returns : (t : ℕ) → rear-at-lts.Need-returns (rear-at-uses t) (rear-at-at t) rear-at.Post
 unfolding sortIn
-rear-at-returns t c = ran-output _ _ _ _ _ (c .before .before .before .before .before .before .before .word-at .ensures) _ _ (told _ _ (c .before .before .before .before .before .before .sort-of .ensures) _ (c .before .before .before .before .enum-told .given .1)) (c .before .before .run-output .ensures)
+rear-at-returns t c = ran-output _ _ _ _ _ _ _ (c .before .before .before .before .before .before .before .word-at .ensures) _ _ (told _ _ (c .before .before .before .before .before .before .sort-of .ensures) _ (c .before .before .before .before .enum-told .given .1)) (c .before .before .run-output .ensures)
 
 rear-at-enum-told-2 : (t : ℕ) → rear-at-lts.Need-enum-told-2 (rear-at-uses t) (rear-at-at t) rear-at.Post
 rear-at-enum-told-2 t c = search needs
@@ -68,7 +69,7 @@ rear-at-front-at-requires t c κs = tt
 
 rear-at-rear-at-requires : (t : ℕ) → rear-at-lts.Need-rear-at-requires (rear-at-uses t) (rear-at-at t) rear-at.Post
 unfolding sortIn
-rear-at-rear-at-requires t c κs = let l = inside-sort (c .before .before .before .before .before .before .before .before .before .before .args .words .now) (c .before .before .before .before .before .before .before .before .before .before .args .at) _ (c .before .before .before .before .before .before .before .word-at .ensures) _ (told _ _ (c .before .before .before .before .before .before .sort-of .ensures) _ (c .before .before .before .before .enum-told2 .given .1)) (λ z. let n : _≡_ {A = ℕ} 0 1 = cc in omega arith) in (omega (arith, c .before .before .front-at .ensures .onward), tt)
+rear-at-rear-at-requires t c κs = let l = inside-sort (c .before .before .before .before .before .before .before .before .before .before .args .words .now) (c .before .before .before .before .before .before .before .before .before .before .args .at) _ (c .before .before .before .before .before .before .before .word-at .ensures) _ (told _ _ (c .before .before .before .before .before .before .sort-of .ensures) _ (c .before .before .before .before .enum-told2 .given .1)) (λ z. let n : _≡_ {A = ℕ} 0 1 = cc in omega arith) in let h = c .before .before .front-at .ensures .onward in (omega (arith, l, h), omega (arith, h, c .before .before .before .before .before .before .before .before .before .before .pre .1))
 
 rear-at-enum-told-3 : (t : ℕ) → rear-at-lts.Need-enum-told-3 (rear-at-uses t) (rear-at-at t) rear-at.Post
 rear-at-enum-told-3 t c = search needs
@@ -79,14 +80,14 @@ rear-at-add-rear-at t c = let l = inside-sort (c .before .before .before .before
 
 rear-at-rear-at-requires-2 : (t : ℕ) → rear-at-lts.Need-rear-at-requires-2 (rear-at-uses t) (rear-at-at t) rear-at.Post
 unfolding sortIn
-rear-at-rear-at-requires-2 t c κs = let l = inside-sort (c .before .before .before .before .before .before .before .args .words .now) (c .before .before .before .before .before .before .before .args .at) _ (c .before .before .before .before .word-at .ensures) _ (told _ _ (c .before .before .before .sort-of .ensures) _ (c .before .enum-told3 .given .1)) (λ z. let n : _≡_ {A = ℕ} 0 1 = cc in omega arith) in (omega arith, tt)
+rear-at-rear-at-requires-2 t c κs = let l = inside-sort (c .before .before .before .before .before .before .before .args .words .now) (c .before .before .before .before .before .before .before .args .at) _ (c .before .before .before .before .word-at .ensures) _ (told _ _ (c .before .before .before .sort-of .ensures) _ (c .before .enum-told3 .given .1)) (λ z. let n : _≡_ {A = ℕ} 0 1 = cc in omega arith) in (omega arith, omega (arith, c .before .before .before .before .before .before .before .pre .1))
 
 rear-at-enum-known-next : (t : ℕ) → rear-at-lts.Need-enum-known-next (rear-at-uses t) (rear-at-at t) rear-at.Post
 rear-at-enum-known-next t c = search needs
 
 rear-at-rear-at-requires-3 : (t : ℕ) → rear-at-lts.Need-rear-at-requires-3 (rear-at-uses t) (rear-at-at t) rear-at.Post
 unfolding sortIn
-rear-at-rear-at-requires-3 t c κs = let l = inside-sort (c .before .before .before .before .before .before .before .before .before .before .before .before .before .before .args .words .now) (c .before .before .before .before .before .before .before .before .before .before .before .before .before .before .args .at) _ (c .before .before .before .before .before .before .before .before .before .before .before .word-at .ensures) _ (told _ _ (c .before .before .before .before .before .before .before .before .before .before .sort-of .ensures) _ (c .before .before .before .before .before .before .before .before .enum-told3 .given .1)) (λ z. let n : _≡_ {A = ℕ} 0 1 = cc in omega arith) in let h = c .before .before .before .before .before .before .rear-at2 .ensures .onward _ (c .before .before .next .given .1) in (omega arith, tt)
+rear-at-rear-at-requires-3 t c κs = let l = inside-sort (c .before .before .before .before .before .before .before .before .before .before .before .before .before .before .args .words .now) (c .before .before .before .before .before .before .before .before .before .before .before .before .before .before .args .at) _ (c .before .before .before .before .before .before .before .before .before .before .before .word-at .ensures) _ (told _ _ (c .before .before .before .before .before .before .before .before .before .before .sort-of .ensures) _ (c .before .before .before .before .before .before .before .before .enum-told3 .given .1)) (λ z. let n : _≡_ {A = ℕ} 0 1 = cc in omega arith) in let h = c .before .before .before .before .before .before .rear-at2 .ensures .onward _ _ (c .before .before .next .given .1) in (omega (arith, l, h .0), omega (arith, h .0, h .1, c .before .before .before .before .before .before .before .before .before .before .before .before .before .before .pre .1))
 
 rear-at-enum-known-label : (t : ℕ) → rear-at-lts.Need-enum-known-label (rear-at-uses t) (rear-at-at t) rear-at.Post
 rear-at-enum-known-label t c = search needs
@@ -96,24 +97,24 @@ rear-at-same-length-2 t c = search needs
 
 rear-at-returns-2 : (t : ℕ) → rear-at-lts.Need-returns-2 (rear-at-uses t) (rear-at-at t) rear-at.Post
 unfolding sortIn
-rear-at-returns-2 t c = ran-and _ _ _ _ _ (c .before .before .before .before .before .before .before .before .before .before .word-at .ensures) _ _ _ _ (told _ _ (c .before .before .before .before .before .before .before .before .before .sort-of .ensures) _ (c .before .before .before .before .before .before .before .enum-told2 .given .1)) (c .before .before .before .before .before .front-at .ensures) (c .before .before .rear-at .ensures)
+rear-at-returns-2 t c = ran-and _ _ _ _ _ _ _ (c .before .before .before .before .before .before .before .before .before .before .word-at .ensures) _ _ _ _ (told _ _ (c .before .before .before .before .before .before .before .before .before .sort-of .ensures) _ (c .before .before .before .before .before .before .before .enum-told2 .given .1)) (c .before .before .before .before .before .front-at .ensures) (c .before .before .rear-at .ensures)
 
 rear-at-same-length-3 : (t : ℕ) → rear-at-lts.Need-same-length-3 (rear-at-uses t) (rear-at-at t) rear-at.Post
 rear-at-same-length-3 t c = search needs
 
 rear-at-returns-3 : (t : ℕ) → rear-at-lts.Need-returns-3 (rear-at-uses t) (rear-at-at t) rear-at.Post
 unfolding sortIn
-rear-at-returns-3 t c = ran-or _ _ _ _ _ (c .before .before .before .before .before .before .before .before .before .before .before .before .before .before .word-at .ensures) _ _ _ _ _ (told _ _ (c .before .before .before .before .before .before .before .before .before .before .before .before .before .sort-of .ensures) _ (c .before .before .before .before .before .before .before .before .before .before .before .enum-told3 .given .1)) (c .before .before .before .before .before .before .before .before .before .rear-at2 .ensures) (c .before .before .before .before .before .next .given .1) (c .before .before .rear-at3 .ensures)
+rear-at-returns-3 t c = ran-or _ _ _ _ _ _ _ (c .before .before .before .before .before .before .before .before .before .before .before .before .before .before .word-at .ensures) _ _ _ _ _ _ (told _ _ (c .before .before .before .before .before .before .before .before .before .before .before .before .before .sort-of .ensures) _ (c .before .before .before .before .before .before .before .before .before .before .before .enum-told3 .given .1)) (c .before .before .before .before .before .before .before .before .before .rear-at2 .ensures) (c .before .before .before .before .before .next .given .1) (c .before .before .rear-at3 .ensures)
 
 rear-at-same-length-4 : (t : ℕ) → rear-at-lts.Need-same-length-4 (rear-at-uses t) (rear-at-at t) rear-at.Post
 rear-at-same-length-4 t c = search needs
 
 rear-at-returns-4 : (t : ℕ) → rear-at-lts.Need-returns-4 (rear-at-uses t) (rear-at-at t) rear-at.Post
 unfolding sortIn
-rear-at-returns-4 t c = ran-or-jumped _ _ _ _ _ (c .before .before .before .before .before .before .before .before .before .before .word-at .ensures) _ _ _ (told _ _ (c .before .before .before .before .before .before .before .before .before .sort-of .ensures) _ (c .before .before .before .before .before .before .before .enum-told3 .given .1)) (c .before .before .before .before .before .rear-at2 .ensures) (c .before .label .given .1)
+rear-at-returns-4 t c = ran-or-jumped _ _ _ _ _ _ _ (c .before .before .before .before .before .before .before .before .before .before .word-at .ensures) _ _ _ _ (told _ _ (c .before .before .before .before .before .before .before .before .before .sort-of .ensures) _ (c .before .before .before .before .before .before .before .enum-told3 .given .1)) (c .before .before .before .before .before .rear-at2 .ensures) (c .before .label .given .1)
 
 rear-at-returns-5 : (t : ℕ) → rear-at-lts.Need-returns-5 (rear-at-uses t) (rear-at-at t) rear-at.Post
-rear-at-returns-5 t c = ran-none _ _ _ _ _ (c .before .before .word-at .ensures) (not-rear _ _ (c .before .sort-of .ensures) (c .match .keys4))
+rear-at-returns-5 t c = ran-none _ _ _ _ _ _ _ (c .before .before .word-at .ensures) (not-rear _ _ (c .before .sort-of .ensures) (c .match .keys4))
 
 pub +rear-at-spec : {M : Type 1} → statement M
 +rear-at-spec = close μ-rear-at λ t. rear-at-lts.spec (rear-at-uses t)

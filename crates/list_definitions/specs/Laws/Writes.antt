@@ -8,6 +8,7 @@ use mathlib.Core.List.{[], _++_}
 use lib.ListN.{length, getElem?, length-append}
 use Rattle.table.specs.State.{State}
 use Rattle.table.specs.Laws.Legal.{LegalTable}
+use Rattle.table.specs.Laws.Changes.{makes-few}
 use Rattle.table.specs.Laws.Replaying.{makes, makes-append, makes-vars, makes-legal, write-if-makes, wrote-if-few}
 use Rattle.list_definitions.specs.Instruction.{Instr, LD, LDN, ST, STN, AND, ANDN, OR, ORN, XOR, XORN, NOT, JMP, JMPC, JMPCN, S, R}
 use Rattle.list_definitions.specs.Machine.{InstructionList, Machine, does, count, step, halted, fresh, begin, scanMachine, scanList}
@@ -109,6 +110,14 @@ module _ (l : InstructionList) where
   pub list-few : (w : ℕ) (s : State) → length (listWrites l w s) ≤ scanList l w s .counts .instructions
   unfolding scanList listWrites begin fresh
   list-few w s = let h = machine-made w (begin l) s .few in omega arith
+
+  -- each turns one variable over at most
+  pub list-moved : (w : ℕ) (s : State) → scanList l w s .state .moved ≤ s .moved + scanList l w s .counts .instructions
+  list-moved w s =
+      let few = list-few w s in
+      let most = makes-few (listWrites l w s) s in
+      let state = ap (λ t. t .moved) (list-makes w s) in
+      omega arith
 
   pub list-vars : (w : ℕ) (s : State) → scanList l w s .state .vars ≡ s .vars
   list-vars w s = rw (list-makes w s) (makes-vars (listWrites l w s) s)

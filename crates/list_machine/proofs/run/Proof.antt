@@ -91,7 +91,7 @@ use Rattle.list_machine.proofs.run.Code as code
 use Rattle.list_machine.proofs.run.Code.Mir as parts
 
 abbrev stayed : Stays (run′.ended .signature .params) (run′.ended .kept)
-stayed = (stay-none-slice (0 ∷ []) tt (plain (λ _. u32)) yes, (stay-none-slice (1 ∷ []) tt (plain (λ _. u32)) yes, (stay-slice (2 ∷ []) tt (plain (λ _. u8)), (stay-none (λ _. u32) yes, tt))))
+stayed = (stay-none (λ _. u32) yes, (stay-none-slice (0 ∷ []) tt (plain (λ _. u32)) yes, (stay-none-slice (1 ∷ []) tt (plain (λ _. u32)) yes, (stay-slice (2 ∷ []) tt (plain (λ _. u8)), (stay-none (λ _. u32) yes, tt)))))
 
 -- the locals' types, spelled as the function spells them
 abbrev spelt : Ty → Ty
@@ -132,21 +132,21 @@ lent-ty = spelt (sliceTy (tyRef erased mut (tyInt w8)))
 
 -- a turn, once its test has passed
 abbrev more : Code
-more = seq (assign (place 12 []) (addrOf (place 5 [])))
-    (seq (assign (place 13 []) (addrOf (place 3 (field 0 ∷ deref (spelt (tyInt w8)) ∷ []))))
-    (seq (assign (place 14 []) (aggregate (copy (place 13 []) ∷ copy (place 3 (field 1 ∷ [])) ∷ [])))
-    (seq (call #list-machine·step (copy (place 12 []) ∷ copy (place 1 []) ∷ copy (place 6 (field 2 ∷ [])) ∷ copy (place 14 []) ∷ []) (place 11 []))
-    (seq (assign (place 10 []) (rvOpd (copy (place 5 (field 1 ∷ [])))))
-    (call #list-machine·follow (copy (place 2 []) ∷ copy (place 6 []) ∷ copy (place 10 []) ∷ []) (place 6 []))))))
+more = seq (assign (place 13 []) (addrOf (place 6 [])))
+    (seq (assign (place 14 []) (addrOf (place 4 (field 0 ∷ deref (spelt (tyInt w8)) ∷ []))))
+    (seq (assign (place 15 []) (aggregate (copy (place 14 []) ∷ copy (place 4 (field 1 ∷ [])) ∷ [])))
+    (seq (call #list-machine·step (copy (place 1 []) ∷ copy (place 13 []) ∷ copy (place 2 []) ∷ copy (place 7 (field 2 ∷ [])) ∷ copy (place 15 []) ∷ []) (place 12 []))
+    (seq (assign (place 11 []) (rvOpd (copy (place 6 (field 1 ∷ [])))))
+    (call #list-machine·follow (copy (place 3 []) ∷ copy (place 7 []) ∷ copy (place 11 []) ∷ []) (place 7 []))))))
 
 -- a place in the loop: the machine, where it stands among the records, the table, and what holds of them
-record Here (ws os ts : List ℕ) (w : ℕ) : Type 0 where
+record Here (vars : ℕ) (ws os ts : List ℕ) (w : ℕ) : Type 0 where
   m : Machine
   place : Place
   t : List ℕ
   is : Is N.the-row m (N′.lowered m ∷ [])
   is-place : Is P.the-row place (P′.lowered place ∷ [])
-  stands : Standing ws os ts w t m place
+  stands : Standing vars ws os ts w t m place
 
 module _ {M : Type 1} (𝓤 : URA M) (H : Heap 𝓤) (A : Atoms 𝓤) (at-mem : Memory → SProp 𝓤) (run : Routine → Fun 𝓤) where
   -- the contracts that the proof cites, and of each callee's `ensured` the clause alone
@@ -184,8 +184,8 @@ module _ {M : Type 1} (𝓤 : URA M) (H : Heap 𝓤) (A : Atoms 𝓤) (at-mem : 
   said-halted m n r = exE 𝓤 _ (λ zs. snd∗ 𝓤 (sem 𝓤 H A (lasts halted-at.ended tt (m, (n, tt)) zs)) (fact 𝓤 (r ≡ haltedAt n m)))
 
 module _ {M : Type 1} (𝓤 : URA M) (H : Heap 𝓤) (A : Atoms 𝓤) (W : Given 𝓤 H A) (at-mem : Memory → SProp 𝓤) (run : Routine → Fun 𝓤) (κ₁ κ₂ κ₃ : Lft) (q₁ q₂ q₃ : Share)
-    (words starts : RefT (List ℕ)) (b o : ℕ) (γ : GName) (ts : List ℕ) (w : ℕ)
-    (room-w : Room u32 (length (words .now))) (room-o : Room u32 (length (starts .now))) (room-t : Room u8 (length ts)) (w-fits : w < 2 ^ 32) where
+    (vars : ℕ) (words starts : RefT (List ℕ)) (b o : ℕ) (γ : GName) (ts : List ℕ) (w : ℕ)
+    (vars-fits : vars < 2 ^ 32) (room-w : Room u32 (length (words .now))) (room-o : Room u32 (length (starts .now))) (room-t : Room u8 (length ts)) (w-fits : w < 2 ^ 32) where
   abbrev ws : List ℕ
   ws = words .now
 
@@ -208,17 +208,17 @@ module _ {M : Type 1} (𝓤 : URA M) (H : Heap 𝓤) (A : Atoms 𝓤) (W : Given
   abbrev st : List ℕ → Val
   st l = sliceVal (b, o) (length l)
 
-  abbrev x : RefT (List ℕ) × (RefT (List ℕ) × (RefT (List ℕ) × (ℕ × Unit {0})))
-  x = (words, (starts, (at-list γ ts, (w, tt))))
+  abbrev x : ℕ × (RefT (List ℕ) × (RefT (List ℕ) × (RefT (List ℕ) × (ℕ × Unit {0}))))
+  x = (vars, (words, (starts, (at-list γ ts, (w, tt)))))
 
-  abbrev at : List Val × (List Val × (List Val × (List Val × Unit {0})))
-  at = (sw ∷ [], (so ∷ [], (st ts ∷ [], (vint w32 w ∷ [], tt))))
+  abbrev at : List Val × (List Val × (List Val × (List Val × (List Val × Unit {0}))))
+  at = (vint w32 vars ∷ [], (sw ∷ [], (so ∷ [], (st ts ∷ [], (vint w32 w ∷ [], tt)))))
 
   abbrev Post : Val → SProp 𝓤
   Post = walkOf 𝓤 H A run′.ended stayed (run′.clauses 𝓤 H A at-mem run) .post (((κ₁, (κ₂, (κ₃, tt))), (q₁, (q₂, (q₃, tt))), tt, x, at), tt)
 
   abbrev Upto : Type 0
-  Upto = Here ws os ts w
+  Upto = Here vars ws os ts w
 
   typed : (r : Machine) (u : Val) → Is N.the-row r (u ∷ []) → Holds (hasTy N′.mir u) × WT u
   typed r u is = LL.lawful N.the-type N′.the-laws 𝓤 H A W .typed r _ is .0
@@ -263,14 +263,14 @@ module _ {M : Type 1} (𝓤 : URA M) (H : Heap 𝓤) (A : Atoms 𝓤) (W : Given
   abbrev Left : Upto → List (Item 𝓤)
   Left i = ‵ (flft κ₁ q₁) ∷ token-offsets ∷ ‵ (flft κ₃ q₃) ∷ ‵ Own-words ∷ ‵ Own-offsets ∷ ‵ (Own-table (i .t)) ∷ []
 
-  exits : (i : Upto) (r : ListScanned) (u : Val) → Is S.the-row r (u ∷ []) → Ran ws os ts w r (i .t) → ent 𝓤 (⋆ 𝓤 H A (Left i)) (Post u)
+  exits : (i : Upto) (r : ListScanned) (u : Val) → Is S.the-row r (u ∷ []) → Ran vars ws os ts w r (i .t) → ent 𝓤 (⋆ 𝓤 H A (Left i)) (Post u)
   exits i r u is e =
       qed W (Left i) ∵
-      suffices ! _ (ends-at 𝓤 H A run′.ended stayed (run′.clauses 𝓤 H A at-mem run) W (((κ₁, (κ₂, (κ₃, tt))), (q₁, (q₂, (q₃, tt))), tt, x, at), tt) u r (tt, (tt, (i .t, (tt, tt)))) (tt, (tt, (i .stands .running .long, (tt, tt))))) $ says ! e $
+      suffices ! _ (ends-at 𝓤 H A run′.ended stayed (run′.clauses 𝓤 H A at-mem run) W (((κ₁, (κ₂, (κ₃, tt))), (q₁, (q₂, (q₃, tt))), tt, x, at), tt) u r (tt, (tt, (tt, (i .t, (tt, tt))))) (tt, (tt, (tt, (i .stands .running .long, (tt, tt)))))) $ says ! e $
       move ! (1 ∷ []) $ split ! $ move ! (3 ∷ 1 ∷ []) $ join ! $ move ! (1 ∷ 0 ∷ []) $ join ! $ move ! (1 ∷ 0 ∷ []) $ join ! $ frame ! $
       -- [the words; the offsets; the table]: the table's machine value is the one passed
       rewrite ! 2 (λ (l : ℕ). ‵ (MutSlice (named 2) κ₃ u8 .own (at-list γ (i .t)) (sliceVal (b, o) l ∷ []))) (i .stands .running .long) refl $
-      nothing ! $ owned ! u32 (Is u32) (uint-makes 𝓤 H A W w32) w _ (refl, w-fits) $ fjoin ! $ move ! (3 ∷ 0 ∷ []) $ fjoin ! $ move ! (2 ∷ 0 ∷ []) $ fjoin ! $ move ! (1 ∷ 0 ∷ []) $ fjoin ! $ frame ! $
+      nothing ! $ owned ! u32 (Is u32) (uint-makes 𝓤 H A W w32) w _ (refl, w-fits) $ fjoin ! $ move ! (3 ∷ 0 ∷ []) $ fjoin ! $ move ! (2 ∷ 0 ∷ []) $ fjoin ! $ move ! (1 ∷ 0 ∷ []) $ fjoin ! $ owned ! u32 (Is u32) (uint-makes 𝓤 H A W w32) vars _ (refl, vars-fits) $ fjoin ! $ frame ! $
       owned ! S.the-row (Is S.the-row) (EL.makes S.the-type S′.the-plain 𝓤 H A) r _ is $ done !
 
   -- what each callee's triple binds outside, and that the caller has what it asks
@@ -311,18 +311,18 @@ module _ {M : Type 1} (𝓤 : URA M) (H : Heap 𝓤) (A : Atoms 𝓤) (W : Given
   off false h = refl
 
   needed : (i : Upto) → Holds (On i) → StandingNeeds ws os (i .m) (i .place)
-  needed i yes = standing-needs ws os ts w (i .t) (i .m) (i .place) (i .stands) w-fits (on (On i) yes)
+  needed i yes = standing-needs vars ws os ts w (i .t) (i .m) (i .place) (i .stands) w-fits (on (On i) yes)
 
   -- what `step` is passed in turn i: the machine at the local l, lent for ν under δ, and the table lent again for μ under ε
   module _ (i : Upto) (l ν μ : ℕ) (δ ε : GName) where
     abbrev lent : RefT Machine
     lent = record { ptr = (l, 0); name = δ; now = i .m }
 
-    abbrev passed : RefT Machine × (RefT (List ℕ) × (ℕ × (RefT (List ℕ) × Unit {0})))
-    passed = (lent, (words, (i .place .entered, (at-list ε (i .t), tt))))
+    abbrev passed : ℕ × (RefT Machine × (RefT (List ℕ) × (ℕ × (RefT (List ℕ) × Unit {0}))))
+    passed = (vars, (lent, (words, (i .place .entered, (at-list ε (i .t), tt)))))
 
-    abbrev vals : List Val × (List Val × (List Val × (List Val × Unit {0})))
-    vals = (vptr l 0 ∷ [], (sw ∷ [], (vint w32 (i .place .entered) ∷ [], (st ts ∷ [], tt))))
+    abbrev vals : List Val × (List Val × (List Val × (List Val × (List Val × Unit {0}))))
+    vals = (vint w32 vars ∷ [], (vptr l 0 ∷ [], (sw ∷ [], (vint w32 (i .place .entered) ∷ [], (st ts ∷ [], tt)))))
 
     abbrev tokens : Item 𝓤
     tokens = ‵ (flft (ν ∷ []) fullShare) ⊛ (‵ (flft κ₁ q₁) ⊛ (‵ (flft (μ ∷ []) fullShare) ⊛ ‵ ftrue))
@@ -331,13 +331,13 @@ module _ {M : Type 1} (𝓤 : URA M) (H : Heap 𝓤) (A : Atoms 𝓤) (W : Given
     to-step = (((ν ∷ [], (κ₁, (μ ∷ [], tt))), (fullShare, (q₁, (fullShare, tt))), tt, passed, vals), tt)
 
     abbrev Owns : Fml
-    Owns = owns (MutRef (named 0) (ν ∷ []) N.the-row ∷ ShrSlice (named 1) κ₁ u32 ∷ u32 ∷ MutSlice (named 2) (μ ∷ []) u8 ∷ []) passed vals
+    Owns = owns (u32 ∷ MutRef (named 0) (ν ∷ []) N.the-row ∷ ShrSlice (named 1) κ₁ u32 ∷ u32 ∷ MutSlice (named 2) (μ ∷ []) u8 ∷ []) passed vals
 
     goes-step : Holds (On i) → ent 𝓤 (⋆ 𝓤 H A (tokens ∷ ‵ Owns ∷ [])) (Step 𝓤 H A at-mem run .pre to-step)
-    goes-step yes = qed W (tokens ∷ ‵ Owns ∷ []) ∵ says ! (needed i yes .inside, needed i yes .instructions, needed i yes .rungs) $ frame ! $ done !
+    goes-step yes = qed W (tokens ∷ ‵ Owns ∷ []) ∵ says ! (needed i yes .inside, needed i yes .instructions, needed i yes .rungs, needed i yes .moved) $ frame ! $ done !
 
   abbrev Said : Upto → Machine → List ℕ → Type 0
-  Said i r zs = Stepped (getD ws (i .m .index) 0) (i .place .entered) (i .m) (i .t) r zs
+  Said i r zs = Stepped vars (getD ws (i .m .index) 0) (i .place .entered) (i .m) (i .t) r zs
 
   -- what `follow` is passed after the machine's step to m′
   module _ (i : Upto) (m′ : Machine) (is : Is N.the-row m′ (N′.lowered m′ ∷ [])) where
@@ -364,7 +364,7 @@ module _ {M : Type 1} (𝓤 : URA M) (H : Heap 𝓤) (A : Atoms 𝓤) (W : Given
     t = t′;
     is = is;
     is-place = is′;
-    stands = standing-next ws os ts w (i .t) (i .m) (i .place) (i .stands) (on (On i) yes) m′ t′ s len p′ f;
+    stands = standing-next vars ws os ts w (i .t) (i .m) (i .place) (i .stands) (on (On i) yes) m′ t′ s len p′ f;
   }
 
   module _ (𝓣 : Tables 𝓤 H)
@@ -379,14 +379,14 @@ module _ {M : Type 1} (𝓤 : URA M) (H : Heap 𝓤) (A : Atoms 𝓤) (W : Given
     fm : FmC 𝓤 H (W .laws) C
     fm = fmOf 𝓤 H (W .laws) 𝓣
 
-    module _ (l₀ l₁ l₂ l₃ l₄ l₅ l₆ l₇ l₈ l₉ l₁₀ l₁₁ l₁₂ l₁₃ l₁₄ l₁₅ : ℕ) where
+    module _ (l₀ l₁ l₂ l₃ l₄ l₅ l₆ l₇ l₈ l₉ l₁₀ l₁₁ l₁₂ l₁₃ l₁₄ l₁₅ l₁₆ : ℕ) where
       abbrev En : Env 𝓤 H
-      En = (scanned-ty, l₀) ∷ (words-ty, l₁) ∷ (offsets-ty, l₂) ∷ (table-ty, l₃) ∷ (number, l₄) ∷ (machine, l₅) ∷ (place-ty, l₆) ∷ (machine, l₇) ∷ (spelt tyBool, l₈) ∷ (machine, l₉) ∷ (word, l₁₀) ∷ (spelt tyUnit, l₁₁) ∷ (ref-ty, l₁₂) ∷ (byte-ref, l₁₃) ∷ (lent-ty, l₁₄) ∷ (word, l₁₅) ∷ []
+      En = (scanned-ty, l₀) ∷ (number, l₁) ∷ (words-ty, l₂) ∷ (offsets-ty, l₃) ∷ (table-ty, l₄) ∷ (number, l₅) ∷ (machine, l₆) ∷ (place-ty, l₇) ∷ (machine, l₈) ∷ (spelt tyBool, l₉) ∷ (machine, l₁₀) ∷ (word, l₁₁) ∷ (spelt tyUnit, l₁₂) ∷ (ref-ty, l₁₃) ∷ (byte-ref, l₁₄) ∷ (lent-ty, l₁₅) ∷ (word, l₁₆) ∷ []
 
       abbrev At : Upto → List (Item 𝓤)
-      At i = ‵ (froom word l₁₅ 0) ∷ ‵ (fdies word l₁₅) ∷ ‵ (froom lent-ty l₁₄ 0) ∷ ‵ (fdies lent-ty l₁₄) ∷ ‵ (froom byte-ref l₁₃ 0) ∷ ‵ (fdies byte-ref l₁₃) ∷ ‵ (froom ref-ty l₁₂ 0) ∷ ‵ (fdies ref-ty l₁₂) ∷ ‵ (froom (spelt tyUnit) l₁₁ 0) ∷ ‵ (fdies (spelt tyUnit) l₁₁) ∷ ‵ (froom word l₁₀ 0) ∷ ‵ (fdies word l₁₀)
-          ∷ ‵ (froom machine l₉ 0) ∷ ‵ (fdies machine l₉) ∷ ‵ (froom (spelt tyBool) l₈ 0) ∷ ‵ (fdies (spelt tyBool) l₈) ∷ ‵ (froom machine l₇ 0) ∷ ‵ (fdies machine l₇) ∷ ‵ (fat fullShare place-ty l₆ 0 (P′.lowered (i .place))) ∷ ‵ (fdies place-ty l₆) ∷ ‵ (fat fullShare machine l₅ 0 (N′.lowered (i .m))) ∷ ‵ (fdies machine l₅) ∷ ‵ (fat fullShare number l₄ 0 (vint w32 w)) ∷ ‵ (fdies number l₄)
-          ∷ ‵ (fat fullShare table-ty l₃ 0 (st ts)) ∷ ‵ (fdies table-ty l₃) ∷ ‵ (fat fullShare offsets-ty l₂ 0 so) ∷ ‵ (fdies offsets-ty l₂) ∷ ‵ (fat fullShare words-ty l₁ 0 sw) ∷ ‵ (fdies words-ty l₁) ∷ ‵ (froom scanned-ty l₀ 0) ∷ ‵ (fdies scanned-ty l₀)
+      At i = ‵ (froom word l₁₆ 0) ∷ ‵ (fdies word l₁₆) ∷ ‵ (froom lent-ty l₁₅ 0) ∷ ‵ (fdies lent-ty l₁₅) ∷ ‵ (froom byte-ref l₁₄ 0) ∷ ‵ (fdies byte-ref l₁₄) ∷ ‵ (froom ref-ty l₁₃ 0) ∷ ‵ (fdies ref-ty l₁₃) ∷ ‵ (froom (spelt tyUnit) l₁₂ 0) ∷ ‵ (fdies (spelt tyUnit) l₁₂) ∷ ‵ (froom word l₁₁ 0) ∷ ‵ (fdies word l₁₁)
+          ∷ ‵ (froom machine l₁₀ 0) ∷ ‵ (fdies machine l₁₀) ∷ ‵ (froom (spelt tyBool) l₉ 0) ∷ ‵ (fdies (spelt tyBool) l₉) ∷ ‵ (froom machine l₈ 0) ∷ ‵ (fdies machine l₈) ∷ ‵ (fat fullShare place-ty l₇ 0 (P′.lowered (i .place))) ∷ ‵ (fdies place-ty l₇) ∷ ‵ (fat fullShare machine l₆ 0 (N′.lowered (i .m))) ∷ ‵ (fdies machine l₆) ∷ ‵ (fat fullShare number l₅ 0 (vint w32 w)) ∷ ‵ (fdies number l₅)
+          ∷ ‵ (fat fullShare table-ty l₄ 0 (st ts)) ∷ ‵ (fdies table-ty l₄) ∷ ‵ (fat fullShare offsets-ty l₃ 0 so) ∷ ‵ (fdies offsets-ty l₃) ∷ ‵ (fat fullShare words-ty l₂ 0 sw) ∷ ‵ (fdies words-ty l₂) ∷ ‵ (fat fullShare number l₁ 0 (vint w32 vars)) ∷ ‵ (fdies number l₁) ∷ ‵ (froom scanned-ty l₀ 0) ∷ ‵ (fdies scanned-ty l₀)
           ∷ ‵ (flft κ₁ q₁) ∷ token-offsets ∷ ‵ (flft κ₃ q₃) ∷ ‵ Own-words ∷ ‵ Own-offsets ∷ ‵ (Own-table (i .t)) ∷ []
 
       -- the rest of the body, after the loop
@@ -400,10 +400,10 @@ module _ {M : Type 1} (𝓤 : URA M) (H : Heap 𝓤) (A : Atoms 𝓤) (W : Given
           use1 W (later (some (λ (r : ListScanned). (‵ ftrue ⊛ ‵ (S.the-row .own r (u ∷ []))) ⊛ raw (ensured 𝓤 H A halted-at.ended (halted-at.clauses 𝓤 H A at-mem run) tt (i .m, (k, tt)) tt r)))) (id⊢ 𝓤 _) $ await ! tt $ pick ! (λ r.
           split ! $ move ! (1 ∷ []) $ use1 W (raw (fact 𝓤 (r ≡ haltedAt k (i .m)))) (said-halted 𝓤 H A at-mem run (i .m) k r) $ heard ! (r ≡ haltedAt k (i .m)) (λ e. split ! $ drop ! $
           rewrite ! 0 (λ (z : ListScanned). ‵ (S.the-row .own z (u ∷ []))) e refl $ facts ! S.the-row (Is S.the-row) (shows 𝓤 H A S.the-row) (haltedAt k (i .m)) (u ∷ []) (λ is.
-          land ! (from ! (stop !)) (init ! 30 refl (typed-scanned (haltedAt k (i .m)) u is)) $
-          returns ! (look ! 30 refl) $ forget ! 0 refl $ forget ! 16 refl $ forget ! 18 refl $ forget ! 20 refl $ forget ! 22 refl $ forget ! 24 refl $ forget ! 26 refl $ forget ! 28 refl $ forget ! 30 refl $
-          move ! (30 ∷ 31 ∷ []) $ free1 ! $ move ! (28 ∷ 29 ∷ []) $ free1 ! $ move ! (26 ∷ 27 ∷ []) $ free1 ! $ move ! (24 ∷ 25 ∷ []) $ free1 ! $ move ! (22 ∷ 23 ∷ []) $ free1 ! $ move ! (20 ∷ 21 ∷ []) $ free1 ! $ move ! (18 ∷ 19 ∷ []) $ free1 ! $ move ! (16 ∷ 17 ∷ []) $ free1 ! $ move ! (14 ∷ 15 ∷ []) $ free1 ! $ move ! (12 ∷ 13 ∷ []) $ free1 ! $ move ! (10 ∷ 11 ∷ []) $ free1 ! $ move ! (8 ∷ 9 ∷ []) $ free1 ! $ move ! (6 ∷ 7 ∷ []) $ free1 ! $ move ! (4 ∷ 5 ∷ []) $ free1 ! $ move ! (2 ∷ 3 ∷ []) $ free1 ! $ free1 ! $ free0 ! $
-          by ! (exits i (haltedAt k (i .m)) u is (standing-ends ws os ts w (i .t) (i .m) (i .place) (i .stands) (off (On i) over)))))))
+          land ! (from ! (stop !)) (init ! 32 refl (typed-scanned (haltedAt k (i .m)) u is)) $
+          returns ! (look ! 32 refl) $ forget ! 0 refl $ forget ! 16 refl $ forget ! 18 refl $ forget ! 20 refl $ forget ! 22 refl $ forget ! 24 refl $ forget ! 26 refl $ forget ! 28 refl $ forget ! 30 refl $ forget ! 32 refl $
+          move ! (32 ∷ 33 ∷ []) $ free1 ! $ move ! (30 ∷ 31 ∷ []) $ free1 ! $ move ! (28 ∷ 29 ∷ []) $ free1 ! $ move ! (26 ∷ 27 ∷ []) $ free1 ! $ move ! (24 ∷ 25 ∷ []) $ free1 ! $ move ! (22 ∷ 23 ∷ []) $ free1 ! $ move ! (20 ∷ 21 ∷ []) $ free1 ! $ move ! (18 ∷ 19 ∷ []) $ free1 ! $ move ! (16 ∷ 17 ∷ []) $ free1 ! $ move ! (14 ∷ 15 ∷ []) $ free1 ! $ move ! (12 ∷ 13 ∷ []) $ free1 ! $ move ! (10 ∷ 11 ∷ []) $ free1 ! $ move ! (8 ∷ 9 ∷ []) $ free1 ! $ move ! (6 ∷ 7 ∷ []) $ free1 ! $ move ! (4 ∷ 5 ∷ []) $ free1 ! $ move ! (2 ∷ 3 ∷ []) $ free1 ! $ free1 ! $ free0 ! $
+          by ! (exits i (haltedAt k (i .m)) u is (standing-ends vars ws os ts w (i .t) (i .m) (i .place) (i .stands) (off (On i) over)))))))
 
       abbrev Turned : Upto → Out → SProp 𝓤
       Turned i = afterTurn 𝓤 H (Below 𝓤 H A Nearer At i) (afterBlock 𝓤 H (afterSeq 𝓤 H (Wp 𝓤 H C Λ En parts.t-5 (atReturn 𝓤 H En Post)) (atReturn 𝓤 H En Post)))
@@ -411,7 +411,7 @@ module _ {M : Type 1} (𝓤 : URA M) (H : Heap 𝓤) (A : Atoms 𝓤) (W : Given
       turns : (i : Upto) → Sq W (At i) (runs C Λ En parts.turn-1 (anyQ (Turned i)))
       unfolding afterTurn after
       turns i =
-          -- [room for _15; …; room for _14, the lent slice; …; room for _13; …; room for _12, the lent machine; …; room for _11; …; room for _10; …; room for _9; …; room for _8, the test; …; room for _7; …; _6, place; …; _5, m; …; _4, watchdog; …; _3, table; …; _2, offsets; …; _1, code; …; room for _0; …; κ₁; the offsets' token; κ₃; the words; the offsets; the table]
+          -- [room for _16; …; room for _15, the lent slice; …; room for _14; …; room for _13, the lent machine; …; room for _12; …; room for _11; …; room for _10; …; room for _9, the test; …; room for _8; …; _7, place; …; _6, m; …; _5, watchdog; …; _4, table; …; _3, offsets; …; _2, code; …; _1, vars; …; room for _0; …; κ₁; the offsets' token; κ₃; the words; the offsets; the table]
           assigns ! (of-opd ! (load ! (from ! (stop !)) (look ! 20 refl))) (from ! (stop !)) (init ! 12 refl (typed (i .m) _ (i .is))) $
           assigns ! (of-opd ! (load ! (from ! (fld ! refl (stop !))) (look-in ! 28 (sub ! 1 refl (whole !))))) (from ! (stop !)) (init ! 10 refl (tt, record { fits = room-w .0 })) $
           -- `runs_on`
@@ -420,7 +420,7 @@ module _ {M : Type 1} (𝓤 : URA M) (H : Heap 𝓤) (A : Atoms 𝓤) (W : Given
           use1 W (later (some (λ (r : Bool). (‵ ftrue ⊛ ‵ (bool .own r (v₀ ∷ []))) ⊛ raw (ensured 𝓤 H A runs-on.ended (runs-on.clauses 𝓤 H A at-mem run) tt (i .m, (k, (w, tt))) tt r)))) (id⊢ 𝓤 _) $ await ! tt $ pick ! (λ r₀.
           split ! $ move ! (1 ∷ []) $ use1 W (raw (fact 𝓤 (r₀ ≡ On i))) (said-on 𝓤 H A at-mem run (i .m) k w r₀) $ heard ! (r₀ ≡ On i) (λ e₀. split ! $ drop ! $
           rewrite ! 0 (λ (z : Bool). ‵ (bool .own z (v₀ ∷ []))) e₀ refl $ facts ! bool (Is bool) (shows 𝓤 H A bool) (On i) (v₀ ∷ []) (λ is₀.
-          land ! (from ! (stop !)) (init ! 14 refl (bool-lawful 𝓤 H A W .typed (On i) _ is₀ .0)) $ rewrite ! 14 (λ (z : Val). ‵ (fat fullShare (spelt tyBool) l₈ 0 z)) (ap only is₀) refl $
+          land ! (from ! (stop !)) (init ! 14 refl (bool-lawful 𝓤 H A W .typed (On i) _ is₀ .0)) $ rewrite ! 14 (λ (z : Val). ‵ (fat fullShare (spelt tyBool) l₉ 0 z)) (ap only is₀) refl $
           first ! $ branches ! (load ! (from ! (stop !)) (look ! 14 refl))
           (λ yes. skips ! $ exec ! C Λ En more (anyQ (Turned i)) $
           assigns ! (addr ! (from ! (stop !))) (from ! (stop !)) (init ! 6 refl (tt, tt)) $
@@ -428,94 +428,94 @@ module _ {M : Type 1} (𝓤 : URA M) (H : Heap 𝓤) (A : Atoms 𝓤) (W : Given
           assigns ! (agg ! (and-then ! (load ! (from ! (stop !)) (look ! 4 refl)) (and-then ! (load ! (from ! (fld ! refl (stop !))) (look-in ! 24 (sub ! 1 refl (whole !)))) (no-more !)))) (from ! (stop !)) (init ! 2 refl (tt, (tt, (record { fits = room-t .0 }, tt)))) $
           -- the local is lent for ν
           move ! (20 ∷ []) $ owned ! N.the-row (Is N.the-row) (LL.makes N.the-type N′.the-plain 𝓤 H A) (i .m) _ (i .is) $ move ! (1 ∷ 0 ∷ []) $
-          use2 W (‵ (mem N.the-row .lies (i .m) l₅ 0)) (part-in 𝓤 H A W N.the-row refl fullShare (i .m) l₅ 0 (N′.lowered (i .m))) $ lft-new ! tt (λ ν. move ! (1 ∷ []) $
-          use1 W (later (some (λ (δ : GName). ‵ (MutRef (named 0) (ν ∷ []) N.the-row .own (record { ptr = (l₅, 0); name = δ; now = i .m }) (vptr l₅ 0 ∷ [])) ⊛ ‵ (flent (ν ∷ []) (Body (mem N.the-row) l₅ 0 δ))))) (lends-ref 𝓤 H A W N.the-row (named 0) (ν ∷ []) (i .m) l₅ 0) $ await ! tt $ pick ! (λ δ. split ! $
+          use2 W (‵ (mem N.the-row .lies (i .m) l₆ 0)) (part-in 𝓤 H A W N.the-row refl fullShare (i .m) l₆ 0 (N′.lowered (i .m))) $ lft-new ! tt (λ ν. move ! (1 ∷ []) $
+          use1 W (later (some (λ (δ : GName). ‵ (MutRef (named 0) (ν ∷ []) N.the-row .own (record { ptr = (l₆, 0); name = δ; now = i .m }) (vptr l₆ 0 ∷ [])) ⊛ ‵ (flent (ν ∷ []) (Body (mem N.the-row) l₆ 0 δ))))) (lends-ref 𝓤 H A W N.the-row (named 0) (ν ∷ []) (i .m) l₆ 0) $ await ! tt $ pick ! (λ δ. split ! $
           -- the table is lent again for μ
-          lft-new ! tt (λ μ. move ! (40 ∷ 37 ∷ []) $
+          lft-new ! tt (λ μ. move ! (42 ∷ 39 ∷ []) $
           use2 W (later (some (λ (ε : GName). ‵ (MutSlice (named 2) (μ ∷ []) u8 .own (at-list ε (i .t)) (st (i .t) ∷ [])) ⊛ ‵ (LentAgain u8 κ₃ (μ ∷ []) q₃ γ b o ε (i .t))))) (lends-again u8 κ₃ (μ ∷ []) q₃ γ b o 𝓤 H A W (named 2) (named 2) (i .t)) $ await ! tt $ pick ! (λ ε. split ! $
           rewrite ! 0 (λ (j : ℕ). ‵ (MutSlice (named 2) (μ ∷ []) u8 .own (at-list ε (i .t)) (sliceVal (b, o) j ∷ []))) (i .stands .running .long) refl $
-          move ! (39 ∷ []) $ use1 W (‵ Own-words ⊛ ‵ Own-words) (shr-slice-copy 𝓤 H A W (named 0) κ₁ u32 .twice words (sw ∷ [])) $ split ! $
-          move ! (7 ∷ 39 ∷ 4 ∷ 5 ∷ 0 ∷ 2 ∷ []) $ nothing ! $ move ! (3 ∷ 0 ∷ []) $ join ! $ move ! (2 ∷ 0 ∷ []) $ join ! $ move ! (1 ∷ 0 ∷ []) $ join ! $
-          nothing ! $ move ! (4 ∷ 0 ∷ []) $ fjoin ! $ owned ! u32 (Is u32) (uint-makes 𝓤 H A W w32) (i .place .entered) _ (refl, entered-fits (i .place) (i .is-place)) $ fjoin ! $ move ! (3 ∷ 0 ∷ []) $ fjoin ! $ move ! (2 ∷ 0 ∷ []) $ fjoin ! $ move ! (1 ∷ 0 ∷ []) $
-          use2 W (raw (Step 𝓤 H A at-mem run .pre (to-step i l₅ ν μ δ ε))) (goes-step i l₅ ν μ δ ε yes) $
+          move ! (41 ∷ []) $ use1 W (‵ Own-words ⊛ ‵ Own-words) (shr-slice-copy 𝓤 H A W (named 0) κ₁ u32 .twice words (sw ∷ [])) $ split ! $
+          move ! (7 ∷ 41 ∷ 4 ∷ 5 ∷ 0 ∷ 2 ∷ []) $ nothing ! $ move ! (3 ∷ 0 ∷ []) $ join ! $ move ! (2 ∷ 0 ∷ []) $ join ! $ move ! (1 ∷ 0 ∷ []) $ join ! $
+          nothing ! $ move ! (4 ∷ 0 ∷ []) $ fjoin ! $ owned ! u32 (Is u32) (uint-makes 𝓤 H A W w32) (i .place .entered) _ (refl, entered-fits (i .place) (i .is-place)) $ fjoin ! $ move ! (3 ∷ 0 ∷ []) $ fjoin ! $ move ! (2 ∷ 0 ∷ []) $ fjoin ! $ owned ! u32 (Is u32) (uint-makes 𝓤 H A W w32) vars _ (refl, vars-fits) $ fjoin ! $ move ! (1 ∷ 0 ∷ []) $
+          use2 W (raw (Step 𝓤 H A at-mem run .pre (to-step i l₆ ν μ δ ε))) (goes-step i l₆ ν μ δ ε yes) $
           -- `step`
-          calls-at ! fm (Step 𝓤 H A at-mem run) known-step (to-step i l₅ ν μ δ ε) (and-then ! (load ! (from ! (stop !)) (look ! 10 refl)) (and-then ! (load ! (from ! (stop !)) (look ! 31 refl)) (and-then ! (load ! (from ! (fld ! refl (stop !))) (look-in ! 22 (sub ! 2 refl (whole !)))) (and-then ! (load ! (from ! (stop !)) (look ! 6 refl)) (no-more !))))) (λ u₀.
-          use1 W (later (some (λ (z : Unit {0}). (tokens i l₅ ν μ δ ε ⊛ ‵ (unit .own z (u₀ ∷ []))) ⊛ raw (ensured 𝓤 H A step.ended (step.clauses 𝓤 H A at-mem run) (ν ∷ [], (κ₁, (μ ∷ [], tt))) (passed i l₅ ν μ δ ε) tt z)))) (id⊢ 𝓤 _) $ await ! tt $ pick ! (λ z.
-          split ! $ move ! (1 ∷ []) $ use1 W (some (λ (zs : Machine × (Unit {0} × (Unit {0} × (List ℕ × Unit {0})))). ‵ (lasts step.ended (ν ∷ [], (κ₁, (μ ∷ [], tt))) (passed i l₅ ν μ δ ε) zs) ⊛ raw (fact 𝓤 (Said i (zs .0) (zs .1 .1 .1 .0))))) (id⊢ 𝓤 _) $ pick ! (λ zs.
-          split ! $ move ! (1 ∷ []) $ heard ! (Said i (zs .0) (zs .1 .1 .1 .0)) (λ e. fsplit ! $ move ! (1 ∷ []) $ fsplit ! $ drop ! $ fsplit ! $ drop ! $ fsplit ! $ fsplit ! $ move ! (1 ∷ []) $ feqL ! (λ len.
+          calls-at ! fm (Step 𝓤 H A at-mem run) known-step (to-step i l₆ ν μ δ ε) (and-then ! (load ! (from ! (stop !)) (look ! 33 refl)) (and-then ! (load ! (from ! (stop !)) (look ! 10 refl)) (and-then ! (load ! (from ! (stop !)) (look ! 31 refl)) (and-then ! (load ! (from ! (fld ! refl (stop !))) (look-in ! 22 (sub ! 2 refl (whole !)))) (and-then ! (load ! (from ! (stop !)) (look ! 6 refl)) (no-more !)))))) (λ u₀.
+          use1 W (later (some (λ (z : Unit {0}). (tokens i l₆ ν μ δ ε ⊛ ‵ (unit .own z (u₀ ∷ []))) ⊛ raw (ensured 𝓤 H A step.ended (step.clauses 𝓤 H A at-mem run) (ν ∷ [], (κ₁, (μ ∷ [], tt))) (passed i l₆ ν μ δ ε) tt z)))) (id⊢ 𝓤 _) $ await ! tt $ pick ! (λ z.
+          split ! $ move ! (1 ∷ []) $ use1 W (some (λ (zs : Unit {0} × (Machine × (Unit {0} × (Unit {0} × (List ℕ × Unit {0}))))). ‵ (lasts step.ended (ν ∷ [], (κ₁, (μ ∷ [], tt))) (passed i l₆ ν μ δ ε) zs) ⊛ raw (fact 𝓤 (Said i (zs .1 .0) (zs .1 .1 .1 .1 .0))))) (id⊢ 𝓤 _) $ pick ! (λ zs.
+          split ! $ move ! (1 ∷ []) $ heard ! (Said i (zs .1 .0) (zs .1 .1 .1 .1 .0)) (λ e. fsplit ! $ drop ! $ fsplit ! $ move ! (1 ∷ []) $ fsplit ! $ drop ! $ fsplit ! $ drop ! $ fsplit ! $ fsplit ! $ move ! (1 ∷ []) $ feqL ! (λ len.
           move ! (3 ∷ []) $ split ! $ move ! (1 ∷ []) $ facts ! unit (Is unit) (shows 𝓤 H A unit) z (u₀ ∷ []) (λ is.
           split ! $ move ! (1 ∷ []) $ split ! $ move ! (1 ∷ []) $ split ! $ lft-end ! tt $ move ! (0 ∷ 8 ∷ 4 ∷ []) $
-          use3 W (later (‵ (MutSlice (named 2) κ₃ u8 .own (at-list γ (zs .1 .1 .1 .0)) (st (i .t) ∷ [])) ⊛ ‵ (flft κ₃ q₃))) (comes-back u8 κ₃ (μ ∷ []) q₃ γ b o 𝓤 H A W (named 2) (named 2) (i .t) ε (zs .1 .1 .1 .0) (subst (Room u8) (sym (i .stands .running .long)) room-t) len) $ await ! tt $ split ! $
-          move ! (4 ∷ []) $ lft-end ! tt $ move ! (0 ∷ 8 ∷ 6 ∷ []) $ use3 W (later (‵ (mem N.the-row .lies (zs .0) l₅ 0))) (ref-back 𝓤 H A W N.the-row (ν ∷ []) δ (zs .0) l₅ 0) $ await ! tt $
-          use1 W (some (λ (u : Val). ‵ (fat fullShare machine l₅ 0 u) ⊛ ‵ (N.the-row .own (zs .0) (u ∷ [])))) (part-out 𝓤 H A W N.the-row refl fullShare (zs .0) l₅ 0) $ pick ! (λ u. split ! $
-          move ! (1 ∷ []) $ facts ! N.the-row (Is N.the-row) (shows 𝓤 H A N.the-row) (zs .0) (u ∷ []) (λ is′.
-          -- [m's cell; the table; κ₃; true; κ₁; true; the words; room for _15; …; _6; …; …; _4; …; room for _0; …; the offsets' token; the offsets]
-          rewrite ! 0 (λ (y : Val). ‵ (fat fullShare machine l₅ 0 y)) (spelled (zs .0) u is′) refl $
-          rewrite ! 1 (λ (j : ℕ). ‵ (MutSlice (named 2) κ₃ u8 .own (at-list γ (zs .1 .1 .1 .0)) (sliceVal (b, o) j ∷ []))) (sym len) refl $
+          use3 W (later (‵ (MutSlice (named 2) κ₃ u8 .own (at-list γ (zs .1 .1 .1 .1 .0)) (st (i .t) ∷ [])) ⊛ ‵ (flft κ₃ q₃))) (comes-back u8 κ₃ (μ ∷ []) q₃ γ b o 𝓤 H A W (named 2) (named 2) (i .t) ε (zs .1 .1 .1 .1 .0) (subst (Room u8) (sym (i .stands .running .long)) room-t) len) $ await ! tt $ split ! $
+          move ! (4 ∷ []) $ lft-end ! tt $ move ! (0 ∷ 8 ∷ 6 ∷ []) $ use3 W (later (‵ (mem N.the-row .lies (zs .1 .0) l₆ 0))) (ref-back 𝓤 H A W N.the-row (ν ∷ []) δ (zs .1 .0) l₆ 0) $ await ! tt $
+          use1 W (some (λ (u : Val). ‵ (fat fullShare machine l₆ 0 u) ⊛ ‵ (N.the-row .own (zs .1 .0) (u ∷ [])))) (part-out 𝓤 H A W N.the-row refl fullShare (zs .1 .0) l₆ 0) $ pick ! (λ u. split ! $
+          move ! (1 ∷ []) $ facts ! N.the-row (Is N.the-row) (shows 𝓤 H A N.the-row) (zs .1 .0) (u ∷ []) (λ is′.
+          -- [m's cell; the table; κ₃; true; κ₁; true; the words; room for _16; …; _7; …; …; _5; …; room for _0; …; the offsets' token; the offsets]
+          rewrite ! 0 (λ (y : Val). ‵ (fat fullShare machine l₆ 0 y)) (spelled (zs .1 .0) u is′) refl $
+          rewrite ! 1 (λ (j : ℕ). ‵ (MutSlice (named 2) κ₃ u8 .own (at-list γ (zs .1 .1 .1 .1 .0)) (sliceVal (b, o) j ∷ []))) (sym len) refl $
           land ! (from ! (stop !)) (init ! 15 refl (nothing-lawful 𝓤 H A W .typed z _ is .0)) $
-          assigns ! (of-opd ! (load ! (from ! (fld ! refl (stop !))) (look-in ! 0 (sub ! 1 refl (whole !))))) (from ! (stop !)) (store ! 17 refl (tt, record { fits = index-fits (zs .0) (good (zs .0) u is′) })) $
+          assigns ! (of-opd ! (load ! (from ! (fld ! refl (stop !))) (look-in ! 0 (sub ! 1 refl (whole !))))) (from ! (stop !)) (store ! 17 refl (tt, record { fits = index-fits (zs .1 .0) (good (zs .1 .0) u is′) })) $
           -- `follow`, the turn's last statement
-          move ! (39 ∷ []) $ use1 W (‵ Own-offsets ⊛ ‵ Own-offsets) (shr-slice-copy 𝓤 H A W (named 1) κ₂ u32 .twice starts (so ∷ [])) $ split ! $ move ! (40 ∷ 0 ∷ []) $
-          use2 W (raw (Follow 𝓤 H A at-mem run .pre (to-follow i (zs .0) (good (zs .0) u is′)))) (goes-follow i (zs .0) (good (zs .0) u is′) yes) $
-          calls-at-last ! fm (Follow 𝓤 H A at-mem run) known-follow (to-follow i (zs .0) (good (zs .0) u is′)) (and-then ! (load ! (from ! (stop !)) (look ! 34 refl)) (and-then ! (load ! (from ! (stop !)) (look ! 27 refl)) (and-then ! (load ! (from ! (stop !)) (look ! 19 refl)) (no-more !)))) (λ u₁.
-          use1 W (later (some (λ (s : Place). (token-offsets ⊛ ‵ (P.the-row .own s (u₁ ∷ []))) ⊛ raw (ensured 𝓤 H A follow.ended (follow.clauses 𝓤 H A at-mem run) (κ₂, tt) (starts, (i .place, (zs .0 .index, tt))) tt s)))) (id⊢ 𝓤 _) $ await ! tt $ pick ! (λ s.
-          split ! $ move ! (1 ∷ []) $ use1 W (raw (fact 𝓤 (Followed os (i .place) (zs .0 .index) s))) (said-follow 𝓤 H A at-mem run κ₂ starts (i .place) (zs .0 .index) s) $ heard ! (Followed os (i .place) (zs .0 .index) s) (λ f. split ! $
+          move ! (41 ∷ []) $ use1 W (‵ Own-offsets ⊛ ‵ Own-offsets) (shr-slice-copy 𝓤 H A W (named 1) κ₂ u32 .twice starts (so ∷ [])) $ split ! $ move ! (42 ∷ 0 ∷ []) $
+          use2 W (raw (Follow 𝓤 H A at-mem run .pre (to-follow i (zs .1 .0) (good (zs .1 .0) u is′)))) (goes-follow i (zs .1 .0) (good (zs .1 .0) u is′) yes) $
+          calls-at-last ! fm (Follow 𝓤 H A at-mem run) known-follow (to-follow i (zs .1 .0) (good (zs .1 .0) u is′)) (and-then ! (load ! (from ! (stop !)) (look ! 34 refl)) (and-then ! (load ! (from ! (stop !)) (look ! 27 refl)) (and-then ! (load ! (from ! (stop !)) (look ! 19 refl)) (no-more !)))) (λ u₁.
+          use1 W (later (some (λ (s : Place). (token-offsets ⊛ ‵ (P.the-row .own s (u₁ ∷ []))) ⊛ raw (ensured 𝓤 H A follow.ended (follow.clauses 𝓤 H A at-mem run) (κ₂, tt) (starts, (i .place, (zs .1 .0 .index, tt))) tt s)))) (id⊢ 𝓤 _) $ await ! tt $ pick ! (λ s.
+          split ! $ move ! (1 ∷ []) $ use1 W (raw (fact 𝓤 (Followed os (i .place) (zs .1 .0 .index) s))) (said-follow 𝓤 H A at-mem run κ₂ starts (i .place) (zs .1 .0 .index) s) $ heard ! (Followed os (i .place) (zs .1 .0 .index) s) (λ f. split ! $
           move ! (1 ∷ []) $ facts ! P.the-row (Is P.the-row) (shows 𝓤 H A P.the-row) s (u₁ ∷ []) (λ is₁.
-          -- [the offsets' token; the offsets; m's cell; the table; κ₃; true; κ₁; true; the words; room for _15; …; _6; …; …; _4; …; room for _0; …]
-          land-last ! (from ! (stop !)) (store ! 27 refl (typed-place s u₁ is₁)) $ rewrite ! 27 (λ (y : Val). ‵ (fat fullShare place-ty l₆ 0 y)) (spelled-place s u₁ is₁) refl $
+          -- [the offsets' token; the offsets; m's cell; the table; κ₃; true; κ₁; true; the words; room for _16; …; _7; …; …; _5; …; room for _0; …]
+          land-last ! (from ! (stop !)) (store ! 27 refl (typed-place s u₁ is₁)) $ rewrite ! 27 (λ (y : Val). ‵ (fat fullShare place-ty l₇ 0 y)) (spelled-place s u₁ is₁) refl $
           forget ! 11 refl $ forget ! 13 refl $ forget ! 15 refl $ forget ! 17 refl $ forget ! 19 refl $ forget ! 21 refl $ forget ! 23 refl $
-          keep ! (9 ∷ 10 ∷ 11 ∷ 12 ∷ 13 ∷ 14 ∷ 15 ∷ 16 ∷ 17 ∷ 18 ∷ 19 ∷ 20 ∷ 21 ∷ 22 ∷ 23 ∷ 24 ∷ 25 ∷ 26 ∷ 27 ∷ 28 ∷ 2 ∷ 29 ∷ 30 ∷ 31 ∷ 32 ∷ 33 ∷ 34 ∷ 35 ∷ 36 ∷ 37 ∷ 38 ∷ 39 ∷ 6 ∷ 0 ∷ 4 ∷ 8 ∷ 1 ∷ 3 ∷ []) $
-          again ! Nearer At i (after i yes (zs .0) (zs .1 .1 .1 .0) e len s f (good (zs .0) u is′) (good-place s u₁ is₁)) (standing-less ws os ts w (i .t) (i .m) (i .place) (i .stands) (on (On i) yes) (zs .0) (zs .1 .1 .1 .0) e))))))))))))))))))
+          keep ! (9 ∷ 10 ∷ 11 ∷ 12 ∷ 13 ∷ 14 ∷ 15 ∷ 16 ∷ 17 ∷ 18 ∷ 19 ∷ 20 ∷ 21 ∷ 22 ∷ 23 ∷ 24 ∷ 25 ∷ 26 ∷ 27 ∷ 28 ∷ 2 ∷ 29 ∷ 30 ∷ 31 ∷ 32 ∷ 33 ∷ 34 ∷ 35 ∷ 36 ∷ 37 ∷ 38 ∷ 39 ∷ 40 ∷ 41 ∷ 6 ∷ 0 ∷ 4 ∷ 8 ∷ 1 ∷ 3 ∷ []) $
+          again ! Nearer At i (after i yes (zs .1 .0) (zs .1 .1 .1 .1 .0) e len s f (good (zs .1 .0) u is′) (good-place s u₁ is₁)) (standing-less vars ws os ts w (i .t) (i .m) (i .place) (i .stands) (on (On i) yes) (zs .1 .0) (zs .1 .1 .1 .1 .0) e))))))))))))))))))
           (λ over. jumps ! $ exec ! C Λ En parts.t-5 (atRet En Post) $ forget ! 10 refl $ forget ! 12 refl $ forget ! 14 refl $ by ! (ends i over))))))
 
     begin : Is N.the-row firstMachine (N′.lowered firstMachine ∷ []) → Is P.the-row (firstPlace os) (P′.lowered (firstPlace os) ∷ []) → Upto
     unfolding firstPlace
-    begin is is′ = record { m = firstMachine; place = firstPlace os; t = ts; is = is; is-place = is′; stands = standing-first ws os ts w (firstPlace os) refl refl refl }
+    begin is is′ = record { m = firstMachine; place = firstPlace os; t = ts; is = is; is-place = is′; stands = standing-first vars ws os ts w (firstPlace os) refl refl refl }
 
   module _ (𝓣 : Tables 𝓤 H)
       (known-first-machine : Triple 𝓤 (𝓣 .C #list-machine·first-machine) (FirstMachine 𝓤 H A at-mem run)) (known-first-place : Triple 𝓤 (𝓣 .C #list-machine·first-place) (FirstPlace 𝓤 H A at-mem run)) (known-runs-on : Triple 𝓤 (𝓣 .C #list-machine·runs-on) (RunsOn 𝓤 H A at-mem run))
       (known-step : Triple 𝓤 (𝓣 .C #list-machine·step) (Step 𝓤 H A at-mem run)) (known-follow : Triple 𝓤 (𝓣 .C #list-machine·follow) (Follow 𝓤 H A at-mem run)) (known-halted-at : Triple 𝓤 (𝓣 .C #list-machine·halted-at) (HaltedAt 𝓤 H A at-mem run)) where
-    walk : ent 𝓤 (onEntry 𝓤 H A run′.signature (κ₁, (κ₂, (κ₃, tt))) (q₁, (q₂, (q₃, tt))) x at) (WpFn 𝓤 H (𝓣 .C) (𝓣 .Λ) code.function (sw ∷ so ∷ st ts ∷ vint w32 w ∷ []) Post)
+    walk : ent 𝓤 (onEntry 𝓤 H A run′.signature (κ₁, (κ₂, (κ₃, tt))) (q₁, (q₂, (q₃, tt))) x at) (WpFn 𝓤 H (𝓣 .C) (𝓣 .Λ) code.function (vint w32 vars ∷ sw ∷ so ∷ st ts ∷ vint w32 w ∷ []) Post)
     unfolding begin
     walk =
-        qed W ((‵ (flft κ₁ q₁) ⊛ (‵ (flft κ₂ q₂) ⊛ (‵ (flft κ₃ q₃) ⊛ ‵ ftrue))) ∷ ‵ (owns (ShrSlice (named 0) κ₁ u32 ∷ ShrSlice (named 1) κ₂ u32 ∷ MutSlice (named 2) κ₃ u8 ∷ u32 ∷ []) x at) ∷ []) ∵
-        split ! $ move ! (1 ∷ []) $ split ! $ move ! (1 ∷ []) $ split ! $ move ! (2 ∷ 1 ∷ []) $ join ! $ move ! (3 ∷ []) $ fsplit ! $ move ! (1 ∷ []) $ fsplit ! $ move ! (1 ∷ []) $ fsplit ! $
+        qed W ((‵ (flft κ₁ q₁) ⊛ (‵ (flft κ₂ q₂) ⊛ (‵ (flft κ₃ q₃) ⊛ ‵ ftrue))) ∷ ‵ (owns (u32 ∷ ShrSlice (named 0) κ₁ u32 ∷ ShrSlice (named 1) κ₂ u32 ∷ MutSlice (named 2) κ₃ u8 ∷ u32 ∷ []) x at) ∷ []) ∵
+        split ! $ move ! (1 ∷ []) $ split ! $ move ! (1 ∷ []) $ split ! $ move ! (2 ∷ 1 ∷ []) $ join ! $ move ! (3 ∷ []) $ fsplit ! $ drop ! $ fsplit ! $ move ! (1 ∷ []) $ fsplit ! $ move ! (1 ∷ []) $ fsplit ! $
         -- [the table; the watchdog's; the offsets; the words; the offsets' token; κ₃; κ₁]
-        move ! (6 ∷ 4 ∷ 5 ∷ 3 ∷ 2 ∷ 0 ∷ []) $ enter ! (𝓣 .C) (𝓣 .Λ) code.function (sw ∷ so ∷ st ts ∷ vint w32 w ∷ []) _ $
-        alloc1 ! (λ l₀. alloc1 ! (λ l₁. alloc1 ! (λ l₂. alloc1 ! (λ l₃. alloc1 ! (λ l₄. alloc1 ! (λ l₅. alloc1 ! (λ l₆. alloc1 ! (λ l₇. alloc1 ! (λ l₈. alloc1 ! (λ l₉. alloc1 ! (λ l₁₀. alloc1 ! (λ l₁₁. alloc1 ! (λ l₁₂. alloc1 ! (λ l₁₃. alloc1 ! (λ l₁₄. alloc1 ! (λ l₁₅. alloc0 ! $ params1 ! $
-        pass1 ! (init ! 28 refl (tt, (tt, (record { fits = room-w .0 }, tt)))) $ pass1 ! (init ! 26 refl (tt, (tt, (record { fits = room-o .0 }, tt)))) $ pass1 ! (init ! 24 refl (tt, (tt, (record { fits = room-t .0 }, tt)))) $ pass1 ! (init ! 22 refl (tt, record { fits = w-fits })) $ pass0 ! $
-        -- [room for _15; …; room for _5; …; _4; …; _3; …; _2; …; _1; …; room for _0; …; κ₁; the offsets' token; κ₃; the words; the offsets; the table; the watchdog's]
+        move ! (6 ∷ 4 ∷ 5 ∷ 3 ∷ 2 ∷ 0 ∷ []) $ enter ! (𝓣 .C) (𝓣 .Λ) code.function (vint w32 vars ∷ sw ∷ so ∷ st ts ∷ vint w32 w ∷ []) _ $
+        alloc1 ! (λ l₀. alloc1 ! (λ l₁. alloc1 ! (λ l₂. alloc1 ! (λ l₃. alloc1 ! (λ l₄. alloc1 ! (λ l₅. alloc1 ! (λ l₆. alloc1 ! (λ l₇. alloc1 ! (λ l₈. alloc1 ! (λ l₉. alloc1 ! (λ l₁₀. alloc1 ! (λ l₁₁. alloc1 ! (λ l₁₂. alloc1 ! (λ l₁₃. alloc1 ! (λ l₁₄. alloc1 ! (λ l₁₅. alloc1 ! (λ l₁₆. alloc0 ! $ params1 ! $
+        pass1 ! (init ! 30 refl (tt, record { fits = vars-fits })) $ pass1 ! (init ! 28 refl (tt, (tt, (record { fits = room-w .0 }, tt)))) $ pass1 ! (init ! 26 refl (tt, (tt, (record { fits = room-o .0 }, tt)))) $ pass1 ! (init ! 24 refl (tt, (tt, (record { fits = room-t .0 }, tt)))) $ pass1 ! (init ! 22 refl (tt, record { fits = w-fits })) $ pass0 ! $
+        -- [room for _16; …; room for _6; …; _5; …; _4; …; _3; …; _2; …; _1; …; room for _0; …; κ₁; the offsets' token; κ₃; the words; the offsets; the table; the watchdog's]
         -- `first_machine`
         use0 W (raw (FirstMachine 𝓤 H A at-mem run .pre ((tt, tt, tt, tt, tt), tt))) goes-machine $ calls-at ! (fmOf 𝓤 H (W .laws) 𝓣) (FirstMachine 𝓤 H A at-mem run) known-first-machine ((tt, tt, tt, tt, tt), tt) (no-more !) (λ v₁.
         use1 W (later (some (λ (r : Machine). (‵ ftrue ⊛ ‵ (N.the-row .own r (v₁ ∷ []))) ⊛ raw (ensured 𝓤 H A first-machine.ended (first-machine.clauses 𝓤 H A at-mem run) tt tt tt r)))) (id⊢ 𝓤 _) $ await ! tt $ pick ! (λ r₁.
         split ! $ move ! (1 ∷ []) $ use1 W (raw (fact 𝓤 (r₁ ≡ firstMachine))) (said-machine 𝓤 H A at-mem run r₁) $ heard ! (r₁ ≡ firstMachine) (λ e₁. split ! $ drop ! $
         rewrite ! 0 (λ (z : Machine). ‵ (N.the-row .own z (v₁ ∷ []))) e₁ refl $ facts ! N.the-row (Is N.the-row) (shows 𝓤 H A N.the-row) firstMachine (v₁ ∷ []) (λ is₁.
         land ! (from ! (stop !)) (init ! 16 refl (typed firstMachine v₁ is₁)) $
-        assigns ! (of-opd ! (load ! (from ! (stop !)) (look ! 16 refl))) (from ! (stop !)) (init ! 20 refl (typed firstMachine v₁ is₁)) $ rewrite ! 20 (λ (z : Val). ‵ (fat fullShare machine l₅ 0 z)) (spelled firstMachine v₁ is₁) refl $ forget ! 16 refl $
+        assigns ! (of-opd ! (load ! (from ! (stop !)) (look ! 16 refl))) (from ! (stop !)) (init ! 20 refl (typed firstMachine v₁ is₁)) $ rewrite ! 20 (λ (z : Val). ‵ (fat fullShare machine l₆ 0 z)) (spelled firstMachine v₁ is₁) refl $ forget ! 16 refl $
         -- `first_place`
-        move ! (36 ∷ []) $ use1 W (‵ Own-offsets ⊛ ‵ Own-offsets) (shr-slice-copy 𝓤 H A W (named 1) κ₂ u32 .twice starts (so ∷ [])) $ split ! $ move ! (35 ∷ 0 ∷ []) $
+        move ! (38 ∷ []) $ use1 W (‵ Own-offsets ⊛ ‵ Own-offsets) (shr-slice-copy 𝓤 H A W (named 1) κ₂ u32 .twice starts (so ∷ [])) $ split ! $ move ! (37 ∷ 0 ∷ []) $
         use2 W (raw (FirstPlace 𝓤 H A at-mem run .pre to-place)) goes-place $ calls-at ! (fmOf 𝓤 H (W .laws) 𝓣) (FirstPlace 𝓤 H A at-mem run) known-first-place to-place (and-then ! (load ! (from ! (stop !)) (look ! 28 refl)) (no-more !)) (λ v₂.
         use1 W (later (some (λ (r : Place). (token-offsets ⊛ ‵ (P.the-row .own r (v₂ ∷ []))) ⊛ raw (ensured 𝓤 H A first-place.ended (first-place.clauses 𝓤 H A at-mem run) (κ₂, tt) (starts, tt) tt r)))) (id⊢ 𝓤 _) $ await ! tt $ pick ! (λ r₂.
         split ! $ move ! (1 ∷ []) $ use1 W (raw (fact 𝓤 (r₂ ≡ firstPlace os))) (said-place 𝓤 H A at-mem run κ₂ starts r₂) $ heard ! (r₂ ≡ firstPlace os) (λ e₂. split ! $ move ! (1 ∷ []) $
         rewrite ! 0 (λ (z : Place). ‵ (P.the-row .own z (v₂ ∷ []))) e₂ refl $ facts ! P.the-row (Is P.the-row) (shows 𝓤 H A P.the-row) (firstPlace os) (v₂ ∷ []) (λ is₂.
-        -- [the offsets' token; the offsets; room for _15; …; room for _0; …; κ₁; κ₃; the words; the table; the watchdog's]
-        land ! (from ! (stop !)) (init ! 20 refl (typed-place (firstPlace os) v₂ is₂)) $ rewrite ! 20 (λ (z : Val). ‵ (fat fullShare place-ty l₆ 0 z)) (spelled-place (firstPlace os) v₂ is₂) refl $
-        keep ! (2 ∷ 3 ∷ 4 ∷ 5 ∷ 6 ∷ 7 ∷ 8 ∷ 9 ∷ 10 ∷ 11 ∷ 12 ∷ 13 ∷ 14 ∷ 15 ∷ 16 ∷ 17 ∷ 18 ∷ 19 ∷ 20 ∷ 21 ∷ 22 ∷ 23 ∷ 24 ∷ 25 ∷ 26 ∷ 27 ∷ 28 ∷ 29 ∷ 30 ∷ 31 ∷ 32 ∷ 33 ∷ 34 ∷ 0 ∷ 35 ∷ 36 ∷ 1 ∷ 37 ∷ []) $
-        first ! $ blocks ! $ loops ! 𝓣 Nearer Nearer-wf (At 𝓣 known-first-machine known-first-place known-runs-on known-step known-follow known-halted-at l₀ l₁ l₂ l₃ l₄ l₅ l₆ l₇ l₈ l₉ l₁₀ l₁₁ l₁₂ l₁₃ l₁₄ l₁₅) (turns 𝓣 known-first-machine known-first-place known-runs-on known-step known-follow known-halted-at l₀ l₁ l₂ l₃ l₄ l₅ l₆ l₇ l₈ l₉ l₁₀ l₁₁ l₁₂ l₁₃ l₁₄ l₁₅) (begin 𝓣 known-first-machine known-first-place known-runs-on known-step known-follow known-halted-at (good firstMachine v₁ is₁) (good-place (firstPlace os) v₂ is₂))))))))))))))))))))))))))
+        -- [the offsets' token; the offsets; room for _16; …; room for _0; …; κ₁; κ₃; the words; the table; the watchdog's]
+        land ! (from ! (stop !)) (init ! 20 refl (typed-place (firstPlace os) v₂ is₂)) $ rewrite ! 20 (λ (z : Val). ‵ (fat fullShare place-ty l₇ 0 z)) (spelled-place (firstPlace os) v₂ is₂) refl $
+        keep ! (2 ∷ 3 ∷ 4 ∷ 5 ∷ 6 ∷ 7 ∷ 8 ∷ 9 ∷ 10 ∷ 11 ∷ 12 ∷ 13 ∷ 14 ∷ 15 ∷ 16 ∷ 17 ∷ 18 ∷ 19 ∷ 20 ∷ 21 ∷ 22 ∷ 23 ∷ 24 ∷ 25 ∷ 26 ∷ 27 ∷ 28 ∷ 29 ∷ 30 ∷ 31 ∷ 32 ∷ 33 ∷ 34 ∷ 35 ∷ 36 ∷ 0 ∷ 37 ∷ 38 ∷ 1 ∷ 39 ∷ []) $
+        first ! $ blocks ! $ loops ! 𝓣 Nearer Nearer-wf (At 𝓣 known-first-machine known-first-place known-runs-on known-step known-follow known-halted-at l₀ l₁ l₂ l₃ l₄ l₅ l₆ l₇ l₈ l₉ l₁₀ l₁₁ l₁₂ l₁₃ l₁₄ l₁₅ l₁₆) (turns 𝓣 known-first-machine known-first-place known-runs-on known-step known-follow known-halted-at l₀ l₁ l₂ l₃ l₄ l₅ l₆ l₇ l₈ l₉ l₁₀ l₁₁ l₁₂ l₁₃ l₁₄ l₁₅ l₁₆) (begin 𝓣 known-first-machine known-first-place known-runs-on known-step known-follow known-halted-at (good firstMachine v₁ is₁) (good-place (firstPlace os) v₂ is₂)))))))))))))))))))))))))))
 
 module _ {M : Type 1} (𝓤 : URA M) (H : Heap 𝓤) (A : Atoms 𝓤) (W : Given 𝓤 H A) (at-mem : Memory → SProp 𝓤) (run : Routine → Fun 𝓤) (𝓣 : Tables 𝓤 H)
     (known-first-machine : Triple 𝓤 (𝓣 .C #list-machine·first-machine) (FirstMachine 𝓤 H A at-mem run)) (known-first-place : Triple 𝓤 (𝓣 .C #list-machine·first-place) (FirstPlace 𝓤 H A at-mem run)) (known-runs-on : Triple 𝓤 (𝓣 .C #list-machine·runs-on) (RunsOn 𝓤 H A at-mem run))
     (known-step : Triple 𝓤 (𝓣 .C #list-machine·step) (Step 𝓤 H A at-mem run)) (known-follow : Triple 𝓤 (𝓣 .C #list-machine·follow) (Follow 𝓤 H A at-mem run)) (known-halted-at : Triple 𝓤 (𝓣 .C #list-machine·halted-at) (HaltedAt 𝓤 H A at-mem run)) where
   run-walks : Walks 𝓤 H A run′.ended stayed (WpFn 𝓤 H (𝓣 .C) (𝓣 .Λ) code.function) (run′.clauses 𝓤 H A at-mem run)
-  run-walks = walked 𝓤 H A run′.ended stayed (run′.clauses 𝓤 H A at-mem run) (WpFn 𝓤 H (𝓣 .C) (𝓣 .Λ) code.function) (λ κs. (slice-vals, (slice-vals, (slice-vals, (uint-vals w32, tt)))))
-      (λ κs. (shr-slice-tells (named 0) (κs .0) u32, (shr-slice-tells (named 1) (κs .1 .0) u32, (mut-slice-tells (named 2) (κs .1 .1 .0) u8, (uint-tells w32, tt)))))
+  run-walks = walked 𝓤 H A run′.ended stayed (run′.clauses 𝓤 H A at-mem run) (WpFn 𝓤 H (𝓣 .C) (𝓣 .Λ) code.function) (λ κs. (uint-vals w32, (slice-vals, (slice-vals, (slice-vals, (uint-vals w32, tt))))))
+      (λ κs. (uint-tells w32, (shr-slice-tells (named 0) (κs .0) u32, (shr-slice-tells (named 1) (κs .1 .0) u32, (mut-slice-tells (named 2) (κs .1 .1 .0) u8, (uint-tells w32, tt))))))
       (λ κs qs bounds a g are. via 𝓤 _ (fst∗ 𝓤 _ (emp 𝓤))
-      (walk 𝓤 H A W at-mem run (κs .0) (κs .1 .0) (κs .1 .1 .0) (qs .0) (qs .1 .0) (qs .1 .1 .0) (a .0) (a .1 .0) (a .1 .1 .0 .ptr .0) (a .1 .1 .0 .ptr .1) (a .1 .1 .0 .name) (a .1 .1 .0 .now) (a .1 .1 .1 .0)
-      (are .0 .0 .1) (are .1 .0 .0 .1) (are .1 .1 .0 .0 .1) (are .1 .1 .1 .0 .1) 𝓣 known-first-machine known-first-place known-runs-on known-step known-follow known-halted-at))
+      (walk 𝓤 H A W at-mem run (κs .0) (κs .1 .0) (κs .1 .1 .0) (qs .0) (qs .1 .0) (qs .1 .1 .0) (a .0) (a .1 .0) (a .1 .1 .0) (a .1 .1 .1 .0 .ptr .0) (a .1 .1 .1 .0 .ptr .1) (a .1 .1 .1 .0 .name) (a .1 .1 .1 .0 .now) (a .1 .1 .1 .1 .0)
+      (are .0 .1) (are .1 .0 .0 .1) (are .1 .1 .0 .0 .1) (are .1 .1 .1 .0 .0 .1) (are .1 .1 .1 .1 .0 .1) 𝓣 known-first-machine known-first-place known-runs-on known-step known-follow known-halted-at))
 
   run-meets : Meets 𝓤 H A run′.signature (WpFn 𝓤 H (𝓣 .C) (𝓣 .Λ) code.function) (run′.spec 𝓤 H A at-mem run)
   run-meets =
-      walk-meets 𝓤 H A run′.ended stayed W (goes-none-slice 𝓤 H A W 3 (0 ∷ []) tt (plain (λ _. u32)) yes, (goes-none-slice 𝓤 H A W 3 (1 ∷ []) tt (plain (λ _. u32)) yes, (goes-slice 𝓤 H A W 3 2 tt (plain (λ _. u8)), (goes-none 𝓤 H A W 3 (λ _. u32) yes (λ κs x f. refl), tt)))) (run′.clauses 𝓤 H A at-mem run)
+      walk-meets 𝓤 H A run′.ended stayed W (goes-none 𝓤 H A W 3 (λ _. u32) yes (λ κs x f. refl), (goes-none-slice 𝓤 H A W 3 (0 ∷ []) tt (plain (λ _. u32)) yes, (goes-none-slice 𝓤 H A W 3 (1 ∷ []) tt (plain (λ _. u32)) yes, (goes-slice 𝓤 H A W 3 2 tt (plain (λ _. u8)), (goes-none 𝓤 H A W 3 (λ _. u32) yes (λ κs x f. refl), tt))))) (run′.clauses 𝓤 H A at-mem run)
       (WpFn 𝓤 H (𝓣 .C) (𝓣 .Λ) code.function) (WpFn-mono 𝓤 H (W .laws) 𝓣 code.function) run-walks
 
 pub run-spec : {M : Type 1} → stated.statement M

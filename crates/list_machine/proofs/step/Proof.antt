@@ -54,7 +54,7 @@ use Rattle.list_machine.proofs.step.Statement as stated
 use Rattle.list_machine.proofs.step.Code as code
 
 abbrev stayed : Stays (step′.ended .signature .params) (step′.ended .kept)
-stayed = (stay-ref (0 ∷ []) tt (plain (λ _. T.the-row)), (stay-none-slice (1 ∷ []) tt (plain (λ _. u32)) yes, (stay-none (λ _. u32) yes, (gave-slice (2 ∷ []) tt (plain (λ _. u8)), tt))))
+stayed = (stay-none (λ _. u32) yes, (stay-ref (0 ∷ []) tt (plain (λ _. T.the-row)), (stay-none-slice (1 ∷ []) tt (plain (λ _. u32)) yes, (stay-none (λ _. u32) yes, (gave-slice (2 ∷ []) tt (plain (λ _. u8)), tt)))))
 
 -- the contract that the proof cites
 abbrev ByValue : {M : Type 1} (𝓤 : URA M) (H : Heap 𝓤) (A : Atoms 𝓤) (at-mem : Memory → SProp 𝓤) (run : Routine → Fun 𝓤) → Contract 𝓤
@@ -62,10 +62,10 @@ ByValue 𝓤 H A at-mem run = tripleOf 𝓤 H A value.signature (value.spec 𝓤
 
 -- what both ask of the machine, the words and the count of records entered
 abbrev Asked : Machine → List ℕ → ℕ → Type 0
-Asked h ws n = (h .index < length ws) × (h .counts .instructions + 1 < 2 ^ 32) × (h .counts .rungs + n < 2 ^ 32)
+Asked h ws n = (h .index < length ws) × (h .counts .instructions + 1 < 2 ^ 32) × (h .counts .rungs + n < 2 ^ 32) × (h .counts .moved + 1 < 2 ^ 32)
 
 module _ {M : Type 1} (𝓤 : URA M) (H : Heap 𝓤) (A : Atoms 𝓤) (W : Given 𝓤 H A) (at-mem : Memory → SProp 𝓤) (run : Routine → Fun 𝓤)
-    (κ₀ κ₁ κ₂ : Lft) (q₀ q₁ q₂ : Share) (b o : ℕ) (γ : GName) (h : Machine) (words : RefT (List ℕ)) (n : ℕ) (table : RefT (List ℕ)) (n-fits : n < 2 ^ 32) where
+    (κ₀ κ₁ κ₂ : Lft) (q₀ q₁ q₂ : Share) (vars b o : ℕ) (γ : GName) (h : Machine) (words : RefT (List ℕ)) (n : ℕ) (table : RefT (List ℕ)) (vars-fits : vars < 2 ^ 32) (n-fits : n < 2 ^ 32) where
   abbrev R : Machine → List Val → Fml
   R = T.the-row .own
 
@@ -78,11 +78,11 @@ module _ {M : Type 1} (𝓤 : URA M) (H : Heap 𝓤) (A : Atoms 𝓤) (W : Given
   abbrev st : Val
   st = sliceVal (table .ptr) (length (table .now))
 
-  abbrev x : RefT Machine × (RefT (List ℕ) × (ℕ × (RefT (List ℕ) × Unit {0})))
-  x = (m, (words, (n, (table, tt))))
+  abbrev x : ℕ × (RefT Machine × (RefT (List ℕ) × (ℕ × (RefT (List ℕ) × Unit {0}))))
+  x = (vars, (m, (words, (n, (table, tt)))))
 
-  abbrev at : List Val × (List Val × (List Val × (List Val × Unit {0})))
-  at = (vptr b o ∷ [], (sw ∷ [], (vint w32 n ∷ [], (st ∷ [], tt))))
+  abbrev at : List Val × (List Val × (List Val × (List Val × (List Val × Unit {0}))))
+  at = (vint w32 vars ∷ [], (vptr b o ∷ [], (sw ∷ [], (vint w32 n ∷ [], (st ∷ [], tt)))))
 
   abbrev Post : Val → SProp 𝓤
   Post = walkOf 𝓤 H A step′.ended stayed (step′.clauses 𝓤 H A at-mem run) .post (((κ₀, (κ₁, (κ₂, tt))), (q₀, (q₁, (q₂, tt))), tt, x, at), tt)
@@ -97,73 +97,73 @@ module _ {M : Type 1} (𝓤 : URA M) (H : Heap 𝓤) (A : Atoms 𝓤) (W : Given
   abbrev tokens : Item 𝓤
   tokens = ‵ (flft κ₁ q₁) ⊛ (‵ (flft κ₂ q₂) ⊛ ‵ ftrue)
 
-  abbrev passed : Machine × (RefT (List ℕ) × (ℕ × (RefT (List ℕ) × Unit {0})))
-  passed = (h, (words, (n, (table, tt))))
+  abbrev passed : ℕ × (Machine × (RefT (List ℕ) × (ℕ × (RefT (List ℕ) × Unit {0}))))
+  passed = (vars, (h, (words, (n, (table, tt)))))
 
   abbrev to : ByValue 𝓤 H A at-mem run .Ghost
-  to = (((κ₁, (κ₂, tt)), (q₁, (q₂, tt)), tt, passed, (T′.lowered h ∷ [], (sw ∷ [], (vint w32 n ∷ [], (st ∷ [], tt))))), tt)
+  to = (((κ₁, (κ₂, tt)), (q₁, (q₂, tt)), tt, passed, (vint w32 vars ∷ [], (T′.lowered h ∷ [], (sw ∷ [], (vint w32 n ∷ [], (st ∷ [], tt)))))), tt)
 
   goes : Is T.the-row h (T′.lowered h ∷ []) → Asked h (words .now) n → ent 𝓤 (⋆ 𝓤 H A (tokens ∷ ‵ Own-words ∷ ‵ (fsep Own-table ftrue) ∷ [])) (ByValue 𝓤 H A at-mem run .pre to)
-  goes g asked = qed W (tokens ∷ ‵ Own-words ∷ ‵ (fsep Own-table ftrue) ∷ []) ∵ says ! asked $ frame ! $ move ! (1 ∷ 0 ∷ []) $ owned ! u32 (Is u32) (uint-makes 𝓤 H A W w32) n _ (refl, n-fits) $ fjoin ! $ move ! (1 ∷ 0 ∷ []) $ fjoin ! $ owned ! T.the-row (Is T.the-row) (LL.makes T.the-type T′.the-plain 𝓤 H A) h _ g $ fjoin ! $ done !
+  goes g asked = qed W (tokens ∷ ‵ Own-words ∷ ‵ (fsep Own-table ftrue) ∷ []) ∵ says ! asked $ frame ! $ move ! (1 ∷ 0 ∷ []) $ owned ! u32 (Is u32) (uint-makes 𝓤 H A W w32) n _ (refl, n-fits) $ fjoin ! $ move ! (1 ∷ 0 ∷ []) $ fjoin ! $ owned ! T.the-row (Is T.the-row) (LL.makes T.the-type T′.the-plain 𝓤 H A) h _ g $ fjoin ! $ owned ! u32 (Is u32) (uint-makes 𝓤 H A W w32) vars _ (refl, vars-fits) $ fjoin ! $ done !
 
   abbrev Said : Machine → List ℕ → Type 0
-  Said r zs = Stepped (getD (words .now) (h .index) 0) n h (table .now) r zs
+  Said r zs = Stepped vars (getD (words .now) (h .index) 0) n h (table .now) r zs
 
   exits : (r : Machine) (zs : List ℕ) → Said r zs → length zs ≡ length (table .now)
       → ent 𝓤 (⋆ 𝓤 H A (‵ (fobs γ (T.the-row .coded .code r)) ∷ ‵ (fbor κ₀ (Body (mem T.the-row) b o γ)) ∷ ‵ (flft κ₀ q₀) ∷ tokens ∷ ‵ (finally u8 (table .name) zs) ∷ ‵ Own-words ∷ [])) (Post vunit)
   exits r zs e l =
       qed W (‵ (fobs γ (T.the-row .coded .code r)) ∷ ‵ (fbor κ₀ (Body (mem T.the-row) b o γ)) ∷ ‵ (flft κ₀ q₀) ∷ tokens ∷ ‵ (finally u8 (table .name) zs) ∷ ‵ Own-words ∷ []) ∵
-      suffices ! _ (ends-at 𝓤 H A step′.ended stayed (step′.clauses 𝓤 H A at-mem run) W (((κ₀, (κ₁, (κ₂, tt))), (q₀, (q₁, (q₂, tt))), tt, x, at), tt) vunit tt (r, (tt, (tt, (zs, tt)))) (tt, (tt, (tt, (l, tt))))) $ says ! e $
+      suffices ! _ (ends-at 𝓤 H A step′.ended stayed (step′.clauses 𝓤 H A at-mem run) W (((κ₀, (κ₁, (κ₂, tt))), (q₀, (q₁, (q₂, tt))), tt, x, at), tt) vunit tt (tt, (r, (tt, (tt, (zs, tt))))) (tt, (tt, (tt, (tt, (l, tt)))))) $ says ! e $
       move ! (2 ∷ 3 ∷ []) $ join ! $ frame ! $ feqI ! (List Val) (vptr b o ∷ []) (vptr b o ∷ []) refl $ fjoin3 ! $
       -- [what m owns; the table's last list; what the words own]
-      nothing ! $ move ! (2 ∷ 0 ∷ []) $ fjoin ! $ owned ! u32 (Is u32) (uint-makes 𝓤 H A W w32) n _ (refl, n-fits) $ fjoin ! $ move ! (2 ∷ 0 ∷ []) $ fjoin ! $ move ! (1 ∷ 0 ∷ []) $ fjoin ! $ feqI ! (List Val) (vunit ∷ []) (vunit ∷ []) refl $ move ! (1 ∷ 0 ∷ []) $ done !
+      nothing ! $ move ! (2 ∷ 0 ∷ []) $ fjoin ! $ owned ! u32 (Is u32) (uint-makes 𝓤 H A W w32) n _ (refl, n-fits) $ fjoin ! $ move ! (2 ∷ 0 ∷ []) $ fjoin ! $ move ! (1 ∷ 0 ∷ []) $ fjoin ! $ owned ! u32 (Is u32) (uint-makes 𝓤 H A W w32) vars _ (refl, vars-fits) $ fjoin ! $ feqI ! (List Val) (vunit ∷ []) (vunit ∷ []) refl $ move ! (1 ∷ 0 ∷ []) $ done !
 
   module _ (C : Calls 𝓤 H) (Λ : Loops 𝓤 H) (fm : FmC 𝓤 H (W .laws) C) (known : Triple 𝓤 (C #list-machine·stepped) (ByValue 𝓤 H A at-mem run)) where
     typed : (r : Machine) (w : Val) → Is T.the-row r (w ∷ []) → Holds (hasTy T′.mir w) × WT w
     typed r w is = LL.lawful T.the-type T′.the-laws 𝓤 H A W .typed r _ is .0
 
     walk : Room u32 (length (words .now)) → Room u8 (length (table .now)) → Asked h (words .now) n
-        → ent 𝓤 (onEntry 𝓤 H A step′.signature (κ₀, (κ₁, (κ₂, tt))) (q₀, (q₁, (q₂, tt))) x at) (WpFn 𝓤 H C Λ code.function (vptr b o ∷ sw ∷ vint w32 n ∷ st ∷ []) Post)
+        → ent 𝓤 (onEntry 𝓤 H A step′.signature (κ₀, (κ₁, (κ₂, tt))) (q₀, (q₁, (q₂, tt))) x at) (WpFn 𝓤 H C Λ code.function (vint w32 vars ∷ vptr b o ∷ sw ∷ vint w32 n ∷ st ∷ []) Post)
     walk room-w room-t asked =
-        qed W ((‵ (flft κ₀ q₀) ⊛ tokens) ∷ ‵ (owns (MutRef (named 0) κ₀ T.the-row ∷ ShrSlice (named 1) κ₁ u32 ∷ u32 ∷ MutSlice (named 2) κ₂ u8 ∷ []) x at) ∷ []) ∵ split ! $ move ! (2 ∷ []) $ fsplit ! $ fsplit3 ! $ drop ! $ move ! (0 ∷ 1 ∷ 3 ∷ []) $
+        qed W ((‵ (flft κ₀ q₀) ⊛ tokens) ∷ ‵ (owns (u32 ∷ MutRef (named 0) κ₀ T.the-row ∷ ShrSlice (named 1) κ₁ u32 ∷ u32 ∷ MutSlice (named 2) κ₂ u8 ∷ []) x at) ∷ []) ∵ split ! $ move ! (2 ∷ []) $ fsplit ! $ drop ! $ fsplit ! $ fsplit3 ! $ drop ! $ move ! (0 ∷ 1 ∷ 3 ∷ []) $
         -- [obs; the borrow; m's token; what words, count and table own; the tokens]
-        enter ! C Λ code.function (vptr b o ∷ sw ∷ vint w32 n ∷ st ∷ []) _ $
-        alloc1 ! (λ l₀. alloc1 ! (λ l₁. alloc1 ! (λ l₂. alloc1 ! (λ l₃. alloc1 ! (λ l₄. alloc1 ! (λ l₅. alloc1 ! (λ l₆. alloc1 ! (λ l₇. alloc1 ! (λ l₈. alloc0 ! $ params1 ! $
-        pass1 ! (init ! 14 refl (tt, tt)) $ pass1 ! (init ! 12 refl (tt, (tt, (record { fits = room-w .0 }, tt)))) $ pass1 ! (init ! 10 refl (tt, record { fits = n-fits })) $ pass1 ! (init ! 8 refl (tt, (tt, (record { fits = room-t .0 }, tt)))) $ pass0 ! $
-        move ! (18 ∷ 19 ∷ 20 ∷ []) $ opens ! tt T.the-row {h = h} b o (λ vs. spelt ! T.the-row (Is T.the-row) (shows 𝓤 H A T.the-row) (LL.vals T.the-type T′.the-laws) (LL.tells T.the-type T′.the-laws) fullShare h vs b o $
+        enter ! C Λ code.function (vint w32 vars ∷ vptr b o ∷ sw ∷ vint w32 n ∷ st ∷ []) _ $
+        alloc1 ! (λ l₀. alloc1 ! (λ l₁. alloc1 ! (λ l₂. alloc1 ! (λ l₃. alloc1 ! (λ l₄. alloc1 ! (λ l₅. alloc1 ! (λ l₆. alloc1 ! (λ l₇. alloc1 ! (λ l₈. alloc1 ! (λ l₉. alloc0 ! $ params1 ! $
+        pass1 ! (init ! 16 refl (tt, record { fits = vars-fits })) $ pass1 ! (init ! 14 refl (tt, tt)) $ pass1 ! (init ! 12 refl (tt, (tt, (record { fits = room-w .0 }, tt)))) $ pass1 ! (init ! 10 refl (tt, record { fits = n-fits })) $ pass1 ! (init ! 8 refl (tt, (tt, (record { fits = room-t .0 }, tt)))) $ pass0 ! $
+        move ! (20 ∷ 21 ∷ 22 ∷ []) $ opens ! tt T.the-row {h = h} b o (λ vs. spelt ! T.the-row (Is T.the-row) (shows 𝓤 H A T.the-row) (LL.vals T.the-type T′.the-laws) (LL.tells T.the-type T′.the-laws) fullShare h vs b o $
         move ! (1 ∷ []) $ peeks ! T.the-row (Is T.the-row) (shows 𝓤 H A T.the-row) h (T′.lowered h ∷ []) (λ g. move ! (1 ∷ 0 ∷ []) $
-        -- [the machine's cell; what it owns; the open borrow; obs; auth; _8; …; _7; …; _6; …; _5; …; _4; …; _3; …; _2; …; _1; …; _0; …; what words, count and table own; the tokens]
+        -- [the machine's cell; what it owns; the open borrow; obs; auth; _9; …; _8; …; _7; …; _6; …; _5; …; _4; …; _3; …; _2; …; _1; …; _0; …; what words, count and table own; the tokens]
         assigns ! (of-opd ! (load ! (from ! (hop ! (look ! 19 refl) (stop !))) (look-raw ! 0 refl))) (from ! (stop !)) (init ! 9 refl (typed h _ g)) $
         assigns ! (addr ! (from ! (fld ! refl (hop ! (look-in ! 13 (sub ! 0 refl (whole !))) (stop !))))) (from ! (stop !)) (init ! 7 refl (tt, tt)) $
         assigns ! (agg ! (and-then ! (load ! (from ! (stop !)) (look ! 7 refl)) (and-then ! (load ! (from ! (fld ! refl (stop !))) (look-in ! 13 (sub ! 1 refl (whole !)))) (no-more !)))) (from ! (stop !)) (init ! 5 refl (tt, (tt, (record { fits = room-t .0 }, tt)))) $
         -- the words are Copy: one copy of what they own is kept for the exit
-        move ! (23 ∷ []) $ fsplit ! $ move ! (1 ∷ []) $ fsplit ! $ drop ! $ move ! (1 ∷ []) $ use1 W (‵ Own-words ⊛ ‵ Own-words) (shr-slice-copy 𝓤 H A W (named 1) κ₁ u32 .twice words (sw ∷ [])) $ split ! $ move ! (26 ∷ 1 ∷ 2 ∷ []) $
+        move ! (25 ∷ []) $ fsplit ! $ move ! (1 ∷ []) $ fsplit ! $ drop ! $ move ! (1 ∷ []) $ use1 W (‵ Own-words ⊛ ‵ Own-words) (shr-slice-copy 𝓤 H A W (named 1) κ₁ u32 .twice words (sw ∷ [])) $ split ! $ move ! (28 ∷ 1 ∷ 2 ∷ []) $
         use3 W (raw (ByValue 𝓤 H A at-mem run .pre to)) (goes g asked) $
-        calls-at ! fm (ByValue 𝓤 H A at-mem run) known to (and-then ! (load ! (from ! (stop !)) (look ! 11 refl)) (and-then ! (load ! (from ! (stop !)) (look ! 19 refl)) (and-then ! (load ! (from ! (stop !)) (look ! 17 refl)) (and-then ! (load ! (from ! (stop !)) (look ! 7 refl)) (no-more !))))) (λ w.
+        calls-at ! fm (ByValue 𝓤 H A at-mem run) known to (and-then ! (load ! (from ! (stop !)) (look ! 23 refl)) (and-then ! (load ! (from ! (stop !)) (look ! 11 refl)) (and-then ! (load ! (from ! (stop !)) (look ! 19 refl)) (and-then ! (load ! (from ! (stop !)) (look ! 17 refl)) (and-then ! (load ! (from ! (stop !)) (look ! 7 refl)) (no-more !)))))) (λ w.
         use1 W (later (some (λ (r : Machine). (tokens ⊛ ‵ (R r (w ∷ []))) ⊛ raw (ensured 𝓤 H A value.ended (value.clauses 𝓤 H A at-mem run) (κ₁, (κ₂, tt)) passed tt r)))) (id⊢ 𝓤 _) $ await ! tt $ pick ! (λ r.
-        split ! $ move ! (1 ∷ []) $ use1 W (some (λ (zs : Unit {0} × (Unit {0} × (Unit {0} × (List ℕ × Unit {0})))). ‵ (lasts value.ended (κ₁, (κ₂, tt)) passed zs) ⊛ raw (fact 𝓤 (Said r (zs .1 .1 .1 .0))))) (id⊢ 𝓤 _) $ pick ! (λ zs.
-        split ! $ move ! (1 ∷ []) $ heard ! (Said r (zs .1 .1 .1 .0)) (λ e. fsplit ! $ drop ! $ fsplit ! $ drop ! $ fsplit ! $ drop ! $ fsplit ! $ fsplit ! $ move ! (1 ∷ []) $ feqL ! (λ l.
+        split ! $ move ! (1 ∷ []) $ use1 W (some (λ (zs : Unit {0} × (Unit {0} × (Unit {0} × (Unit {0} × (List ℕ × Unit {0}))))). ‵ (lasts value.ended (κ₁, (κ₂, tt)) passed zs) ⊛ raw (fact 𝓤 (Said r (zs .1 .1 .1 .1 .0))))) (id⊢ 𝓤 _) $ pick ! (λ zs.
+        split ! $ move ! (1 ∷ []) $ heard ! (Said r (zs .1 .1 .1 .1 .0)) (λ e. fsplit ! $ drop ! $ fsplit ! $ drop ! $ fsplit ! $ drop ! $ fsplit ! $ drop ! $ fsplit ! $ fsplit ! $ move ! (1 ∷ []) $ feqL ! (λ l.
         -- [the last list; true; the tokens and the result; what the words own; the machine's cell; …]
         move ! (2 ∷ []) $ split ! $ move ! (1 ∷ []) $ peeks ! T.the-row (Is T.the-row) (shows 𝓤 H A T.the-row) r (w ∷ []) (λ is.
         land ! (from ! (stop !)) (init ! 16 refl (typed r w is)) $
         assigns ! (of-opd ! (load ! (from ! (stop !)) (look ! 16 refl))) (from ! (hop ! (look ! 24 refl) (stop !))) (store-raw ! 5 refl (typed r w is)) $
         move ! (5 ∷ 0 ∷ 7 ∷ 8 ∷ 9 ∷ []) $ closes ! tt T.the-row r (w ∷ []) b o $
-        -- [obs; the borrow; m's token; the tokens; the last list; true; what the words own; …; _8; …]
-        assigns ! (of-opd ! (unit-lit !)) (from ! (stop !)) (init ! 24 refl (tt, tt)) $
-        returns ! (look ! 24 refl) $ forget ! 8 refl $ forget ! 10 refl $ forget ! 12 refl $ forget ! 14 refl $ forget ! 16 refl $ forget ! 18 refl $ forget ! 20 refl $ forget ! 22 refl $ forget ! 24 refl $
-        move ! (24 ∷ 25 ∷ []) $ free1 ! $ move ! (22 ∷ 23 ∷ []) $ free1 ! $ move ! (20 ∷ 21 ∷ []) $ free1 ! $ move ! (18 ∷ 19 ∷ []) $ free1 ! $ move ! (16 ∷ 17 ∷ []) $ free1 ! $ move ! (14 ∷ 15 ∷ []) $ free1 ! $ move ! (12 ∷ 13 ∷ []) $ free1 ! $ move ! (10 ∷ 11 ∷ []) $ free1 ! $ move ! (8 ∷ 9 ∷ []) $ free1 ! $ free0 ! $
-        keep ! (0 ∷ 1 ∷ 2 ∷ 3 ∷ 4 ∷ 6 ∷ []) $ by ! (exits r (zs .1 .1 .1 .0) e l))))))))))))))))))
+        -- [obs; the borrow; m's token; the tokens; the last list; true; what the words own; …; _9; …]
+        assigns ! (of-opd ! (unit-lit !)) (from ! (stop !)) (init ! 26 refl (tt, tt)) $
+        returns ! (look ! 26 refl) $ forget ! 8 refl $ forget ! 10 refl $ forget ! 12 refl $ forget ! 14 refl $ forget ! 16 refl $ forget ! 18 refl $ forget ! 20 refl $ forget ! 22 refl $ forget ! 24 refl $ forget ! 26 refl $
+        move ! (26 ∷ 27 ∷ []) $ free1 ! $ move ! (24 ∷ 25 ∷ []) $ free1 ! $ move ! (22 ∷ 23 ∷ []) $ free1 ! $ move ! (20 ∷ 21 ∷ []) $ free1 ! $ move ! (18 ∷ 19 ∷ []) $ free1 ! $ move ! (16 ∷ 17 ∷ []) $ free1 ! $ move ! (14 ∷ 15 ∷ []) $ free1 ! $ move ! (12 ∷ 13 ∷ []) $ free1 ! $ move ! (10 ∷ 11 ∷ []) $ free1 ! $ move ! (8 ∷ 9 ∷ []) $ free1 ! $ free0 ! $
+        keep ! (0 ∷ 1 ∷ 2 ∷ 3 ∷ 4 ∷ 6 ∷ []) $ by ! (exits r (zs .1 .1 .1 .1 .0) e l)))))))))))))))))))
 
 module _ {M : Type 1} (𝓤 : URA M) (H : Heap 𝓤) (A : Atoms 𝓤) (W : Given 𝓤 H A) (at-mem : Memory → SProp 𝓤) (run : Routine → Fun 𝓤) where
   step-walks : (C : Calls 𝓤 H) (Λ : Loops 𝓤 H) → FmC 𝓤 H (W .laws) C → Triple 𝓤 (C #list-machine·stepped) (ByValue 𝓤 H A at-mem run) → Walks 𝓤 H A step′.ended stayed (WpFn 𝓤 H C Λ code.function) (step′.clauses 𝓤 H A at-mem run)
-  step-walks C Λ fm known = walked 𝓤 H A step′.ended stayed (step′.clauses 𝓤 H A at-mem run) (WpFn 𝓤 H C Λ code.function) (λ κs. (ptr-vals, (slice-vals, (uint-vals w32, (slice-vals, tt))))) (λ κs. (mut-tells (named 0) (κs .0) T.the-row, (shr-slice-tells (named 1) (κs .1 .0) u32, (uint-tells w32, (mut-slice-tells (named 2) (κs .1 .1 .0) u8, tt)))))
-      (λ κs qs bounds a g are. needs 𝓤 (Asked (a .0 .now) (a .1 .0 .now) (a .1 .1 .0)) _ (λ asked.
-      walk 𝓤 H A W at-mem run (κs .0) (κs .1 .0) (κs .1 .1 .0) (qs .0) (qs .1 .0) (qs .1 .1 .0) (a .0 .ptr .0) (a .0 .ptr .1) (a .0 .name) (a .0 .now) (a .1 .0) (a .1 .1 .0) (a .1 .1 .1 .0) (are .1 .1 .0 .1) C Λ fm known (are .1 .0 .0 .1) (are .1 .1 .1 .0 .0 .1) asked))
+  step-walks C Λ fm known = walked 𝓤 H A step′.ended stayed (step′.clauses 𝓤 H A at-mem run) (WpFn 𝓤 H C Λ code.function) (λ κs. (uint-vals w32, (ptr-vals, (slice-vals, (uint-vals w32, (slice-vals, tt)))))) (λ κs. (uint-tells w32, (mut-tells (named 0) (κs .0) T.the-row, (shr-slice-tells (named 1) (κs .1 .0) u32, (uint-tells w32, (mut-slice-tells (named 2) (κs .1 .1 .0) u8, tt))))))
+      (λ κs qs bounds a g are. needs 𝓤 (Asked (a .1 .0 .now) (a .1 .1 .0 .now) (a .1 .1 .1 .0)) _ (λ asked.
+      walk 𝓤 H A W at-mem run (κs .0) (κs .1 .0) (κs .1 .1 .0) (qs .0) (qs .1 .0) (qs .1 .1 .0) (a .0) (a .1 .0 .ptr .0) (a .1 .0 .ptr .1) (a .1 .0 .name) (a .1 .0 .now) (a .1 .1 .0) (a .1 .1 .1 .0) (a .1 .1 .1 .1 .0) (are .0 .1) (are .1 .1 .1 .0 .1) C Λ fm known (are .1 .1 .0 .0 .1) (are .1 .1 .1 .1 .0 .0 .1) asked))
 
 step-meets : {M : Type 1} (𝓤 : URA M) (H : Heap 𝓤) (A : Atoms 𝓤) → Given 𝓤 H A → (at-mem : Memory → SProp 𝓤) (run : Routine → Fun 𝓤) (𝓣 : Tables 𝓤 H) → Triple 𝓤 (𝓣 .C #list-machine·stepped) (ByValue 𝓤 H A at-mem run)
     → Meets 𝓤 H A step′.signature (WpFn 𝓤 H (𝓣 .C) (𝓣 .Λ) code.function) (step′.spec 𝓤 H A at-mem run)
 step-meets 𝓤 H A W at-mem run 𝓣 known =
-    walk-meets 𝓤 H A step′.ended stayed W (goes-ref 𝓤 H A W 3 0 tt (plain (λ _. T.the-row)), (goes-none-slice 𝓤 H A W 3 (1 ∷ []) tt (plain (λ _. u32)) yes, (goes-none 𝓤 H A W 3 (λ _. u32) yes (λ κs x f. refl), (goes-gave-slice 𝓤 H A W 3 2 tt (plain (λ _. u8)), tt)))) (step′.clauses 𝓤 H A at-mem run)
+    walk-meets 𝓤 H A step′.ended stayed W (goes-none 𝓤 H A W 3 (λ _. u32) yes (λ κs x f. refl), (goes-ref 𝓤 H A W 3 0 tt (plain (λ _. T.the-row)), (goes-none-slice 𝓤 H A W 3 (1 ∷ []) tt (plain (λ _. u32)) yes, (goes-none 𝓤 H A W 3 (λ _. u32) yes (λ κs x f. refl), (goes-gave-slice 𝓤 H A W 3 2 tt (plain (λ _. u8)), tt))))) (step′.clauses 𝓤 H A at-mem run)
     (WpFn 𝓤 H (𝓣 .C) (𝓣 .Λ) code.function) (WpFn-mono 𝓤 H (W .laws) 𝓣 code.function) (step-walks 𝓤 H A W at-mem run (𝓣 .C) (𝓣 .Λ) (fmOf 𝓤 H (W .laws) 𝓣) known)
 
 pub step-spec : {M : Type 1} → stated.statement M

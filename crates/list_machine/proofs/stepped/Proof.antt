@@ -1,4 +1,4 @@
--- `list_machine::stepped` meets its contract: what the instruction does, and the two counts. Assumes nothing.
+-- `list_machine::stepped` meets its contract: what the instruction does, and the counts. Assumes nothing.
 use Rattle.list_machine.proofs.Steps.{stepped}
 use borrow.Author.Needs.{needs}
 use Rattle.list_machine.proofs.stepped.Statement.{statement}
@@ -16,17 +16,17 @@ add-carry-out c = search needs
 carry-out-requires : tie.Need-carry-out-requires
 carry-out-requires c κs = search needs
 
-add-t10 : tie.Need-add-t10
-add-t10 c = search needs
+add-t11 : tie.Need-add-t11
+add-t11 c = search needs
 
-add-t14 : tie.Need-add-t14
-add-t14 c = search needs
+add-t15 : tie.Need-add-t15
+add-t15 c = search needs
 
 same-length : tie.Need-same-length
 same-length c = search needs
 
 returns : tie.Need-returns
-returns c = stepped _ _ _ _ _ _ (c .before .before .before .before .carry-out .ensures)
+returns c = stepped _ _ _ _ _ _ _ (c .before .before .before .before .carry-out .ensures)
 
 pub stepped-spec : {M : Type 1} → statement M
 stepped-spec =
@@ -36,7 +36,7 @@ stepped-spec =
     shared-slice-read-carry-out
     add-carry-out
     carry-out-requires
-    add-t10
-    add-t14
+    add-t11
+    add-t15
     same-length
     returns)

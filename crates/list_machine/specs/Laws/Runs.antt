@@ -12,7 +12,7 @@ use lib.ListN.{length, getD, getElem?, length-map}
 use borrow.Author.Tests.{ltb-true, leb-true, leb-false, eqb-true, eqb-false}
 use Rattle.questions.specs.Tests.{bit, all}
 use Rattle.questions.specs.Laws.Tests.{all-head, all-tail, bit-few}
-use Rattle.table.specs.State.{State, withBytes}
+use Rattle.table.specs.State.{stateWith, stateOf}
 use Rattle.rungs.specs.Records.{RungRecord, offsets, isStart}
 use Rattle.list_definitions.specs.Instruction.{Instr, instrWord, instrFits, decodeInstr, decodeCode}
 use Rattle.list_definitions.specs.Machine.{InstructionList, fresh, begin, halted, scanMachine, scanList}
@@ -83,78 +83,81 @@ start-here rs os i next e a q = rw (q, ← e) (carried-on 0 rs i (rw e a) .start
 
 -- ---- the loop's invariant
 
-pub record Running (ws os t : List ℕ) (w : ℕ) (u : List ℕ) (m : MachineStruct) (next : ℕ) : Type 0 where
-  pub same : (l : InstructionList) → decodeCode ws ≡ some (l .code) → offsets (l .records) ≡ os → ascending 0 os → (s : State)
-      → scanMachine l (w - m .counts .instructions) (machineOf m) (withBytes s u) ≡ scanList l w (withBytes s t)
+pub record Running (vars : ℕ) (ws os t : List ℕ) (w : ℕ) (u : List ℕ) (m : MachineStruct) (next : ℕ) : Type 0 where
+  pub same : (l : InstructionList) → decodeCode ws ≡ some (l .code) → offsets (l .records) ≡ os → ascending 0 os
+      → scanMachine l (w - m .counts .instructions) (machineOf m) (stateWith vars u (m .counts .moved)) ≡ scanList l w (stateOf vars t)
   pub next-is : ascending 0 os → next ≡ before os (m .index)
   pub next-within : next ≤ length os
   pub carried : m .counts .instructions ≤ w
-  pub few : m .counts .rungs ≤ m .counts .instructions
+  pub few-rungs : m .counts .rungs ≤ m .counts .instructions
+  pub few-moved : m .counts .moved ≤ m .counts .instructions
   pub long : length u ≡ length t
 
-pub running-first : (ws os t : List ℕ) (w : ℕ)
-    → Running ws os t w t firstMachine 0
+pub running-first : (vars : ℕ) (ws os t : List ℕ) (w : ℕ)
+    → Running vars ws os t w t firstMachine 0
 unfolding scanList begin fresh machineOf machineCounts firstMachine
-running-first ws os t w = record {
-  same = λ l d o a s. rw sub-zero refl;
+running-first vars ws os t w = record {
+  same = λ l d o a. rw sub-zero refl;
   next-is = λ a. sym (before-zero os);
   next-within = omega arith;
   carried = omega arith;
-  few = omega arith;
+  few-rungs = omega arith;
+  few-moved = omega arith;
   long = refl;
 }
 
-module _ (ws os t : List ℕ) (w : ℕ) (u : List ℕ) (m : MachineStruct) (next : ℕ) (r : Running ws os t w u m next) where
-  pub ran-ended : length ws ≤ m .index → Ran ws os t w (EndedCase (m .counts)) u
+module _ (vars : ℕ) (ws os t : List ℕ) (w : ℕ) (u : List ℕ) (m : MachineStruct) (next : ℕ) (r : Running vars ws os t w u m next) where
+  pub ran-ended : length ws ≤ m .index → Ran vars ws os t w (EndedCase (m .counts)) u
   unfolding halted scanEnds countsIn listScannedAnswer machineCounts machineOf
   ran-ended h = record {
-    same = λ l d o a s.
-        let e = sym (scan-end l (w - m .counts .instructions) (machineOf m) (withBytes s u) (at-end ws (l .code) d (m .index) h)) ∙ r .same l d o a s in
+    same = λ l d o a.
+        let e = sym (scan-end l (w - m .counts .instructions) (machineOf m) (stateWith vars u (m .counts .moved)) (at-end ws (l .code) d (m .index) h)) ∙ r .same l d o a in
         record { answer = ap (λ x. scanEnds x .answer) e; same-table = ap (λ x. scanEnds x .table) e };
   }
 
-  pub ran-stopped : m .index < length ws → m .counts .instructions ≡ w → Ran ws os t w (StoppedCase (m .counts)) u
+  pub ran-stopped : m .index < length ws → m .counts .instructions ≡ w → Ran vars ws os t w (StoppedCase (m .counts)) u
   unfolding halted scanEnds countsIn listScannedAnswer machineCounts machineOf
   ran-stopped h z = record {
-    same = λ l d o a s.
+    same = λ l d o a.
         let k = word-at ws (l .code) d (m .index) h in
         let n : w - m .counts .instructions ≡ 0 = omega arith in
-        let stop = scan-stop l (machineOf m) (withBytes s u) (k .instr) (k .stands) in
-        let e = sym stop ∙ (rw n at (r .same l d o a s)) in
+        let stop = scan-stop l (machineOf m) (stateWith vars u (m .counts .moved)) (k .instr) (k .stands) in
+        let e = sym stop ∙ (rw n at (r .same l d o a)) in
         record { answer = ap (λ x. scanEnds x .answer) e; same-table = ap (λ x. scanEnds x .table) e };
   }
 
   module _ (h : m .index < length ws) (z : m .counts .instructions ≡ w → ⊥) (m′ : MachineStruct) (u′ : List ℕ) (len : length u′ ≡ length u)
-      (entered : ℕ) (es : entered ≡ startsHere os next (m .index)) (did : Stepped (getD ws (m .index) 0) entered m u m′ u′) where
-    same-after : (l : InstructionList) → decodeCode ws ≡ some (l .code) → offsets (l .records) ≡ os → ascending 0 os → (s : State)
-        → scanMachine l (w - m′ .counts .instructions) (machineOf m′) (withBytes s u′) ≡ scanList l w (withBytes s t)
+      (entered : ℕ) (es : entered ≡ startsHere os next (m .index)) (did : Stepped vars (getD ws (m .index) 0) entered m u m′ u′) where
+    same-after : (l : InstructionList) → decodeCode ws ≡ some (l .code) → offsets (l .records) ≡ os → ascending 0 os
+        → scanMachine l (w - m′ .counts .instructions) (machineOf m′) (stateWith vars u′ (m′ .counts .moved)) ≡ scanList l w (stateOf vars t)
     unfolding machineOf
-    same-after l d o a s =
+    same-after l d o a =
         let k = word-at ws (l .code) d (m .index) h in
         let c = did .carried in
         let q = r .carried in
         let n : w - m .counts .instructions ≡ suc (w - m′ .counts .instructions) = omega arith in
-        let st = did .same (k .instr) (k .decodes) (l .records) (es ∙ start-here (l .records) os (m .index) next o a (r .next-is a)) s in
-        let go = scan-step l (w - m′ .counts .instructions) (machineOf m) (withBytes s u) (k .instr) (k .stands) in
-        sym (rw st at go) ∙ (rw n at (r .same l d o a s))
+        let st = did .same (k .instr) (k .decodes) (l .records) (es ∙ start-here (l .records) os (m .index) next o a (r .next-is a)) in
+        let go = scan-step l (w - m′ .counts .instructions) (machineOf m) (stateWith vars u (m .counts .moved)) (k .instr) (k .stands) in
+        sym (rw st at go) ∙ (rw n at (r .same l d o a))
 
-    next-after : (next′ : ℕ) → next′ ≤ length os → (ascending 0 os → next′ ≡ before os (m′ .index)) → Running ws os t w u′ m′ next′
+    next-after : (next′ : ℕ) → next′ ≤ length os → (ascending 0 os → next′ ≡ before os (m′ .index)) → Running vars ws os t w u′ m′ next′
     next-after next′ b nx =
-        let c = did .carried in let g = did .rungs in let f = r .few in let q = r .carried in let k = starts-few os next (m .index) in
+        let c = did .carried in let g = did .rungs in let f = r .few-rungs in let moves = did .moved in let few = r .few-moved in let q = r .carried in let k = starts-few os next (m .index) in
         record {
           same = same-after;
           next-is = nx;
           next-within = b;
           carried = omega arith;
-          few = omega arith;
+          few-rungs = omega arith;
+          few-moved = omega arith;
           long = len ∙ r .long;
         }
 
-    pub run-straight : m′ .index ≡ m .index + 1 → Running ws os t w u′ m′ (next + entered)
+    pub run-straight : m′ .index ≡ m .index + 1 → Running vars ws os t w u′ m′ (next + entered)
     run-straight j = next-after (next + entered) (rw es (starts-within os next (m .index) (r .next-within)))
         (λ a. rw (j, es, next-straight os (m .index) a, r .next-is a) refl)
 
-    pub run-jump : (found : ℕ) → Sought os (m′ .index) found → Running ws os t w u′ m′ found
+    pub run-jump : (found : ℕ) → Sought os (m′ .index) found → Running vars ws os t w u′ m′ found
     run-jump found k = next-after found (k .within) (k .same)
 
 -- ---- the same over a place
@@ -185,25 +188,26 @@ halts end w m e h = go (leb end (m .index)) (eqb (m .counts .instructions) w) re
     go false true p q k = eqb-true _ _ q
     go false false p q k = cc
 
-pub record Standing (ws os t : List ℕ) (w : ℕ) (u : List ℕ) (m : MachineStruct) (place : Place) : Type 0 where
-  pub running : Running ws os t w u m (place .next)
+pub record Standing (vars : ℕ) (ws os t : List ℕ) (w : ℕ) (u : List ℕ) (m : MachineStruct) (place : Place) : Type 0 where
+  pub running : Running vars ws os t w u m (place .next)
   pub same-index : place .index ≡ m .index
   pub starts : place .entered ≡ startsHere os (place .next) (m .index)
 
-pub standing-first : (ws os t : List ℕ) (w : ℕ) (place : Place) → place .index ≡ 0 → place .next ≡ 0 → place .entered ≡ startsHere os 0 0
-    → Standing ws os t w t firstMachine place
+pub standing-first : (vars : ℕ) (ws os t : List ℕ) (w : ℕ) (place : Place) → place .index ≡ 0 → place .next ≡ 0 → place .entered ≡ startsHere os 0 0
+    → Standing vars ws os t w t firstMachine place
 unfolding firstMachine
-standing-first ws os t w place i n e = record { running = rw n (running-first ws os t w); same-index = i; starts = rw n e }
+standing-first vars ws os t w place i n e = record { running = rw n (running-first vars ws os t w); same-index = i; starts = rw n e }
 
 -- what one more instruction asks for
 pub record StandingNeeds (ws os : List ℕ) (m : MachineStruct) (place : Place) : Type 0 where
   pub inside : m .index < length ws
   pub instructions : m .counts .instructions + 1 < 2 ^ 32
   pub rungs : m .counts .rungs + place .entered < 2 ^ 32
+  pub moved : m .counts .moved + 1 < 2 ^ 32
   pub same-index : place .index ≡ m .index
   pub next-within : place .next + place .entered ≤ length os
 
-module _ (ws os t : List ℕ) (w : ℕ) (u : List ℕ) (m : MachineStruct) (place : Place) (standing : Standing ws os t w u m place) where
+module _ (vars : ℕ) (ws os t : List ℕ) (w : ℕ) (u : List ℕ) (m : MachineStruct) (place : Place) (standing : Standing vars ws os t w u m place) where
   pub standing-needs : w < 2 ^ 32 → runsOn (length ws) w m ≡ true → StandingNeeds ws os m place
   standing-needs b on =
       let r = standing .running in
@@ -211,19 +215,21 @@ module _ (ws os t : List ℕ) (w : ℕ) (u : List ℕ) (m : MachineStruct) (plac
       let z = o .left in
       let e = standing .starts in
       let carried = r .carried in
-      let few = r .few in
+      let few-rungs = r .few-rungs in
+      let few-moved = r .few-moved in
       let one = starts-few os (place .next) (m .index) in
       let within = starts-within os (place .next) (m .index) (r .next-within) in
       record {
         inside = o .inside;
         instructions = omega arith;
         rungs = omega arith;
+        moved = omega arith;
         same-index = standing .same-index;
         next-within = omega arith;
       }
 
-  pub standing-next : runsOn (length ws) w m ≡ true → (m′ : MachineStruct) (u′ : List ℕ) → Stepped (getD ws (m .index) 0) (place .entered) m u m′ u′ → length u′ ≡ length u
-      → (place′ : Place) → Followed os place (m′ .index) place′ → Standing ws os t w u′ m′ place′
+  pub standing-next : runsOn (length ws) w m ≡ true → (m′ : MachineStruct) (u′ : List ℕ) → Stepped vars (getD ws (m .index) 0) (place .entered) m u m′ u′ → length u′ ≡ length u
+      → (place′ : Place) → Followed os place (m′ .index) place′ → Standing vars ws os t w u′ m′ place′
   standing-next on m′ u′ s len place′ f = record {
     running = go (ℕ-discrete (m′ .index) (place .index + 1));
     same-index = f .here;
@@ -233,12 +239,12 @@ module _ (ws os t : List ℕ) (w : ℕ) (u : List ℕ) (m : MachineStruct) (plac
       o : RunsOn (length ws) w m
       o = runs-on (length ws) w m on
 
-      go : Dec (m′ .index ≡ place .index + 1) → Running ws os t w u′ m′ (place′ .next)
+      go : Dec (m′ .index ≡ place .index + 1) → Running vars ws os t w u′ m′ (place′ .next)
       go (yes q) = rw (f .straight q)
-          (run-straight ws os t w u m (place .next) (standing .running) (o .inside) (o .left) m′ u′ len (place .entered) (standing .starts) s (q ∙ ap (λ i. i + 1) (standing .same-index)))
-      go (no n) = run-jump ws os t w u m (place .next) (standing .running) (o .inside) (o .left) m′ u′ len (place .entered) (standing .starts) s (place′ .next) (f .found n)
+          (run-straight vars ws os t w u m (place .next) (standing .running) (o .inside) (o .left) m′ u′ len (place .entered) (standing .starts) s (q ∙ ap (λ i. i + 1) (standing .same-index)))
+      go (no n) = run-jump vars ws os t w u m (place .next) (standing .running) (o .inside) (o .left) m′ u′ len (place .entered) (standing .starts) s (place′ .next) (f .found n)
 
-  pub standing-less : runsOn (length ws) w m ≡ true → (m′ : MachineStruct) (u′ : List ℕ) → Stepped (getD ws (m .index) 0) (place .entered) m u m′ u′
+  pub standing-less : runsOn (length ws) w m ≡ true → (m′ : MachineStruct) (u′ : List ℕ) → Stepped vars (getD ws (m .index) 0) (place .entered) m u m′ u′
       → w - m′ .counts .instructions < w - m .counts .instructions
   standing-less on m′ u′ s =
       let z = runs-on (length ws) w m on .left in
@@ -246,11 +252,11 @@ module _ (ws os t : List ℕ) (w : ℕ) (u : List ℕ) (m : MachineStruct) (plac
       let carried = standing .running .carried in
       omega arith
 
-  pub standing-ends : runsOn (length ws) w m ≡ false → Ran ws os t w (haltedAt (length ws) m) u
+  pub standing-ends : runsOn (length ws) w m ≡ false → Ran vars ws os t w (haltedAt (length ws) m) u
   unfolding haltedAt
   standing-ends off = go (leb (length ws) (m .index)) refl
     where
-      go : (b : Bool) → leb (length ws) (m .index) ≡ b → Ran ws os t w (haltedAt (length ws) m) u
-      go true e = rw (e, haltedAt) (ran-ended ws os t w u m (place .next) (standing .running) (leb-true _ _ e))
+      go : (b : Bool) → leb (length ws) (m .index) ≡ b → Ran vars ws os t w (haltedAt (length ws) m) u
+      go true e = rw (e, haltedAt) (ran-ended vars ws os t w u m (place .next) (standing .running) (leb-true _ _ e))
       go false e = rw (e, haltedAt)
-          (ran-stopped ws os t w u m (place .next) (standing .running) (leb-false _ _ e) (halts (length ws) w m off (leb-false _ _ e)))
+          (ran-stopped vars ws os t w u m (place .next) (standing .running) (leb-false _ _ e) (halts (length ws) w m off (leb-false _ _ e)))

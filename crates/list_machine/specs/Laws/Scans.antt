@@ -12,7 +12,6 @@ use Rattle.questions.specs.Questions.{question1}
 use Rattle.questions.specs.Refusals.{refusalOf}
 use Rattle.questions.specs.declared.Refusal.{Refusal}
 use Rattle.questions.specs.Laws.Answers.{ask-passed, first-yes, later-yes}
-use Rattle.table.specs.State.{stateOf}
 use Rattle.rungs.specs.Records.{RungRecord, offsets, laid}
 use Rattle.list_definitions.specs.Questions.{listInRange, question10}
 use Rattle.list_definitions.specs.ListScan.{listOf, scanQuestions, callListScan, listScannedAnswer, ListScanDone}
@@ -32,11 +31,11 @@ module _ (vars : ℕ) (ws : List ℕ) (rs : List RungRecord) (t : List ℕ) (w :
   unfolding scanQuestions question10
   scan-in-range e = list-in-range vars ws rs (ask-passed 10 (listInRange vars ws rs) (first-yes (question10 vars ws rs) _ (later-yes (question1 vars) _ e)))
 
-  pub scan-scans : (r : ListScanned) (u : List ℕ) → scanQuestions vars ws rs t w ≡ none → Ran ws (offsets rs) t w r u → ListScanDone (callListScan vars ws rs t w) r u
+  pub scan-scans : (r : ListScanned) (u : List ℕ) → scanQuestions vars ws rs t w ≡ none → Ran vars ws (offsets rs) t w r u → ListScanDone (callListScan vars ws rs t w) r u
   unfolding callListScan listOf
   scan-scans r u e ran =
       let a = scan-in-range e in
-      let d = ran .same (listOf ws rs) (a .held) refl (laid-ascend 0 (length ws) rs (a .lies) (a .some-length)) (stateOf vars t) in
+      let d = ran .same (listOf ws rs) (a .held) refl (laid-ascend 0 (length ws) rs (a .lies) (a .some-length)) in
       record { answer = rw (e, callListScan) (d .answer); same-table = rw (e, callListScan) (d .same-table) }
 
 laid-first : (n : ℕ) (rs : List RungRecord) → 0 < length rs → T (laid 0 n rs) → startsHere (offsets rs) 0 0 ≡ 1

@@ -169,21 +169,21 @@ module _ {M : Type 1} (𝓤 : URA M) (H : Heap 𝓤) (A : Atoms 𝓤) (W : Given
   abbrev Asked : Verdict → List ℕ → Type 0
   Asked d zs = RowAsked vars (words .now) G ts watchdog d × (zs ≡ ts)
 
-  abbrev for-scan : Verdict → Verdict × (RefT (List ℕ) × (RefT (List Rung) × (RefT (List ℕ) × (ℕ × Unit {0}))))
-  for-scan d = (d, (words, (row, (table γ, (watchdog, tt)))))
+  abbrev for-scan : Verdict → ℕ × (Verdict × (RefT (List ℕ) × (RefT (List Rung) × (RefT (List ℕ) × (ℕ × Unit {0})))))
+  for-scan d = (vars, (d, (words, (row, (table γ, (watchdog, tt))))))
 
   abbrev to-scan : Verdict → Val → Scan 𝓤 H A at-mem run .Ghost
-  to-scan d u = (((κ₀, (κ₁, (κ₂, tt))), (q₀, (q₁, (q₂, tt))), tt, for-scan d, (u ∷ [], (sw ∷ [], (sr ∷ [], (st ∷ [], (vint w32 watchdog ∷ [], tt)))))), tt)
+  to-scan d u = (((κ₀, (κ₁, (κ₂, tt))), (q₀, (q₁, (q₂, tt))), tt, for-scan d, (vint w32 vars ∷ [], (u ∷ [], (sw ∷ [], (sr ∷ [], (st ∷ [], (vint w32 watchdog ∷ [], tt))))))), tt)
 
   goes-scan : (d : Verdict) (u : Val) → Is D.the-row d (u ∷ []) → RowReady d records → ent 𝓤 (⋆ 𝓤 H A (tokens ∷ ‵ Own-words ∷ ‵ (fsep Own-row Own-table) ∷ [])) (Scan 𝓤 H A at-mem run .pre (to-scan d u))
   goes-scan d u is ready =
       qed W (tokens ∷ ‵ Own-words ∷ ‵ (fsep Own-row Own-table) ∷ []) ∵ says ! ready $ frame ! $ move ! (1 ∷ []) $ fsplit ! $
       -- [the row; the table; the words]
       nothing ! $ owned ! u32 (Is u32) (uint-makes 𝓤 H A W w32) watchdog _ (refl, watchdog-fits) $ fjoin ! $ move ! (2 ∷ 0 ∷ []) $ fjoin ! $ move ! (1 ∷ 0 ∷ []) $ fjoin ! $ move ! (1 ∷ 0 ∷ []) $ fjoin ! $
-      owned ! D.the-row (Is D.the-row) (EL.makes D.the-type D′.the-plain 𝓤 H A) d _ is $ fjoin ! $ done !
+      owned ! D.the-row (Is D.the-row) (EL.makes D.the-type D′.the-plain 𝓤 H A) d _ is $ fjoin ! $ owned ! u32 (Is u32) (uint-makes 𝓤 H A W w32) vars _ (refl, vars-fits) $ fjoin ! $ done !
 
   abbrev Scanned : Verdict → ListScanned → List ℕ → Type 0
-  Scanned d r zs = RowRan d (words .now) records ts watchdog r zs
+  Scanned d r zs = RowRan vars d (words .now) records ts watchdog r zs
 
   exits : (d : Verdict) (r : ListScanned) (w : Val) (zs : List ℕ) → RowAsked vars (words .now) G ts watchdog d → Scanned d r zs → length zs ≡ length ts
       → ent 𝓤 (⋆ 𝓤 H A (tokens ∷ ‵ Own-row ∷ ‵ Own-words ∷ ‵ (finally u8 γ zs) ∷ ‵ (E.the-row .own r (w ∷ [])) ∷ [])) (Post w)
@@ -249,16 +249,16 @@ module _ {M : Type 1} (𝓤 : URA M) (H : Heap 𝓤) (A : Atoms 𝓤) (W : Given
         -- [the row; the row; the words; the words; the tokens; true; the table; the watchdog's; _11; …]
         move ! (0 ∷ 6 ∷ []) $ fjoin ! $ move ! (4 ∷ 2 ∷ 0 ∷ []) $ use3 W (raw (Scan 𝓤 H A at-mem run .pre (to-scan d u))) (goes-scan d u is₂ (row-ready vars (words .now) G ts watchdog d (e .0) records refl)) $
         -- `run`: [what it asks; the row; the words; true; the watchdog's; _11; …]
-        calls-at ! fm (Scan 𝓤 H A at-mem run) known-scan (to-scan d u) (and-then ! (load ! (from ! (stop !)) (look ! 15 refl)) (and-then ! (load ! (from ! (stop !)) (look ! 23 refl)) (and-then ! (load ! (from ! (stop !)) (look ! 21 refl)) (and-then ! (load ! (from ! (stop !)) (look ! 5 refl)) (and-then ! (load ! (from ! (stop !)) (look ! 17 refl)) (no-more !)))))) (λ w.
+        calls-at ! fm (Scan 𝓤 H A at-mem run) known-scan (to-scan d u) (and-then ! (load ! (from ! (stop !)) (look ! 25 refl)) (and-then ! (load ! (from ! (stop !)) (look ! 15 refl)) (and-then ! (load ! (from ! (stop !)) (look ! 23 refl)) (and-then ! (load ! (from ! (stop !)) (look ! 21 refl)) (and-then ! (load ! (from ! (stop !)) (look ! 5 refl)) (and-then ! (load ! (from ! (stop !)) (look ! 17 refl)) (no-more !))))))) (λ w.
         use1 W (later (some (λ (r : ListScanned). (tokens ⊛ ‵ (E.the-row .own r (w ∷ []))) ⊛ raw (ensured 𝓤 H A scan.ended (scan.clauses 𝓤 H A at-mem run) (κ₀, (κ₁, (κ₂, tt))) (for-scan d) tt r)))) (id⊢ 𝓤 _) $ await ! tt $ pick ! (λ r.
-        split ! $ move ! (1 ∷ []) $ use1 W (some (λ (ys : Lasts). ‵ (lasts scan.ended (κ₀, (κ₁, (κ₂, tt))) (for-scan d) ys) ⊛ raw (fact 𝓤 (Scanned d r (ys .1 .1 .1 .0))))) (id⊢ 𝓤 _) $ pick ! (λ ys.
-        split ! $ move ! (1 ∷ []) $ heard ! (Scanned d r (ys .1 .1 .1 .0)) (λ ran. fsplit ! $ drop ! $ fsplit ! $ drop ! $ fsplit ! $ drop ! $ fsplit ! $ fsplit ! $ move ! (1 ∷ []) $ feqL ! (λ k.
+        split ! $ move ! (1 ∷ []) $ use1 W (some (λ (ys : Unit {0} × Lasts). ‵ (lasts scan.ended (κ₀, (κ₁, (κ₂, tt))) (for-scan d) ys) ⊛ raw (fact 𝓤 (Scanned d r (ys .1 .1 .1 .1 .0))))) (id⊢ 𝓤 _) $ pick ! (λ ys.
+        split ! $ move ! (1 ∷ []) $ heard ! (Scanned d r (ys .1 .1 .1 .1 .0)) (λ ran. fsplit ! $ drop ! $ fsplit ! $ drop ! $ fsplit ! $ drop ! $ fsplit ! $ drop ! $ fsplit ! $ fsplit ! $ move ! (1 ∷ []) $ feqL ! (λ k.
         move ! (2 ∷ []) $ split ! $ move ! (1 ∷ []) $ peeks ! E.the-row (Is E.the-row) (shows 𝓤 H A E.the-row) r (w ∷ []) (λ is₃.
         -- [the result; the tokens; the last list; the watchdog's; the row; the words; true; the watchdog's; _11; …; _10; …; _9; …; _8; …; _7; …; _6; …; _5; …; _4; …; _3; …; _2; …; _1; …; _0; …]
         land ! (from ! (stop !)) (init ! 30 refl (EL.lawful E.the-type E′.the-laws 𝓤 H A W tt .typed r _ is₃ .0)) $
         returns ! (look ! 30 refl) $ forget ! 8 refl $ forget ! 10 refl $ forget ! 12 refl $ forget ! 14 refl $ forget ! 16 refl $ forget ! 18 refl $ forget ! 20 refl $ forget ! 22 refl $ forget ! 24 refl $ forget ! 26 refl $ forget ! 28 refl $ forget ! 30 refl $
         move ! (30 ∷ 31 ∷ []) $ free1 ! $ move ! (28 ∷ 29 ∷ []) $ free1 ! $ move ! (26 ∷ 27 ∷ []) $ free1 ! $ move ! (24 ∷ 25 ∷ []) $ free1 ! $ move ! (22 ∷ 23 ∷ []) $ free1 ! $ move ! (20 ∷ 21 ∷ []) $ free1 ! $ move ! (18 ∷ 19 ∷ []) $ free1 ! $ move ! (16 ∷ 17 ∷ []) $ free1 ! $ move ! (14 ∷ 15 ∷ []) $ free1 ! $ move ! (12 ∷ 13 ∷ []) $ free1 ! $ move ! (10 ∷ 11 ∷ []) $ free1 ! $ move ! (8 ∷ 9 ∷ []) $ free1 ! $ free0 ! $
-        keep ! (1 ∷ 4 ∷ 5 ∷ 2 ∷ 0 ∷ []) $ by ! (exits d r w (ys .1 .1 .1 .0) (e .0) ran k)))))))))))))))))))))))))))))))
+        keep ! (1 ∷ 4 ∷ 5 ∷ 2 ∷ 0 ∷ []) $ by ! (exits d r w (ys .1 .1 .1 .1 .0) (e .0) ran k)))))))))))))))))))))))))))))))
 
 module _ {M : Type 1} (𝓤 : URA M) (H : Heap 𝓤) (A : Atoms 𝓤) (W : Given 𝓤 H A) (at-mem : Memory → SProp 𝓤) (run : Routine → Fun 𝓤) (𝓣 : Tables 𝓤 H)
     (known-gather : Triple 𝓤 (𝓣 .C #rows·gather) (Gather 𝓤 H A at-mem run)) (known-ask : Triple 𝓤 (𝓣 .C #list-rows·ask) (Ask 𝓤 H A at-mem run)) (known-scan : Triple 𝓤 (𝓣 .C #list-rows·run) (Scan 𝓤 H A at-mem run)) where

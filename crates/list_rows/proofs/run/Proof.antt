@@ -103,7 +103,7 @@ use Rattle.list_rows.proofs.run.Code as code
 use Rattle.list_rows.proofs.run.Code.Mir as parts
 
 abbrev stayed : Stays (run′.ended .signature .params) (run′.ended .kept)
-stayed = (stay-none (λ _. Q.the-row) yes, (stay-none-slice (0 ∷ []) tt (plain (λ _. u32)) yes, (stay-none-slice (1 ∷ []) tt (plain (λ _. T.the-row)) yes, (stay-slice (2 ∷ []) tt (plain (λ _. u8)), (stay-none (λ _. u32) yes, tt)))))
+stayed = (stay-none (λ _. u32) yes, (stay-none (λ _. Q.the-row) yes, (stay-none-slice (0 ∷ []) tt (plain (λ _. u32)) yes, (stay-none-slice (1 ∷ []) tt (plain (λ _. T.the-row)) yes, (stay-slice (2 ∷ []) tt (plain (λ _. u8)), (stay-none (λ _. u32) yes, tt))))))
 
 -- the locals' types, spelled as the function spells them
 abbrev spelt : Ty → Ty
@@ -147,21 +147,21 @@ lent-ty = spelt (sliceTy (tyRef erased mut (tyInt w8)))
 
 -- a turn, once its test has passed
 abbrev more : Code
-more = seq (assign (place 14 []) (addrOf (place 7 [])))
-    (seq (assign (place 15 []) (addrOf (place 4 (field 0 ∷ deref (spelt (tyInt w8)) ∷ []))))
-    (seq (assign (place 16 []) (aggregate (copy (place 15 []) ∷ copy (place 4 (field 1 ∷ [])) ∷ [])))
-    (seq (call #list-machine·step (copy (place 14 []) ∷ copy (place 2 []) ∷ copy (place 8 (field 2 ∷ [])) ∷ copy (place 16 []) ∷ []) (place 13 []))
-    (seq (assign (place 17 []) (rvOpd (copy (place 7 (field 1 ∷ [])))))
-    (call #list-rows·follow (copy (place 3 []) ∷ copy (place 8 []) ∷ copy (place 17 []) ∷ []) (place 8 []))))))
+more = seq (assign (place 15 []) (addrOf (place 8 [])))
+    (seq (assign (place 16 []) (addrOf (place 5 (field 0 ∷ deref (spelt (tyInt w8)) ∷ []))))
+    (seq (assign (place 17 []) (aggregate (copy (place 16 []) ∷ copy (place 5 (field 1 ∷ [])) ∷ [])))
+    (seq (call #list-machine·step (copy (place 1 []) ∷ copy (place 15 []) ∷ copy (place 3 []) ∷ copy (place 9 (field 2 ∷ [])) ∷ copy (place 17 []) ∷ []) (place 14 []))
+    (seq (assign (place 18 []) (rvOpd (copy (place 8 (field 1 ∷ [])))))
+    (call #list-rows·follow (copy (place 4 []) ∷ copy (place 9 []) ∷ copy (place 18 []) ∷ []) (place 9 []))))))
 
 -- a place in the loop: the machine, where it stands among the records, the table, and what holds of them
-record Here (v : Verdict) (ws : List ℕ) (row : List Rung) (ts : List ℕ) (w : ℕ) : Type 0 where
+record Here (vars : ℕ) (v : Verdict) (ws : List ℕ) (row : List Rung) (ts : List ℕ) (w : ℕ) : Type 0 where
   m : Machine
   place : RowPlace
   t : List ℕ
   is : Is N.the-row m (N′.lowered m ∷ [])
   is-place : Is P.the-row place (P′.lowered place ∷ [])
-  stands : Going v ws (recordsOf row) ts w t m place (endOf v (length ws))
+  stands : Going vars v ws (recordsOf row) ts w t m place (endOf v (length ws))
 
 module _ {M : Type 1} (𝓤 : URA M) (H : Heap 𝓤) (A : Atoms 𝓤) (at-mem : Memory → SProp 𝓤) (run : Routine → Fun 𝓤) where
   -- the contracts that the proof cites, and of each callee's `ensured` the clause alone
@@ -205,8 +205,8 @@ module _ {M : Type 1} (𝓤 : URA M) (H : Heap 𝓤) (A : Atoms 𝓤) (at-mem : 
   said-answer v m n r = exE 𝓤 _ (λ zs. snd∗ 𝓤 (sem 𝓤 H A (lasts answer.ended tt (v, (m, (n, tt))) zs)) (fact 𝓤 (r ≡ answered v m n)))
 
 module _ {M : Type 1} (𝓤 : URA M) (H : Heap 𝓤) (A : Atoms 𝓤) (W : Given 𝓤 H A) (at-mem : Memory → SProp 𝓤) (run : Routine → Fun 𝓤) (κ₁ κ₂ κ₃ : Lft) (q₁ q₂ q₃ : Share)
-    (v : Verdict) (words : RefT (List ℕ)) (row : RefT (List Rung)) (b o : ℕ) (γ : GName) (ts : List ℕ) (w : ℕ)
-    (is-verdict : Is Q.the-row v (EL.val Q.the-type Q′.the-laws v ∷ [])) (room-w : Room u32 (length (words .now))) (room-r : Room T.the-row (length (row .now))) (room-t : Room u8 (length ts)) (w-fits : w < 2 ^ 32)
+    (vars : ℕ) (v : Verdict) (words : RefT (List ℕ)) (row : RefT (List Rung)) (b o : ℕ) (γ : GName) (ts : List ℕ) (w : ℕ)
+    (vars-fits : vars < 2 ^ 32) (is-verdict : Is Q.the-row v (EL.val Q.the-type Q′.the-laws v ∷ [])) (room-w : Room u32 (length (words .now))) (room-r : Room T.the-row (length (row .now))) (room-t : Room u8 (length ts)) (w-fits : w < 2 ^ 32)
     (ready : RowReady v (recordsOf (row .now))) where
   abbrev ws : List ℕ
   ws = words .now
@@ -236,17 +236,17 @@ module _ {M : Type 1} (𝓤 : URA M) (H : Heap 𝓤) (A : Atoms 𝓤) (W : Given
   abbrev st : List ℕ → Val
   st l = sliceVal (b, o) (length l)
 
-  abbrev x : Verdict × (RefT (List ℕ) × (RefT (List Rung) × (RefT (List ℕ) × (ℕ × Unit {0}))))
-  x = (v, (words, (row, (at-list γ ts, (w, tt)))))
+  abbrev x : ℕ × (Verdict × (RefT (List ℕ) × (RefT (List Rung) × (RefT (List ℕ) × (ℕ × Unit {0})))))
+  x = (vars, (v, (words, (row, (at-list γ ts, (w, tt))))))
 
-  abbrev at : List Val × (List Val × (List Val × (List Val × (List Val × Unit {0}))))
-  at = (v₁ ∷ [], (sw ∷ [], (sr ∷ [], (st ts ∷ [], (vint w32 w ∷ [], tt)))))
+  abbrev at : List Val × (List Val × (List Val × (List Val × (List Val × (List Val × Unit {0})))))
+  at = (vint w32 vars ∷ [], (v₁ ∷ [], (sw ∷ [], (sr ∷ [], (st ts ∷ [], (vint w32 w ∷ [], tt))))))
 
   abbrev Post : Val → SProp 𝓤
   Post = walkOf 𝓤 H A run′.ended stayed (run′.clauses 𝓤 H A at-mem run) .post (((κ₁, (κ₂, (κ₃, tt))), (q₁, (q₂, (q₃, tt))), tt, x, at), tt)
 
   abbrev Upto : Type 0
-  Upto = Here v ws ys ts w
+  Upto = Here vars v ws ys ts w
 
   typed : (r : Machine) (u : Val) → Is N.the-row r (u ∷ []) → Holds (hasTy N′.mir u) × WT u
   typed r u is = LL.lawful N.the-type N′.the-laws 𝓤 H A W .typed r _ is .0
@@ -294,15 +294,15 @@ module _ {M : Type 1} (𝓤 : URA M) (H : Heap 𝓤) (A : Atoms 𝓤) (W : Given
   abbrev Left : Upto → List (Item 𝓤)
   Left i = ‵ (flft κ₁ q₁) ∷ token-row ∷ ‵ (flft κ₃ q₃) ∷ ‵ Own-words ∷ ‵ Own-row ∷ ‵ (Own-table (i .t)) ∷ []
 
-  exits : (i : Upto) (r : ListScanned) (u : Val) → Is S.the-row r (u ∷ []) → RowRan v ws (recordsOf ys) ts w r (i .t) → ent 𝓤 (⋆ 𝓤 H A (Left i)) (Post u)
+  exits : (i : Upto) (r : ListScanned) (u : Val) → Is S.the-row r (u ∷ []) → RowRan vars v ws (recordsOf ys) ts w r (i .t) → ent 𝓤 (⋆ 𝓤 H A (Left i)) (Post u)
   exits i r u is e =
       qed W (Left i) ∵
-      suffices ! _ (ends-at 𝓤 H A run′.ended stayed (run′.clauses 𝓤 H A at-mem run) W (((κ₁, (κ₂, (κ₃, tt))), (q₁, (q₂, (q₃, tt))), tt, x, at), tt) u r (tt, (tt, (tt, (i .t, (tt, tt))))) (tt, (tt, (tt, (i .stands .long, (tt, tt)))))) $ says ! e $
+      suffices ! _ (ends-at 𝓤 H A run′.ended stayed (run′.clauses 𝓤 H A at-mem run) W (((κ₁, (κ₂, (κ₃, tt))), (q₁, (q₂, (q₃, tt))), tt, x, at), tt) u r (tt, (tt, (tt, (tt, (i .t, (tt, tt)))))) (tt, (tt, (tt, (tt, (i .stands .long, (tt, tt))))))) $ says ! e $
       move ! (1 ∷ []) $ split ! $ move ! (3 ∷ 1 ∷ []) $ join ! $ move ! (1 ∷ 0 ∷ []) $ join ! $ move ! (1 ∷ 0 ∷ []) $ join ! $ frame ! $
       -- [the words; the row; the table]: the table's machine value is the one passed
       rewrite ! 2 (λ (l : ℕ). ‵ (MutSlice (named 2) κ₃ u8 .own (at-list γ (i .t)) (sliceVal (b, o) l ∷ []))) (i .stands .long) refl $
       nothing ! $ owned ! u32 (Is u32) (uint-makes 𝓤 H A W w32) w _ (refl, w-fits) $ fjoin ! $ move ! (3 ∷ 0 ∷ []) $ fjoin ! $ move ! (2 ∷ 0 ∷ []) $ fjoin ! $ move ! (1 ∷ 0 ∷ []) $ fjoin ! $
-      owned ! Q.the-row (Is Q.the-row) (EL.makes Q.the-type Q′.the-plain 𝓤 H A) v _ is-verdict $ fjoin ! $ frame ! $
+      owned ! Q.the-row (Is Q.the-row) (EL.makes Q.the-type Q′.the-plain 𝓤 H A) v _ is-verdict $ fjoin ! $ owned ! u32 (Is u32) (uint-makes 𝓤 H A W w32) vars _ (refl, vars-fits) $ fjoin ! $ frame ! $
       owned ! S.the-row (Is S.the-row) (EL.makes S.the-type S′.the-plain 𝓤 H A) r _ is $ done !
 
   -- what each callee's triple binds outside, and that the caller has what it asks
@@ -348,18 +348,18 @@ module _ {M : Type 1} (𝓤 : URA M) (H : Heap 𝓤) (A : Atoms 𝓤) (W : Given
   off false h = refl
 
   needed : (i : Upto) → Holds (On i) → GoingNeeds ws (recordsOf ys) (i .m) (i .place)
-  needed i yes = going-needs v ws (recordsOf ys) ts w (i .t) (i .m) (i .place) end (i .stands) (on (On i) yes) w-fits
+  needed i yes = going-needs vars v ws (recordsOf ys) ts w (i .t) (i .m) (i .place) end (i .stands) (on (On i) yes) w-fits
 
   -- what `step` is passed in turn i: the machine at the local l, lent for ν under δ, and the table lent again for μ under ε
   module _ (i : Upto) (l ν μ : ℕ) (δ ε : GName) where
     abbrev lent : RefT Machine
     lent = record { ptr = (l, 0); name = δ; now = i .m }
 
-    abbrev passed : RefT Machine × (RefT (List ℕ) × (ℕ × (RefT (List ℕ) × Unit {0})))
-    passed = (lent, (words, (i .place .entered, (at-list ε (i .t), tt))))
+    abbrev passed : ℕ × (RefT Machine × (RefT (List ℕ) × (ℕ × (RefT (List ℕ) × Unit {0}))))
+    passed = (vars, (lent, (words, (i .place .entered, (at-list ε (i .t), tt)))))
 
-    abbrev vals : List Val × (List Val × (List Val × (List Val × Unit {0})))
-    vals = (vptr l 0 ∷ [], (sw ∷ [], (vint w32 (i .place .entered) ∷ [], (st ts ∷ [], tt))))
+    abbrev vals : List Val × (List Val × (List Val × (List Val × (List Val × Unit {0}))))
+    vals = (vint w32 vars ∷ [], (vptr l 0 ∷ [], (sw ∷ [], (vint w32 (i .place .entered) ∷ [], (st ts ∷ [], tt)))))
 
     abbrev tokens : Item 𝓤
     tokens = ‵ (flft (ν ∷ []) fullShare) ⊛ (‵ (flft κ₁ q₁) ⊛ (‵ (flft (μ ∷ []) fullShare) ⊛ ‵ ftrue))
@@ -368,13 +368,13 @@ module _ {M : Type 1} (𝓤 : URA M) (H : Heap 𝓤) (A : Atoms 𝓤) (W : Given
     to-step = (((ν ∷ [], (κ₁, (μ ∷ [], tt))), (fullShare, (q₁, (fullShare, tt))), tt, passed, vals), tt)
 
     abbrev Owns : Fml
-    Owns = owns (MutRef (named 0) (ν ∷ []) N.the-row ∷ ShrSlice (named 1) κ₁ u32 ∷ u32 ∷ MutSlice (named 2) (μ ∷ []) u8 ∷ []) passed vals
+    Owns = owns (u32 ∷ MutRef (named 0) (ν ∷ []) N.the-row ∷ ShrSlice (named 1) κ₁ u32 ∷ u32 ∷ MutSlice (named 2) (μ ∷ []) u8 ∷ []) passed vals
 
     goes-step : Holds (On i) → ent 𝓤 (⋆ 𝓤 H A (tokens ∷ ‵ Owns ∷ [])) (Step 𝓤 H A at-mem run .pre to-step)
-    goes-step yes = qed W (tokens ∷ ‵ Owns ∷ []) ∵ says ! (needed i yes .inside, needed i yes .instructions, needed i yes .rungs) $ frame ! $ done !
+    goes-step yes = qed W (tokens ∷ ‵ Owns ∷ []) ∵ says ! (needed i yes .inside, needed i yes .instructions, needed i yes .rungs, needed i yes .moved) $ frame ! $ done !
 
   abbrev Said : Upto → Machine → List ℕ → Type 0
-  Said i r zs = Stepped (getD ws (i .m .index) 0) (i .place .entered) (i .m) (i .t) r zs
+  Said i r zs = Stepped vars (getD ws (i .m .index) 0) (i .place .entered) (i .m) (i .t) r zs
 
   -- what `follow` is passed after the machine's step to m′
   module _ (i : Upto) (m′ : Machine) (is : Is N.the-row m′ (N′.lowered m′ ∷ [])) where
@@ -401,7 +401,7 @@ module _ {M : Type 1} (𝓤 : URA M) (H : Heap 𝓤) (A : Atoms 𝓤) (W : Given
     t = t′;
     is = is;
     is-place = is′;
-    stands = going-next v ws (recordsOf ys) ts w (i .t) (i .m) (i .place) end (i .stands) (on (On i) yes) m′ t′ s len p′ f;
+    stands = going-next vars v ws (recordsOf ys) ts w (i .t) (i .m) (i .place) end (i .stands) (on (On i) yes) m′ t′ s len p′ f;
   }
 
   module _ (end-fits : end < 2 ^ 64) (𝓣 : Tables 𝓤 H)
@@ -416,14 +416,14 @@ module _ {M : Type 1} (𝓤 : URA M) (H : Heap 𝓤) (A : Atoms 𝓤) (W : Given
     fm : FmC 𝓤 H (W .laws) C
     fm = fmOf 𝓤 H (W .laws) 𝓣
 
-    module _ (l₀ l₁ l₂ l₃ l₄ l₅ l₆ l₇ l₈ l₉ l₁₀ l₁₁ l₁₂ l₁₃ l₁₄ l₁₅ l₁₆ l₁₇ : ℕ) where
+    module _ (l₀ l₁ l₂ l₃ l₄ l₅ l₆ l₇ l₈ l₉ l₁₀ l₁₁ l₁₂ l₁₃ l₁₄ l₁₅ l₁₆ l₁₇ l₁₈ : ℕ) where
       abbrev En : Env 𝓤 H
-      En = (scanned-ty, l₀) ∷ (verdict-ty, l₁) ∷ (words-ty, l₂) ∷ (row-ty, l₃) ∷ (table-ty, l₄) ∷ (number, l₅) ∷ (word, l₆) ∷ (machine, l₇) ∷ (place-ty, l₈) ∷ (word, l₉) ∷ (machine, l₁₀) ∷ (spelt tyBool, l₁₁) ∷ (machine, l₁₂) ∷ (spelt tyUnit, l₁₃) ∷ (ref-ty, l₁₄) ∷ (byte-ref, l₁₅) ∷ (lent-ty, l₁₆) ∷ (word, l₁₇) ∷ []
+      En = (scanned-ty, l₀) ∷ (number, l₁) ∷ (verdict-ty, l₂) ∷ (words-ty, l₃) ∷ (row-ty, l₄) ∷ (table-ty, l₅) ∷ (number, l₆) ∷ (word, l₇) ∷ (machine, l₈) ∷ (place-ty, l₉) ∷ (word, l₁₀) ∷ (machine, l₁₁) ∷ (spelt tyBool, l₁₂) ∷ (machine, l₁₃) ∷ (spelt tyUnit, l₁₄) ∷ (ref-ty, l₁₅) ∷ (byte-ref, l₁₆) ∷ (lent-ty, l₁₇) ∷ (word, l₁₈) ∷ []
 
       abbrev At : Upto → List (Item 𝓤)
-      At i = ‵ (froom word l₁₇ 0) ∷ ‵ (fdies word l₁₇) ∷ ‵ (froom lent-ty l₁₆ 0) ∷ ‵ (fdies lent-ty l₁₆) ∷ ‵ (froom byte-ref l₁₅ 0) ∷ ‵ (fdies byte-ref l₁₅) ∷ ‵ (froom ref-ty l₁₄ 0) ∷ ‵ (fdies ref-ty l₁₄) ∷ ‵ (froom (spelt tyUnit) l₁₃ 0) ∷ ‵ (fdies (spelt tyUnit) l₁₃) ∷ ‵ (froom machine l₁₂ 0) ∷ ‵ (fdies machine l₁₂)
-          ∷ ‵ (froom (spelt tyBool) l₁₁ 0) ∷ ‵ (fdies (spelt tyBool) l₁₁) ∷ ‵ (froom machine l₁₀ 0) ∷ ‵ (fdies machine l₁₀) ∷ ‵ (froom word l₉ 0) ∷ ‵ (fdies word l₉) ∷ ‵ (fat fullShare place-ty l₈ 0 (P′.lowered (i .place))) ∷ ‵ (fdies place-ty l₈) ∷ ‵ (fat fullShare machine l₇ 0 (N′.lowered (i .m))) ∷ ‵ (fdies machine l₇) ∷ ‵ (fat fullShare word l₆ 0 (vint w64 end)) ∷ ‵ (fdies word l₆)
-          ∷ ‵ (fat fullShare number l₅ 0 (vint w32 w)) ∷ ‵ (fdies number l₅) ∷ ‵ (fat fullShare table-ty l₄ 0 (st ts)) ∷ ‵ (fdies table-ty l₄) ∷ ‵ (fat fullShare row-ty l₃ 0 sr) ∷ ‵ (fdies row-ty l₃) ∷ ‵ (fat fullShare words-ty l₂ 0 sw) ∷ ‵ (fdies words-ty l₂) ∷ ‵ (fat fullShare verdict-ty l₁ 0 v₁) ∷ ‵ (fdies verdict-ty l₁) ∷ ‵ (froom scanned-ty l₀ 0) ∷ ‵ (fdies scanned-ty l₀)
+      At i = ‵ (froom word l₁₈ 0) ∷ ‵ (fdies word l₁₈) ∷ ‵ (froom lent-ty l₁₇ 0) ∷ ‵ (fdies lent-ty l₁₇) ∷ ‵ (froom byte-ref l₁₆ 0) ∷ ‵ (fdies byte-ref l₁₆) ∷ ‵ (froom ref-ty l₁₅ 0) ∷ ‵ (fdies ref-ty l₁₅) ∷ ‵ (froom (spelt tyUnit) l₁₄ 0) ∷ ‵ (fdies (spelt tyUnit) l₁₄) ∷ ‵ (froom machine l₁₃ 0) ∷ ‵ (fdies machine l₁₃)
+          ∷ ‵ (froom (spelt tyBool) l₁₂ 0) ∷ ‵ (fdies (spelt tyBool) l₁₂) ∷ ‵ (froom machine l₁₁ 0) ∷ ‵ (fdies machine l₁₁) ∷ ‵ (froom word l₁₀ 0) ∷ ‵ (fdies word l₁₀) ∷ ‵ (fat fullShare place-ty l₉ 0 (P′.lowered (i .place))) ∷ ‵ (fdies place-ty l₉) ∷ ‵ (fat fullShare machine l₈ 0 (N′.lowered (i .m))) ∷ ‵ (fdies machine l₈) ∷ ‵ (fat fullShare word l₇ 0 (vint w64 end)) ∷ ‵ (fdies word l₇)
+          ∷ ‵ (fat fullShare number l₆ 0 (vint w32 w)) ∷ ‵ (fdies number l₆) ∷ ‵ (fat fullShare table-ty l₅ 0 (st ts)) ∷ ‵ (fdies table-ty l₅) ∷ ‵ (fat fullShare row-ty l₄ 0 sr) ∷ ‵ (fdies row-ty l₄) ∷ ‵ (fat fullShare words-ty l₃ 0 sw) ∷ ‵ (fdies words-ty l₃) ∷ ‵ (fat fullShare verdict-ty l₂ 0 v₁) ∷ ‵ (fdies verdict-ty l₂) ∷ ‵ (fat fullShare number l₁ 0 (vint w32 vars)) ∷ ‵ (fdies number l₁) ∷ ‵ (froom scanned-ty l₀ 0) ∷ ‵ (fdies scanned-ty l₀)
           ∷ ‵ (flft κ₁ q₁) ∷ token-row ∷ ‵ (flft κ₃ q₃) ∷ ‵ Own-words ∷ ‵ Own-row ∷ ‵ (Own-table (i .t)) ∷ []
 
       -- the rest of the body, after the loop
@@ -437,10 +437,10 @@ module _ {M : Type 1} (𝓤 : URA M) (H : Heap 𝓤) (A : Atoms 𝓤) (W : Given
           use1 W (later (some (λ (r : ListScanned). (‵ ftrue ⊛ ‵ (S.the-row .own r (u ∷ []))) ⊛ raw (ensured 𝓤 H A answer.ended (answer.clauses 𝓤 H A at-mem run) tt (v, (i .m, (k, tt))) tt r)))) (id⊢ 𝓤 _) $ await ! tt $ pick ! (λ r.
           split ! $ move ! (1 ∷ []) $ use1 W (raw (fact 𝓤 (r ≡ answered v (i .m) k))) (said-answer 𝓤 H A at-mem run v (i .m) k r) $ heard ! (r ≡ answered v (i .m) k) (λ e. split ! $ drop ! $
           rewrite ! 0 (λ (z : ListScanned). ‵ (S.the-row .own z (u ∷ []))) e refl $ facts ! S.the-row (Is S.the-row) (shows 𝓤 H A S.the-row) (answered v (i .m) k) (u ∷ []) (λ is.
-          land ! (from ! (stop !)) (init ! 34 refl (typed-scanned (answered v (i .m) k) u is)) $
-          returns ! (look ! 34 refl) $ forget ! 14 refl $ forget ! 16 refl $ forget ! 18 refl $ forget ! 20 refl $ forget ! 22 refl $ forget ! 24 refl $ forget ! 26 refl $ forget ! 28 refl $ forget ! 30 refl $ forget ! 32 refl $ forget ! 34 refl $
-          move ! (34 ∷ 35 ∷ []) $ free1 ! $ move ! (32 ∷ 33 ∷ []) $ free1 ! $ move ! (30 ∷ 31 ∷ []) $ free1 ! $ move ! (28 ∷ 29 ∷ []) $ free1 ! $ move ! (26 ∷ 27 ∷ []) $ free1 ! $ move ! (24 ∷ 25 ∷ []) $ free1 ! $ move ! (22 ∷ 23 ∷ []) $ free1 ! $ move ! (20 ∷ 21 ∷ []) $ free1 ! $ move ! (18 ∷ 19 ∷ []) $ free1 ! $ move ! (16 ∷ 17 ∷ []) $ free1 ! $ move ! (14 ∷ 15 ∷ []) $ free1 ! $ move ! (12 ∷ 13 ∷ []) $ free1 ! $ move ! (10 ∷ 11 ∷ []) $ free1 ! $ move ! (8 ∷ 9 ∷ []) $ free1 ! $ move ! (6 ∷ 7 ∷ []) $ free1 ! $ move ! (4 ∷ 5 ∷ []) $ free1 ! $ move ! (2 ∷ 3 ∷ []) $ free1 ! $ free1 ! $ free0 ! $
-          by ! (exits i (answered v (i .m) k) u is (going-ends v ws (recordsOf ys) ts w (i .t) (i .m) (i .place) end (i .stands) (off (On i) over)))))))
+          land ! (from ! (stop !)) (init ! 36 refl (typed-scanned (answered v (i .m) k) u is)) $
+          returns ! (look ! 36 refl) $ forget ! 14 refl $ forget ! 16 refl $ forget ! 18 refl $ forget ! 20 refl $ forget ! 22 refl $ forget ! 24 refl $ forget ! 26 refl $ forget ! 28 refl $ forget ! 30 refl $ forget ! 32 refl $ forget ! 34 refl $ forget ! 36 refl $
+          move ! (36 ∷ 37 ∷ []) $ free1 ! $ move ! (34 ∷ 35 ∷ []) $ free1 ! $ move ! (32 ∷ 33 ∷ []) $ free1 ! $ move ! (30 ∷ 31 ∷ []) $ free1 ! $ move ! (28 ∷ 29 ∷ []) $ free1 ! $ move ! (26 ∷ 27 ∷ []) $ free1 ! $ move ! (24 ∷ 25 ∷ []) $ free1 ! $ move ! (22 ∷ 23 ∷ []) $ free1 ! $ move ! (20 ∷ 21 ∷ []) $ free1 ! $ move ! (18 ∷ 19 ∷ []) $ free1 ! $ move ! (16 ∷ 17 ∷ []) $ free1 ! $ move ! (14 ∷ 15 ∷ []) $ free1 ! $ move ! (12 ∷ 13 ∷ []) $ free1 ! $ move ! (10 ∷ 11 ∷ []) $ free1 ! $ move ! (8 ∷ 9 ∷ []) $ free1 ! $ move ! (6 ∷ 7 ∷ []) $ free1 ! $ move ! (4 ∷ 5 ∷ []) $ free1 ! $ move ! (2 ∷ 3 ∷ []) $ free1 ! $ free1 ! $ free0 ! $
+          by ! (exits i (answered v (i .m) k) u is (going-ends vars v ws (recordsOf ys) ts w (i .t) (i .m) (i .place) end (i .stands) (off (On i) over)))))))
 
       abbrev Turned : Upto → Out → SProp 𝓤
       Turned i = afterTurn 𝓤 H (Below 𝓤 H A Nearer At i) (afterBlock 𝓤 H (afterSeq 𝓤 H (Wp 𝓤 H C Λ En parts.t-7 (atReturn 𝓤 H En Post)) (atReturn 𝓤 H En Post)))
@@ -448,7 +448,7 @@ module _ {M : Type 1} (𝓤 : URA M) (H : Heap 𝓤) (A : Atoms 𝓤) (W : Given
       turns : (i : Upto) → Sq W (At i) (runs C Λ En parts.turn-1 (anyQ (Turned i)))
       unfolding afterTurn after
       turns i =
-          -- [room for _17, the index; …; room for _16, the lent slice; …; room for _15; …; room for _14, the lent machine; …; room for _13; …; room for _12; …; room for _11, the test; …; room for _10; …; room for _9; …; _8, place; …; _7, m; …; _6, end; …; _5, watchdog; …; _4, table; …; _3, row; …; _2, code; …; _1, verdict; …; room for _0; …; κ₁; the row's token; κ₃; the words; the row; the table]
+          -- [room for _18, the index; …; room for _17, the lent slice; …; room for _16; …; room for _15, the lent machine; …; room for _14; …; room for _13; …; room for _12, the test; …; room for _11; …; room for _10; …; _9, place; …; _8, m; …; _7, end; …; _6, watchdog; …; _5, table; …; _4, row; …; _3, code; …; _2, verdict; …; _1, vars; …; room for _0; …; κ₁; the row's token; κ₃; the words; the row; the table]
           assigns ! (of-opd ! (load ! (from ! (stop !)) (look ! 20 refl))) (from ! (stop !)) (init ! 10 refl (typed (i .m) _ (i .is))) $
           -- `runs_on`
           use0 W (raw (RunsOn 𝓤 H A at-mem run .pre (to-on i))) (goes-on i end-fits) $
@@ -456,7 +456,7 @@ module _ {M : Type 1} (𝓤 : URA M) (H : Heap 𝓤) (A : Atoms 𝓤) (W : Given
           use1 W (later (some (λ (r : Bool). (‵ ftrue ⊛ ‵ (bool .own r (v₀ ∷ []))) ⊛ raw (ensured 𝓤 H A runs-on.ended (runs-on.clauses 𝓤 H A at-mem run) tt (i .m, (end, (w, tt))) tt r)))) (id⊢ 𝓤 _) $ await ! tt $ pick ! (λ r₀.
           split ! $ move ! (1 ∷ []) $ use1 W (raw (fact 𝓤 (r₀ ≡ On i))) (said-on 𝓤 H A at-mem run (i .m) end w r₀) $ heard ! (r₀ ≡ On i) (λ e₀. split ! $ drop ! $
           rewrite ! 0 (λ (z : Bool). ‵ (bool .own z (v₀ ∷ []))) e₀ refl $ facts ! bool (Is bool) (shows 𝓤 H A bool) (On i) (v₀ ∷ []) (λ is₀.
-          land ! (from ! (stop !)) (init ! 12 refl (bool-lawful 𝓤 H A W .typed (On i) _ is₀ .0)) $ rewrite ! 12 (λ (z : Val). ‵ (fat fullShare (spelt tyBool) l₁₁ 0 z)) (ap only is₀) refl $
+          land ! (from ! (stop !)) (init ! 12 refl (bool-lawful 𝓤 H A W .typed (On i) _ is₀ .0)) $ rewrite ! 12 (λ (z : Val). ‵ (fat fullShare (spelt tyBool) l₁₂ 0 z)) (ap only is₀) refl $
           first ! $ branches ! (load ! (from ! (stop !)) (look ! 12 refl))
           (λ yes. skips ! $ exec ! C Λ En more (anyQ (Turned i)) $
           assigns ! (addr ! (from ! (stop !))) (from ! (stop !)) (init ! 6 refl (tt, tt)) $
@@ -464,98 +464,98 @@ module _ {M : Type 1} (𝓤 : URA M) (H : Heap 𝓤) (A : Atoms 𝓤) (W : Given
           assigns ! (agg ! (and-then ! (load ! (from ! (stop !)) (look ! 4 refl)) (and-then ! (load ! (from ! (fld ! refl (stop !))) (look-in ! 26 (sub ! 1 refl (whole !)))) (no-more !)))) (from ! (stop !)) (init ! 2 refl (tt, (tt, (record { fits = room-t .0 }, tt)))) $
           -- the local is lent for ν
           move ! (20 ∷ []) $ owned ! N.the-row (Is N.the-row) (LL.makes N.the-type N′.the-plain 𝓤 H A) (i .m) _ (i .is) $ move ! (1 ∷ 0 ∷ []) $
-          use2 W (‵ (mem N.the-row .lies (i .m) l₇ 0)) (part-in 𝓤 H A W N.the-row refl fullShare (i .m) l₇ 0 (N′.lowered (i .m))) $ lft-new ! tt (λ ν. move ! (1 ∷ []) $
-          use1 W (later (some (λ (δ : GName). ‵ (MutRef (named 0) (ν ∷ []) N.the-row .own (record { ptr = (l₇, 0); name = δ; now = i .m }) (vptr l₇ 0 ∷ [])) ⊛ ‵ (flent (ν ∷ []) (Body (mem N.the-row) l₇ 0 δ))))) (lends-ref 𝓤 H A W N.the-row (named 0) (ν ∷ []) (i .m) l₇ 0) $ await ! tt $ pick ! (λ δ. split ! $
+          use2 W (‵ (mem N.the-row .lies (i .m) l₈ 0)) (part-in 𝓤 H A W N.the-row refl fullShare (i .m) l₈ 0 (N′.lowered (i .m))) $ lft-new ! tt (λ ν. move ! (1 ∷ []) $
+          use1 W (later (some (λ (δ : GName). ‵ (MutRef (named 0) (ν ∷ []) N.the-row .own (record { ptr = (l₈, 0); name = δ; now = i .m }) (vptr l₈ 0 ∷ [])) ⊛ ‵ (flent (ν ∷ []) (Body (mem N.the-row) l₈ 0 δ))))) (lends-ref 𝓤 H A W N.the-row (named 0) (ν ∷ []) (i .m) l₈ 0) $ await ! tt $ pick ! (λ δ. split ! $
           -- the table is lent again for μ
-          lft-new ! tt (λ μ. move ! (44 ∷ 41 ∷ []) $
+          lft-new ! tt (λ μ. move ! (46 ∷ 43 ∷ []) $
           use2 W (later (some (λ (ε : GName). ‵ (MutSlice (named 2) (μ ∷ []) u8 .own (at-list ε (i .t)) (st (i .t) ∷ [])) ⊛ ‵ (LentAgain u8 κ₃ (μ ∷ []) q₃ γ b o ε (i .t))))) (lends-again u8 κ₃ (μ ∷ []) q₃ γ b o 𝓤 H A W (named 2) (named 2) (i .t)) $ await ! tt $ pick ! (λ ε. split ! $
           rewrite ! 0 (λ (j : ℕ). ‵ (MutSlice (named 2) (μ ∷ []) u8 .own (at-list ε (i .t)) (sliceVal (b, o) j ∷ []))) (i .stands .long) refl $
-          move ! (43 ∷ []) $ use1 W (‵ Own-words ⊛ ‵ Own-words) (shr-slice-copy 𝓤 H A W (named 0) κ₁ u32 .twice words (sw ∷ [])) $ split ! $
-          move ! (7 ∷ 43 ∷ 4 ∷ 5 ∷ 0 ∷ 2 ∷ []) $ nothing ! $ move ! (3 ∷ 0 ∷ []) $ join ! $ move ! (2 ∷ 0 ∷ []) $ join ! $ move ! (1 ∷ 0 ∷ []) $ join ! $
-          nothing ! $ move ! (4 ∷ 0 ∷ []) $ fjoin ! $ owned ! u32 (Is u32) (uint-makes 𝓤 H A W w32) (i .place .entered) _ (refl, entered-fits (i .place) (i .is-place)) $ fjoin ! $ move ! (3 ∷ 0 ∷ []) $ fjoin ! $ move ! (2 ∷ 0 ∷ []) $ fjoin ! $ move ! (1 ∷ 0 ∷ []) $
-          use2 W (raw (Step 𝓤 H A at-mem run .pre (to-step i l₇ ν μ δ ε))) (goes-step i l₇ ν μ δ ε yes) $
+          move ! (45 ∷ []) $ use1 W (‵ Own-words ⊛ ‵ Own-words) (shr-slice-copy 𝓤 H A W (named 0) κ₁ u32 .twice words (sw ∷ [])) $ split ! $
+          move ! (7 ∷ 45 ∷ 4 ∷ 5 ∷ 0 ∷ 2 ∷ []) $ nothing ! $ move ! (3 ∷ 0 ∷ []) $ join ! $ move ! (2 ∷ 0 ∷ []) $ join ! $ move ! (1 ∷ 0 ∷ []) $ join ! $
+          nothing ! $ move ! (4 ∷ 0 ∷ []) $ fjoin ! $ owned ! u32 (Is u32) (uint-makes 𝓤 H A W w32) (i .place .entered) _ (refl, entered-fits (i .place) (i .is-place)) $ fjoin ! $ move ! (3 ∷ 0 ∷ []) $ fjoin ! $ move ! (2 ∷ 0 ∷ []) $ fjoin ! $ owned ! u32 (Is u32) (uint-makes 𝓤 H A W w32) vars _ (refl, vars-fits) $ fjoin ! $ move ! (1 ∷ 0 ∷ []) $
+          use2 W (raw (Step 𝓤 H A at-mem run .pre (to-step i l₈ ν μ δ ε))) (goes-step i l₈ ν μ δ ε yes) $
           -- `step`
-          calls-at ! fm (Step 𝓤 H A at-mem run) known-step (to-step i l₇ ν μ δ ε) (and-then ! (load ! (from ! (stop !)) (look ! 10 refl)) (and-then ! (load ! (from ! (stop !)) (look ! 33 refl)) (and-then ! (load ! (from ! (fld ! refl (stop !))) (look-in ! 22 (sub ! 2 refl (whole !)))) (and-then ! (load ! (from ! (stop !)) (look ! 6 refl)) (no-more !))))) (λ u₀.
-          use1 W (later (some (λ (z : Unit {0}). (tokens i l₇ ν μ δ ε ⊛ ‵ (unit .own z (u₀ ∷ []))) ⊛ raw (ensured 𝓤 H A step.ended (step.clauses 𝓤 H A at-mem run) (ν ∷ [], (κ₁, (μ ∷ [], tt))) (passed i l₇ ν μ δ ε) tt z)))) (id⊢ 𝓤 _) $ await ! tt $ pick ! (λ z.
-          split ! $ move ! (1 ∷ []) $ use1 W (some (λ (zs : Machine × (Unit {0} × (Unit {0} × (List ℕ × Unit {0})))). ‵ (lasts step.ended (ν ∷ [], (κ₁, (μ ∷ [], tt))) (passed i l₇ ν μ δ ε) zs) ⊛ raw (fact 𝓤 (Said i (zs .0) (zs .1 .1 .1 .0))))) (id⊢ 𝓤 _) $ pick ! (λ zs.
-          split ! $ move ! (1 ∷ []) $ heard ! (Said i (zs .0) (zs .1 .1 .1 .0)) (λ e. fsplit ! $ move ! (1 ∷ []) $ fsplit ! $ drop ! $ fsplit ! $ drop ! $ fsplit ! $ fsplit ! $ move ! (1 ∷ []) $ feqL ! (λ len.
+          calls-at ! fm (Step 𝓤 H A at-mem run) known-step (to-step i l₈ ν μ δ ε) (and-then ! (load ! (from ! (stop !)) (look ! 37 refl)) (and-then ! (load ! (from ! (stop !)) (look ! 10 refl)) (and-then ! (load ! (from ! (stop !)) (look ! 33 refl)) (and-then ! (load ! (from ! (fld ! refl (stop !))) (look-in ! 22 (sub ! 2 refl (whole !)))) (and-then ! (load ! (from ! (stop !)) (look ! 6 refl)) (no-more !)))))) (λ u₀.
+          use1 W (later (some (λ (z : Unit {0}). (tokens i l₈ ν μ δ ε ⊛ ‵ (unit .own z (u₀ ∷ []))) ⊛ raw (ensured 𝓤 H A step.ended (step.clauses 𝓤 H A at-mem run) (ν ∷ [], (κ₁, (μ ∷ [], tt))) (passed i l₈ ν μ δ ε) tt z)))) (id⊢ 𝓤 _) $ await ! tt $ pick ! (λ z.
+          split ! $ move ! (1 ∷ []) $ use1 W (some (λ (zs : Unit {0} × (Machine × (Unit {0} × (Unit {0} × (List ℕ × Unit {0}))))). ‵ (lasts step.ended (ν ∷ [], (κ₁, (μ ∷ [], tt))) (passed i l₈ ν μ δ ε) zs) ⊛ raw (fact 𝓤 (Said i (zs .1 .0) (zs .1 .1 .1 .1 .0))))) (id⊢ 𝓤 _) $ pick ! (λ zs.
+          split ! $ move ! (1 ∷ []) $ heard ! (Said i (zs .1 .0) (zs .1 .1 .1 .1 .0)) (λ e. fsplit ! $ drop ! $ fsplit ! $ move ! (1 ∷ []) $ fsplit ! $ drop ! $ fsplit ! $ drop ! $ fsplit ! $ fsplit ! $ move ! (1 ∷ []) $ feqL ! (λ len.
           move ! (3 ∷ []) $ split ! $ move ! (1 ∷ []) $ facts ! unit (Is unit) (shows 𝓤 H A unit) z (u₀ ∷ []) (λ is.
           split ! $ move ! (1 ∷ []) $ split ! $ move ! (1 ∷ []) $ split ! $ lft-end ! tt $ move ! (0 ∷ 8 ∷ 4 ∷ []) $
-          use3 W (later (‵ (MutSlice (named 2) κ₃ u8 .own (at-list γ (zs .1 .1 .1 .0)) (st (i .t) ∷ [])) ⊛ ‵ (flft κ₃ q₃))) (comes-back u8 κ₃ (μ ∷ []) q₃ γ b o 𝓤 H A W (named 2) (named 2) (i .t) ε (zs .1 .1 .1 .0) (subst (Room u8) (sym (i .stands .long)) room-t) len) $ await ! tt $ split ! $
-          move ! (4 ∷ []) $ lft-end ! tt $ move ! (0 ∷ 8 ∷ 6 ∷ []) $ use3 W (later (‵ (mem N.the-row .lies (zs .0) l₇ 0))) (ref-back 𝓤 H A W N.the-row (ν ∷ []) δ (zs .0) l₇ 0) $ await ! tt $
-          use1 W (some (λ (u : Val). ‵ (fat fullShare machine l₇ 0 u) ⊛ ‵ (N.the-row .own (zs .0) (u ∷ [])))) (part-out 𝓤 H A W N.the-row refl fullShare (zs .0) l₇ 0) $ pick ! (λ u. split ! $
-          move ! (1 ∷ []) $ facts ! N.the-row (Is N.the-row) (shows 𝓤 H A N.the-row) (zs .0) (u ∷ []) (λ is′.
-          -- [m's cell; the table; κ₃; true; κ₁; true; the words; _17; …; …; _8; …; …; _6; …; room for _0; …; the row's token; the row]
-          rewrite ! 0 (λ (y : Val). ‵ (fat fullShare machine l₇ 0 y)) (spelled (zs .0) u is′) refl $
-          rewrite ! 1 (λ (j : ℕ). ‵ (MutSlice (named 2) κ₃ u8 .own (at-list γ (zs .1 .1 .1 .0)) (sliceVal (b, o) j ∷ []))) (sym len) refl $
+          use3 W (later (‵ (MutSlice (named 2) κ₃ u8 .own (at-list γ (zs .1 .1 .1 .1 .0)) (st (i .t) ∷ [])) ⊛ ‵ (flft κ₃ q₃))) (comes-back u8 κ₃ (μ ∷ []) q₃ γ b o 𝓤 H A W (named 2) (named 2) (i .t) ε (zs .1 .1 .1 .1 .0) (subst (Room u8) (sym (i .stands .long)) room-t) len) $ await ! tt $ split ! $
+          move ! (4 ∷ []) $ lft-end ! tt $ move ! (0 ∷ 8 ∷ 6 ∷ []) $ use3 W (later (‵ (mem N.the-row .lies (zs .1 .0) l₈ 0))) (ref-back 𝓤 H A W N.the-row (ν ∷ []) δ (zs .1 .0) l₈ 0) $ await ! tt $
+          use1 W (some (λ (u : Val). ‵ (fat fullShare machine l₈ 0 u) ⊛ ‵ (N.the-row .own (zs .1 .0) (u ∷ [])))) (part-out 𝓤 H A W N.the-row refl fullShare (zs .1 .0) l₈ 0) $ pick ! (λ u. split ! $
+          move ! (1 ∷ []) $ facts ! N.the-row (Is N.the-row) (shows 𝓤 H A N.the-row) (zs .1 .0) (u ∷ []) (λ is′.
+          -- [m's cell; the table; κ₃; true; κ₁; true; the words; _18; …; …; _9; …; …; _7; …; room for _0; …; the row's token; the row]
+          rewrite ! 0 (λ (y : Val). ‵ (fat fullShare machine l₈ 0 y)) (spelled (zs .1 .0) u is′) refl $
+          rewrite ! 1 (λ (j : ℕ). ‵ (MutSlice (named 2) κ₃ u8 .own (at-list γ (zs .1 .1 .1 .1 .0)) (sliceVal (b, o) j ∷ []))) (sym len) refl $
           land ! (from ! (stop !)) (init ! 15 refl (nothing-lawful 𝓤 H A W .typed z _ is .0)) $
-          assigns ! (of-opd ! (load ! (from ! (fld ! refl (stop !))) (look-in ! 0 (sub ! 1 refl (whole !))))) (from ! (stop !)) (init ! 7 refl (tt, record { fits = index-fits (zs .0) (good (zs .0) u is′) })) $
+          assigns ! (of-opd ! (load ! (from ! (fld ! refl (stop !))) (look-in ! 0 (sub ! 1 refl (whole !))))) (from ! (stop !)) (init ! 7 refl (tt, record { fits = index-fits (zs .1 .0) (good (zs .1 .0) u is′) })) $
           -- `follow`, the turn's last statement
-          move ! (43 ∷ []) $ use1 W (‵ Own-row ⊛ ‵ Own-row) (shr-slice-copy 𝓤 H A W (named 1) κ₂ T.the-row .twice row (sr ∷ [])) $ split ! $ move ! (44 ∷ 0 ∷ []) $
-          use2 W (raw (Follow 𝓤 H A at-mem run .pre (to-follow i (zs .0) (good (zs .0) u is′)))) (goes-follow i (zs .0) (good (zs .0) u is′) yes) $
-          calls-at-last ! fm (Follow 𝓤 H A at-mem run) known-follow (to-follow i (zs .0) (good (zs .0) u is′)) (and-then ! (load ! (from ! (stop !)) (look ! 36 refl)) (and-then ! (load ! (from ! (stop !)) (look ! 27 refl)) (and-then ! (load ! (from ! (stop !)) (look ! 9 refl)) (no-more !)))) (λ u₁.
-          use1 W (later (some (λ (s : RowPlace). (token-row ⊛ ‵ (P.the-row .own s (u₁ ∷ []))) ⊛ raw (ensured 𝓤 H A follow.ended (follow.clauses 𝓤 H A at-mem run) (κ₂, tt) (row, (i .place, (zs .0 .index, tt))) tt s)))) (id⊢ 𝓤 _) $ await ! tt $ pick ! (λ s.
-          split ! $ move ! (1 ∷ []) $ use1 W (raw (fact 𝓤 (RowFollowed (recordsOf ys) (i .place) (zs .0 .index) s))) (said-follow 𝓤 H A at-mem run κ₂ row (i .place) (zs .0 .index) s) $ heard ! (RowFollowed (recordsOf ys) (i .place) (zs .0 .index) s) (λ f. split ! $
+          move ! (45 ∷ []) $ use1 W (‵ Own-row ⊛ ‵ Own-row) (shr-slice-copy 𝓤 H A W (named 1) κ₂ T.the-row .twice row (sr ∷ [])) $ split ! $ move ! (46 ∷ 0 ∷ []) $
+          use2 W (raw (Follow 𝓤 H A at-mem run .pre (to-follow i (zs .1 .0) (good (zs .1 .0) u is′)))) (goes-follow i (zs .1 .0) (good (zs .1 .0) u is′) yes) $
+          calls-at-last ! fm (Follow 𝓤 H A at-mem run) known-follow (to-follow i (zs .1 .0) (good (zs .1 .0) u is′)) (and-then ! (load ! (from ! (stop !)) (look ! 36 refl)) (and-then ! (load ! (from ! (stop !)) (look ! 27 refl)) (and-then ! (load ! (from ! (stop !)) (look ! 9 refl)) (no-more !)))) (λ u₁.
+          use1 W (later (some (λ (s : RowPlace). (token-row ⊛ ‵ (P.the-row .own s (u₁ ∷ []))) ⊛ raw (ensured 𝓤 H A follow.ended (follow.clauses 𝓤 H A at-mem run) (κ₂, tt) (row, (i .place, (zs .1 .0 .index, tt))) tt s)))) (id⊢ 𝓤 _) $ await ! tt $ pick ! (λ s.
+          split ! $ move ! (1 ∷ []) $ use1 W (raw (fact 𝓤 (RowFollowed (recordsOf ys) (i .place) (zs .1 .0 .index) s))) (said-follow 𝓤 H A at-mem run κ₂ row (i .place) (zs .1 .0 .index) s) $ heard ! (RowFollowed (recordsOf ys) (i .place) (zs .1 .0 .index) s) (λ f. split ! $
           move ! (1 ∷ []) $ facts ! P.the-row (Is P.the-row) (shows 𝓤 H A P.the-row) s (u₁ ∷ []) (λ is₁.
-          -- [the row's token; the row; m's cell; the table; κ₃; true; κ₁; true; the words; _17; …; …; _8; …; …; _6; …; room for _0; …]
-          land-last ! (from ! (stop !)) (store ! 27 refl (typed-place s u₁ is₁)) $ rewrite ! 27 (λ (y : Val). ‵ (fat fullShare place-ty l₈ 0 y)) (spelled-place s u₁ is₁) refl $
+          -- [the row's token; the row; m's cell; the table; κ₃; true; κ₁; true; the words; _18; …; …; _9; …; …; _7; …; room for _0; …]
+          land-last ! (from ! (stop !)) (store ! 27 refl (typed-place s u₁ is₁)) $ rewrite ! 27 (λ (y : Val). ‵ (fat fullShare place-ty l₉ 0 y)) (spelled-place s u₁ is₁) refl $
           forget ! 9 refl $ forget ! 11 refl $ forget ! 13 refl $ forget ! 15 refl $ forget ! 17 refl $ forget ! 19 refl $ forget ! 21 refl $
-          keep ! (9 ∷ 10 ∷ 11 ∷ 12 ∷ 13 ∷ 14 ∷ 15 ∷ 16 ∷ 17 ∷ 18 ∷ 19 ∷ 20 ∷ 21 ∷ 22 ∷ 23 ∷ 24 ∷ 25 ∷ 26 ∷ 27 ∷ 28 ∷ 2 ∷ 29 ∷ 30 ∷ 31 ∷ 32 ∷ 33 ∷ 34 ∷ 35 ∷ 36 ∷ 37 ∷ 38 ∷ 39 ∷ 40 ∷ 41 ∷ 42 ∷ 43 ∷ 6 ∷ 0 ∷ 4 ∷ 8 ∷ 1 ∷ 3 ∷ []) $
-          again ! Nearer At i (after i yes (zs .0) (zs .1 .1 .1 .0) e len s f (good (zs .0) u is′) (good-place s u₁ is₁)) (going-less v ws (recordsOf ys) ts w (i .t) (i .m) (i .place) end (i .stands) (on (On i) yes) (zs .0) (zs .1 .1 .1 .0) e))))))))))))))))))
+          keep ! (9 ∷ 10 ∷ 11 ∷ 12 ∷ 13 ∷ 14 ∷ 15 ∷ 16 ∷ 17 ∷ 18 ∷ 19 ∷ 20 ∷ 21 ∷ 22 ∷ 23 ∷ 24 ∷ 25 ∷ 26 ∷ 27 ∷ 28 ∷ 2 ∷ 29 ∷ 30 ∷ 31 ∷ 32 ∷ 33 ∷ 34 ∷ 35 ∷ 36 ∷ 37 ∷ 38 ∷ 39 ∷ 40 ∷ 41 ∷ 42 ∷ 43 ∷ 44 ∷ 45 ∷ 6 ∷ 0 ∷ 4 ∷ 8 ∷ 1 ∷ 3 ∷ []) $
+          again ! Nearer At i (after i yes (zs .1 .0) (zs .1 .1 .1 .1 .0) e len s f (good (zs .1 .0) u is′) (good-place s u₁ is₁)) (going-less vars v ws (recordsOf ys) ts w (i .t) (i .m) (i .place) end (i .stands) (on (On i) yes) (zs .1 .0) (zs .1 .1 .1 .1 .0) e))))))))))))))))))
           (λ over. jumps ! $ exec ! C Λ En parts.t-7 (atRet En Post) $ forget ! 10 refl $ forget ! 12 refl $ by ! (ends i over))))))
 
     begin : Is N.the-row firstMachine (N′.lowered firstMachine ∷ []) → Is P.the-row firstRowPlace (P′.lowered firstRowPlace ∷ []) → Upto
-    begin is is′ = record { m = firstMachine; place = firstRowPlace; t = ts; is = is; is-place = is′; stands = going-first v ws (recordsOf ys) ts w ready firstMachine refl firstRowPlace refl end refl }
+    begin is is′ = record { m = firstMachine; place = firstRowPlace; t = ts; is = is; is-place = is′; stands = going-first vars v ws (recordsOf ys) ts w ready firstMachine refl firstRowPlace refl end refl }
 
   module _ (𝓣 : Tables 𝓤 H)
       (known-end-of : Triple 𝓤 (𝓣 .C #list-rows·end-of) (EndOf 𝓤 H A at-mem run)) (known-first-machine : Triple 𝓤 (𝓣 .C #list-machine·first-machine) (FirstMachine 𝓤 H A at-mem run)) (known-first-place : Triple 𝓤 (𝓣 .C #list-rows·first-place) (FirstPlace 𝓤 H A at-mem run)) (known-runs-on : Triple 𝓤 (𝓣 .C #list-machine·runs-on) (RunsOn 𝓤 H A at-mem run))
       (known-step : Triple 𝓤 (𝓣 .C #list-machine·step) (Step 𝓤 H A at-mem run)) (known-follow : Triple 𝓤 (𝓣 .C #list-rows·follow) (Follow 𝓤 H A at-mem run)) (known-answer : Triple 𝓤 (𝓣 .C #list-rows·answer) (Answer 𝓤 H A at-mem run)) where
-    walk : ent 𝓤 (onEntry 𝓤 H A run′.signature (κ₁, (κ₂, (κ₃, tt))) (q₁, (q₂, (q₃, tt))) x at) (WpFn 𝓤 H (𝓣 .C) (𝓣 .Λ) code.function (v₁ ∷ sw ∷ sr ∷ st ts ∷ vint w32 w ∷ []) Post)
+    walk : ent 𝓤 (onEntry 𝓤 H A run′.signature (κ₁, (κ₂, (κ₃, tt))) (q₁, (q₂, (q₃, tt))) x at) (WpFn 𝓤 H (𝓣 .C) (𝓣 .Λ) code.function (vint w32 vars ∷ v₁ ∷ sw ∷ sr ∷ st ts ∷ vint w32 w ∷ []) Post)
     unfolding begin
     walk =
-        qed W ((‵ (flft κ₁ q₁) ⊛ (‵ (flft κ₂ q₂) ⊛ (‵ (flft κ₃ q₃) ⊛ ‵ ftrue))) ∷ ‵ (owns (Q.the-row ∷ ShrSlice (named 0) κ₁ u32 ∷ ShrSlice (named 1) κ₂ T.the-row ∷ MutSlice (named 2) κ₃ u8 ∷ u32 ∷ []) x at) ∷ []) ∵
-        split ! $ move ! (1 ∷ []) $ split ! $ move ! (1 ∷ []) $ split ! $ move ! (2 ∷ 1 ∷ []) $ join ! $ move ! (3 ∷ []) $ fsplit ! $ drop ! $ fsplit ! $ move ! (1 ∷ []) $ fsplit ! $ move ! (1 ∷ []) $ fsplit ! $
+        qed W ((‵ (flft κ₁ q₁) ⊛ (‵ (flft κ₂ q₂) ⊛ (‵ (flft κ₃ q₃) ⊛ ‵ ftrue))) ∷ ‵ (owns (u32 ∷ Q.the-row ∷ ShrSlice (named 0) κ₁ u32 ∷ ShrSlice (named 1) κ₂ T.the-row ∷ MutSlice (named 2) κ₃ u8 ∷ u32 ∷ []) x at) ∷ []) ∵
+        split ! $ move ! (1 ∷ []) $ split ! $ move ! (1 ∷ []) $ split ! $ move ! (2 ∷ 1 ∷ []) $ join ! $ move ! (3 ∷ []) $ fsplit ! $ drop ! $ fsplit ! $ drop ! $ fsplit ! $ move ! (1 ∷ []) $ fsplit ! $ move ! (1 ∷ []) $ fsplit ! $
         -- [the table; the watchdog's; the row; the words; the row's token; κ₃; κ₁]
-        move ! (6 ∷ 4 ∷ 5 ∷ 3 ∷ 2 ∷ 0 ∷ []) $ enter ! (𝓣 .C) (𝓣 .Λ) code.function (v₁ ∷ sw ∷ sr ∷ st ts ∷ vint w32 w ∷ []) _ $
-        alloc1 ! (λ l₀. alloc1 ! (λ l₁. alloc1 ! (λ l₂. alloc1 ! (λ l₃. alloc1 ! (λ l₄. alloc1 ! (λ l₅. alloc1 ! (λ l₆. alloc1 ! (λ l₇. alloc1 ! (λ l₈. alloc1 ! (λ l₉. alloc1 ! (λ l₁₀. alloc1 ! (λ l₁₁. alloc1 ! (λ l₁₂. alloc1 ! (λ l₁₃. alloc1 ! (λ l₁₄. alloc1 ! (λ l₁₅. alloc1 ! (λ l₁₆. alloc1 ! (λ l₁₇. alloc0 ! $ params1 ! $
-        pass1 ! (init ! 32 refl typed-verdict) $ pass1 ! (init ! 30 refl (tt, (tt, (record { fits = room-w .0 }, tt)))) $ pass1 ! (init ! 28 refl (tt, (tt, (record { fits = room-r .0 }, tt)))) $ pass1 ! (init ! 26 refl (tt, (tt, (record { fits = room-t .0 }, tt)))) $ pass1 ! (init ! 24 refl (tt, record { fits = w-fits })) $ pass0 ! $
-        -- [room for _17; …; room for _6; …; _5; …; _4; …; _3; …; _2; …; _1; …; room for _0; …; κ₁; the row's token; κ₃; the words; the row; the table; the watchdog's]
+        move ! (6 ∷ 4 ∷ 5 ∷ 3 ∷ 2 ∷ 0 ∷ []) $ enter ! (𝓣 .C) (𝓣 .Λ) code.function (vint w32 vars ∷ v₁ ∷ sw ∷ sr ∷ st ts ∷ vint w32 w ∷ []) _ $
+        alloc1 ! (λ l₀. alloc1 ! (λ l₁. alloc1 ! (λ l₂. alloc1 ! (λ l₃. alloc1 ! (λ l₄. alloc1 ! (λ l₅. alloc1 ! (λ l₆. alloc1 ! (λ l₇. alloc1 ! (λ l₈. alloc1 ! (λ l₉. alloc1 ! (λ l₁₀. alloc1 ! (λ l₁₁. alloc1 ! (λ l₁₂. alloc1 ! (λ l₁₃. alloc1 ! (λ l₁₄. alloc1 ! (λ l₁₅. alloc1 ! (λ l₁₆. alloc1 ! (λ l₁₇. alloc1 ! (λ l₁₈. alloc0 ! $ params1 ! $
+        pass1 ! (init ! 34 refl (tt, record { fits = vars-fits })) $ pass1 ! (init ! 32 refl typed-verdict) $ pass1 ! (init ! 30 refl (tt, (tt, (record { fits = room-w .0 }, tt)))) $ pass1 ! (init ! 28 refl (tt, (tt, (record { fits = room-r .0 }, tt)))) $ pass1 ! (init ! 26 refl (tt, (tt, (record { fits = room-t .0 }, tt)))) $ pass1 ! (init ! 24 refl (tt, record { fits = w-fits })) $ pass0 ! $
+        -- [room for _18; …; room for _7; …; _6; …; _5; …; _4; …; _3; …; _2; …; _1; …; room for _0; …; κ₁; the row's token; κ₃; the words; the row; the table; the watchdog's]
         assigns ! (of-opd ! (load ! (from ! (fld ! refl (stop !))) (look-in ! 30 (sub ! 1 refl (whole !))))) (from ! (stop !)) (init ! 16 refl (tt, record { fits = room-w .0 })) $
         -- `end_of`
         use0 W (raw (EndOf 𝓤 H A at-mem run .pre to-end)) goes-end $ calls-at ! (fmOf 𝓤 H (W .laws) 𝓣) (EndOf 𝓤 H A at-mem run) known-end-of to-end (and-then ! (load ! (from ! (stop !)) (look ! 33 refl)) (and-then ! (load ! (from ! (stop !)) (look ! 17 refl)) (no-more !))) (λ v₂.
         use1 W (later (some (λ (r : ℕ). (‵ ftrue ⊛ ‵ (usize .own r (v₂ ∷ []))) ⊛ raw (ensured 𝓤 H A end-of.ended (end-of.clauses 𝓤 H A at-mem run) tt (v, (k, tt)) tt r)))) (id⊢ 𝓤 _) $ await ! tt $ pick ! (λ r₂.
         split ! $ move ! (1 ∷ []) $ use1 W (raw (fact 𝓤 (r₂ ≡ end))) (said-end 𝓤 H A at-mem run v k r₂) $ heard ! (r₂ ≡ end) (λ e₂. split ! $ drop ! $
         rewrite ! 0 (λ (z : ℕ). ‵ (usize .own z (v₂ ∷ []))) e₂ refl $ facts ! usize (Is usize) (shows 𝓤 H A usize) end (v₂ ∷ []) (λ is₂.
-        land ! (from ! (stop !)) (init ! 22 refl (uint-lawful 𝓤 H A W w64 .typed end _ is₂ .0)) $ rewrite ! 22 (λ (z : Val). ‵ (fat fullShare word l₆ 0 z)) (ap only (is₂ .0)) refl $ forget ! 16 refl $
+        land ! (from ! (stop !)) (init ! 22 refl (uint-lawful 𝓤 H A W w64 .typed end _ is₂ .0)) $ rewrite ! 22 (λ (z : Val). ‵ (fat fullShare word l₇ 0 z)) (ap only (is₂ .0)) refl $ forget ! 16 refl $
         -- `first_machine`
         use0 W (raw (FirstMachine 𝓤 H A at-mem run .pre ((tt, tt, tt, tt, tt), tt))) goes-machine $ calls-at ! (fmOf 𝓤 H (W .laws) 𝓣) (FirstMachine 𝓤 H A at-mem run) known-first-machine ((tt, tt, tt, tt, tt), tt) (no-more !) (λ v₃.
         use1 W (later (some (λ (r : Machine). (‵ ftrue ⊛ ‵ (N.the-row .own r (v₃ ∷ []))) ⊛ raw (ensured 𝓤 H A first-machine.ended (first-machine.clauses 𝓤 H A at-mem run) tt tt tt r)))) (id⊢ 𝓤 _) $ await ! tt $ pick ! (λ r₃.
         split ! $ move ! (1 ∷ []) $ use1 W (raw (fact 𝓤 (r₃ ≡ firstMachine))) (said-machine 𝓤 H A at-mem run r₃) $ heard ! (r₃ ≡ firstMachine) (λ e₃. split ! $ drop ! $
         rewrite ! 0 (λ (z : Machine). ‵ (N.the-row .own z (v₃ ∷ []))) e₃ refl $ facts ! N.the-row (Is N.the-row) (shows 𝓤 H A N.the-row) firstMachine (v₃ ∷ []) (λ is₃.
         land ! (from ! (stop !)) (init ! 14 refl (typed firstMachine v₃ is₃)) $
-        assigns ! (of-opd ! (load ! (from ! (stop !)) (look ! 14 refl))) (from ! (stop !)) (init ! 20 refl (typed firstMachine v₃ is₃)) $ rewrite ! 20 (λ (z : Val). ‵ (fat fullShare machine l₇ 0 z)) (spelled firstMachine v₃ is₃) refl $ forget ! 14 refl $
+        assigns ! (of-opd ! (load ! (from ! (stop !)) (look ! 14 refl))) (from ! (stop !)) (init ! 20 refl (typed firstMachine v₃ is₃)) $ rewrite ! 20 (λ (z : Val). ‵ (fat fullShare machine l₈ 0 z)) (spelled firstMachine v₃ is₃) refl $ forget ! 14 refl $
         -- `first_place`
         use0 W (raw (FirstPlace 𝓤 H A at-mem run .pre ((tt, tt, tt, tt, tt), tt))) goes-place $ calls-at ! (fmOf 𝓤 H (W .laws) 𝓣) (FirstPlace 𝓤 H A at-mem run) known-first-place ((tt, tt, tt, tt, tt), tt) (no-more !) (λ v₄.
         use1 W (later (some (λ (r : RowPlace). (‵ ftrue ⊛ ‵ (P.the-row .own r (v₄ ∷ []))) ⊛ raw (ensured 𝓤 H A first-place.ended (first-place.clauses 𝓤 H A at-mem run) tt tt tt r)))) (id⊢ 𝓤 _) $ await ! tt $ pick ! (λ r₄.
         split ! $ move ! (1 ∷ []) $ use1 W (raw (fact 𝓤 (r₄ ≡ firstRowPlace))) (said-place 𝓤 H A at-mem run r₄) $ heard ! (r₄ ≡ firstRowPlace) (λ e₄. split ! $ drop ! $
         rewrite ! 0 (λ (z : RowPlace). ‵ (P.the-row .own z (v₄ ∷ []))) e₄ refl $ facts ! P.the-row (Is P.the-row) (shows 𝓤 H A P.the-row) firstRowPlace (v₄ ∷ []) (λ is₄.
-        land ! (from ! (stop !)) (init ! 18 refl (typed-place firstRowPlace v₄ is₄)) $ rewrite ! 18 (λ (z : Val). ‵ (fat fullShare place-ty l₈ 0 z)) (spelled-place firstRowPlace v₄ is₄) refl $
-        keep ! (0 ∷ 1 ∷ 2 ∷ 3 ∷ 4 ∷ 5 ∷ 6 ∷ 7 ∷ 8 ∷ 9 ∷ 10 ∷ 11 ∷ 12 ∷ 13 ∷ 14 ∷ 15 ∷ 16 ∷ 17 ∷ 18 ∷ 19 ∷ 20 ∷ 21 ∷ 22 ∷ 23 ∷ 24 ∷ 25 ∷ 26 ∷ 27 ∷ 28 ∷ 29 ∷ 30 ∷ 31 ∷ 32 ∷ 33 ∷ 34 ∷ 35 ∷ 36 ∷ 37 ∷ 38 ∷ 39 ∷ 40 ∷ 41 ∷ []) $
-        first ! $ blocks ! $ loops ! 𝓣 Nearer Nearer-wf (At (is₂ .1) 𝓣 known-end-of known-first-machine known-first-place known-runs-on known-step known-follow known-answer l₀ l₁ l₂ l₃ l₄ l₅ l₆ l₇ l₈ l₉ l₁₀ l₁₁ l₁₂ l₁₃ l₁₄ l₁₅ l₁₆ l₁₇) (turns (is₂ .1) 𝓣 known-end-of known-first-machine known-first-place known-runs-on known-step known-follow known-answer l₀ l₁ l₂ l₃ l₄ l₅ l₆ l₇ l₈ l₉ l₁₀ l₁₁ l₁₂ l₁₃ l₁₄ l₁₅ l₁₆ l₁₇) (begin (is₂ .1) 𝓣 known-end-of known-first-machine known-first-place known-runs-on known-step known-follow known-answer (good firstMachine v₃ is₃) (good-place firstRowPlace v₄ is₄))))))))))))))))))))))))))))))))
+        land ! (from ! (stop !)) (init ! 18 refl (typed-place firstRowPlace v₄ is₄)) $ rewrite ! 18 (λ (z : Val). ‵ (fat fullShare place-ty l₉ 0 z)) (spelled-place firstRowPlace v₄ is₄) refl $
+        keep ! (0 ∷ 1 ∷ 2 ∷ 3 ∷ 4 ∷ 5 ∷ 6 ∷ 7 ∷ 8 ∷ 9 ∷ 10 ∷ 11 ∷ 12 ∷ 13 ∷ 14 ∷ 15 ∷ 16 ∷ 17 ∷ 18 ∷ 19 ∷ 20 ∷ 21 ∷ 22 ∷ 23 ∷ 24 ∷ 25 ∷ 26 ∷ 27 ∷ 28 ∷ 29 ∷ 30 ∷ 31 ∷ 32 ∷ 33 ∷ 34 ∷ 35 ∷ 36 ∷ 37 ∷ 38 ∷ 39 ∷ 40 ∷ 41 ∷ 42 ∷ 43 ∷ []) $
+        first ! $ blocks ! $ loops ! 𝓣 Nearer Nearer-wf (At (is₂ .1) 𝓣 known-end-of known-first-machine known-first-place known-runs-on known-step known-follow known-answer l₀ l₁ l₂ l₃ l₄ l₅ l₆ l₇ l₈ l₉ l₁₀ l₁₁ l₁₂ l₁₃ l₁₄ l₁₅ l₁₆ l₁₇ l₁₈) (turns (is₂ .1) 𝓣 known-end-of known-first-machine known-first-place known-runs-on known-step known-follow known-answer l₀ l₁ l₂ l₃ l₄ l₅ l₆ l₇ l₈ l₉ l₁₀ l₁₁ l₁₂ l₁₃ l₁₄ l₁₅ l₁₆ l₁₇ l₁₈) (begin (is₂ .1) 𝓣 known-end-of known-first-machine known-first-place known-runs-on known-step known-follow known-answer (good firstMachine v₃ is₃) (good-place firstRowPlace v₄ is₄)))))))))))))))))))))))))))))))))
 
 module _ {M : Type 1} (𝓤 : URA M) (H : Heap 𝓤) (A : Atoms 𝓤) (W : Given 𝓤 H A) (at-mem : Memory → SProp 𝓤) (run : Routine → Fun 𝓤) (𝓣 : Tables 𝓤 H)
     (known-end-of : Triple 𝓤 (𝓣 .C #list-rows·end-of) (EndOf 𝓤 H A at-mem run)) (known-first-machine : Triple 𝓤 (𝓣 .C #list-machine·first-machine) (FirstMachine 𝓤 H A at-mem run)) (known-first-place : Triple 𝓤 (𝓣 .C #list-rows·first-place) (FirstPlace 𝓤 H A at-mem run)) (known-runs-on : Triple 𝓤 (𝓣 .C #list-machine·runs-on) (RunsOn 𝓤 H A at-mem run))
     (known-step : Triple 𝓤 (𝓣 .C #list-machine·step) (Step 𝓤 H A at-mem run)) (known-follow : Triple 𝓤 (𝓣 .C #list-rows·follow) (Follow 𝓤 H A at-mem run)) (known-answer : Triple 𝓤 (𝓣 .C #list-rows·answer) (Answer 𝓤 H A at-mem run)) where
   run-walks : Walks 𝓤 H A run′.ended stayed (WpFn 𝓤 H (𝓣 .C) (𝓣 .Λ) code.function) (run′.clauses 𝓤 H A at-mem run)
-  run-walks = walked 𝓤 H A run′.ended stayed (run′.clauses 𝓤 H A at-mem run) (WpFn 𝓤 H (𝓣 .C) (𝓣 .Λ) code.function) (λ κs. (EL.vals Q.the-type Q′.the-laws, (slice-vals, (slice-vals, (slice-vals, (uint-vals w32, tt))))))
-      (λ κs. (EL.tells Q.the-type Q′.the-laws, (shr-slice-tells (named 0) (κs .0) u32, (shr-slice-tells (named 1) (κs .1 .0) T.the-row, (mut-slice-tells (named 2) (κs .1 .1 .0) u8, (uint-tells w32, tt))))))
-      (λ κs qs bounds a g are. needs 𝓤 (RowReady (a .0) (recordsOf (a .1 .1 .0 .now))) _ (λ ready.
-      walk 𝓤 H A W at-mem run (κs .0) (κs .1 .0) (κs .1 .1 .0) (qs .0) (qs .1 .0) (qs .1 .1 .0) (a .0) (a .1 .0) (a .1 .1 .0) (a .1 .1 .1 .0 .ptr .0) (a .1 .1 .1 .0 .ptr .1) (a .1 .1 .1 .0 .name) (a .1 .1 .1 .0 .now) (a .1 .1 .1 .1 .0)
-      (are .0) (are .1 .0 .0 .1) (are .1 .1 .0 .0 .1) (are .1 .1 .1 .0 .0 .1) (are .1 .1 .1 .1 .0 .1) ready 𝓣 known-end-of known-first-machine known-first-place known-runs-on known-step known-follow known-answer))
+  run-walks = walked 𝓤 H A run′.ended stayed (run′.clauses 𝓤 H A at-mem run) (WpFn 𝓤 H (𝓣 .C) (𝓣 .Λ) code.function) (λ κs. (uint-vals w32, (EL.vals Q.the-type Q′.the-laws, (slice-vals, (slice-vals, (slice-vals, (uint-vals w32, tt)))))))
+      (λ κs. (uint-tells w32, (EL.tells Q.the-type Q′.the-laws, (shr-slice-tells (named 0) (κs .0) u32, (shr-slice-tells (named 1) (κs .1 .0) T.the-row, (mut-slice-tells (named 2) (κs .1 .1 .0) u8, (uint-tells w32, tt)))))))
+      (λ κs qs bounds a g are. needs 𝓤 (RowReady (a .1 .0) (recordsOf (a .1 .1 .1 .0 .now))) _ (λ ready.
+      walk 𝓤 H A W at-mem run (κs .0) (κs .1 .0) (κs .1 .1 .0) (qs .0) (qs .1 .0) (qs .1 .1 .0) (a .0) (a .1 .0) (a .1 .1 .0) (a .1 .1 .1 .0) (a .1 .1 .1 .1 .0 .ptr .0) (a .1 .1 .1 .1 .0 .ptr .1) (a .1 .1 .1 .1 .0 .name) (a .1 .1 .1 .1 .0 .now) (a .1 .1 .1 .1 .1 .0)
+      (are .0 .1) (are .1 .0) (are .1 .1 .0 .0 .1) (are .1 .1 .1 .0 .0 .1) (are .1 .1 .1 .1 .0 .0 .1) (are .1 .1 .1 .1 .1 .0 .1) ready 𝓣 known-end-of known-first-machine known-first-place known-runs-on known-step known-follow known-answer))
 
   run-meets : Meets 𝓤 H A run′.signature (WpFn 𝓤 H (𝓣 .C) (𝓣 .Λ) code.function) (run′.spec 𝓤 H A at-mem run)
   run-meets =
-      walk-meets 𝓤 H A run′.ended stayed W (goes-none 𝓤 H A W 3 (λ _. Q.the-row) yes (λ κs x f. refl), (goes-none-slice 𝓤 H A W 3 (0 ∷ []) tt (plain (λ _. u32)) yes, (goes-none-slice 𝓤 H A W 3 (1 ∷ []) tt (plain (λ _. T.the-row)) yes, (goes-slice 𝓤 H A W 3 2 tt (plain (λ _. u8)), (goes-none 𝓤 H A W 3 (λ _. u32) yes (λ κs x f. refl), tt))))) (run′.clauses 𝓤 H A at-mem run)
+      walk-meets 𝓤 H A run′.ended stayed W (goes-none 𝓤 H A W 3 (λ _. u32) yes (λ κs x f. refl), (goes-none 𝓤 H A W 3 (λ _. Q.the-row) yes (λ κs x f. refl), (goes-none-slice 𝓤 H A W 3 (0 ∷ []) tt (plain (λ _. u32)) yes, (goes-none-slice 𝓤 H A W 3 (1 ∷ []) tt (plain (λ _. T.the-row)) yes, (goes-slice 𝓤 H A W 3 2 tt (plain (λ _. u8)), (goes-none 𝓤 H A W 3 (λ _. u32) yes (λ κs x f. refl), tt)))))) (run′.clauses 𝓤 H A at-mem run)
       (WpFn 𝓤 H (𝓣 .C) (𝓣 .Λ) code.function) (WpFn-mono 𝓤 H (W .laws) 𝓣 code.function) run-walks
 
 pub run-spec : {M : Type 1} → stated.statement M

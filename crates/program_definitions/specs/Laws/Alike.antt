@@ -22,7 +22,7 @@ use Rattle.translation_definitions.specs.Theorems.{paired-agree}
 use Rattle.program_definitions.specs.Refusals.{refusalLine}
 use Rattle.program_definitions.specs.Outcome.{outputOf}
 use Rattle.program_definitions.specs.Printout.{blank}
-use Rattle.program_definitions.specs.Scanout.{endWord, endLines, changedLine, changedLines, sameBytes, Verdict, alike, bothStopped, alikeIf, verdict, verdictLine, reportLines, lentFor, keptScanned, textScanned, outcome, output}
+use Rattle.program_definitions.specs.Scanout.{endWord, scanCountLines, endLines, changedLine, changedLines, sameBytes, Verdict, alike, bothStopped, alikeIf, verdict, verdictLine, reportLines, lentFor, keptScanned, textScanned, outcome, output}
 
 -- ---- the verdict
 
@@ -63,7 +63,11 @@ module _ (vars : ℕ) (k : Kept) (table : List ℕ) (n : ℕ) (e : BothEnds) (q 
           let halt : e .listHalt ≡ Ended = sym (ap (λ (d : BothEnds). d .listHalt) same-ends) ∙ y .0 in
           let rungs : e .list .rungs ≡ e .ladder .rungs =
           sym (ap (λ (d : BothEnds). d .list .rungs) same-ends) ∙ ap (λ (c : ListCounts). c .rungs) (y .1) ∙ x .rungs ∙ ap (λ (d : BothEnds). d .ladder .rungs) same-ends in
-          bothEnded p halt (rw (p, halt, eq-eqb (e .ladder .rungs) (e .list .rungs) (sym rungs), x .same .same-variables, same-self t) refl)
+          let z = agree .same-sum (ap (λ (d : BothEnds). d .ladderHalt) same-ends ∙ p) in
+          let moved : e .list .moved ≡ e .ladder .moved =
+          sym (ap (λ (d : BothEnds). d .list .moved) same-ends) ∙ ap (λ (c : ListCounts). c .moved) (same-scan (z .ended) .1) ∙ z .same ∙ ap (λ (d : BothEnds). d .ladder .moved) same-ends in
+          bothEnded p halt
+          (rw (p, halt, eq-eqb (e .ladder .rungs) (e .list .rungs) (sym rungs), eq-eqb (e .ladder .moved) (e .list .moved) (sym moved), x .same .same-variables, same-self t) refl)
       go Stopped p =
           let x = agree .stopped (ap (λ (d : BothEnds). d .ladderHalt) same-ends ∙ p) in
           let halt : e .listHalt ≡ Stopped = sym (ap (λ (d : BothEnds). d .listHalt) same-ends) ∙ same-scan (x .stopped) .0 in
@@ -104,12 +108,14 @@ lines-end v (b ∷ bs) (l ∷ ls) (t ∷ ts) xs e =
 
 module _ (vars : ℕ) (table : List ℕ) (e : BothEnds) (l t : List ℕ) where
   abbrev counts : List ℕ
-  counts = bytes "rungs " ++ (decimal (e .ladder .rungs) ++ (bytes " " ++ (decimal (e .list .rungs) ++ (bytes "\ninstructions - " ++ (decimal (e .list .instructions) ++ bytes "\n")))))
+  counts = scanCountLines (e .ladder) (e .list)
 
   counts-end : EndsLine counts
+  unfolding scanCountLines
   counts-end =
       ends-after (bytes "rungs ") (ends-after (decimal (e .ladder .rungs)) (ends-after (bytes " ") (ends-after (decimal (e .list .rungs))
-      (ends-after (bytes "\ninstructions - ") (ends-after (decimal (e .list .instructions)) ends-self)))))
+      (ends-after (bytes "\ninstructions - ") (ends-after (decimal (e .list .instructions)) (ends-after (bytes "\nmoved ") (ends-after (decimal (e .ladder .moved))
+      (ends-after (bytes " ") (ends-after (decimal (e .list .moved)) ends-self)))))))))
 
   abbrev changed : List ℕ
   changed = changedLines 0 (take vars table) (take vars l) (take vars t)

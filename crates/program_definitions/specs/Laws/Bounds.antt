@@ -25,28 +25,29 @@ use Rattle.rungs.specs.Laws.Filling.{written-first}
 use Rattle.ladder_definitions.specs.Kept.{Kept}
 use Rattle.ladder_definitions.specs.Meaning.{scanLadder}
 use Rattle.ladder_definitions.specs.Questions.{ladderOf, ladderAnswer, mostRungs, mostWords}
-use Rattle.ladder_definitions.specs.Laws.Accepting.{accepted}
-use Rattle.ladder_definitions.specs.Laws.Writes.{ladder-legal}
+use Rattle.ladder_definitions.specs.LadderScan.{LadderCounts}
+use Rattle.ladder_definitions.specs.Laws.Accepting.{accepted, sized}
+use Rattle.ladder_definitions.specs.Laws.Watchdog.{few-rungs}
+use Rattle.ladder_definitions.specs.Laws.Writes.{ladder-legal, ladder-moved}
 use Rattle.text_definitions.specs.Read.{ReadAnswer, readText, kept, writtenKept, refused as readRefused}
 use Rattle.list_definitions.specs.Machine.{scanList}
-use Rattle.list_definitions.specs.ListScan.{listOf}
+use Rattle.list_definitions.specs.ListScan.{listOf, ListCounts}
 use Rattle.list_definitions.specs.Questions.{mostInstructions, question10}
 use Rattle.list_definitions.specs.Listing.{fixedNames, ListingCall, listing, written, refused as listingRefused, listingText}
 use Rattle.list_definitions.specs.Laws.Watchdog.{list-within}
-use Rattle.list_definitions.specs.Laws.Writes.{list-legal}
+use Rattle.list_definitions.specs.Laws.Writes.{list-legal, list-moved}
 use Rattle.translation_definitions.specs.Translate.{translate}
 use Rattle.translation_definitions.specs.TranslateKept.{Counts, countsOf, translateKept, TranslateAnswer, translated, refused as translateRefused}
 use Rattle.translation_definitions.specs.BothScans.{BothEnds, BothAnswer, BothCall, both, pairedScans, pairedWatchdog, refused as scansRefused}
 use Rattle.translation_definitions.specs.BothAgree.{BothGiven}
 use Rattle.translation_definitions.specs.Laws.Answers.{all-yes, counts-are, written-room}
-use Rattle.translation_definitions.specs.Laws.Calls.{few-rungs}
 use Rattle.table.specs.Laws.Legal.{LegalTable}
 use Rattle.translation_definitions.specs.Laws.Legal.{watchdog-in-range as most-in-range}
 use Rattle.translation_definitions.specs.Laws.Boths.{both-ends, both-left, both-given, asked-yes, both-scanned, paired-legal}
 use Rattle.program_definitions.specs.Refusals.{refusalLine}
 use Rattle.program_definitions.specs.Outcome.{Outcome, printed, refused}
 use Rattle.program_definitions.specs.Printout.{countLine, blank, mostListing, listPrinted, keptPrinted, textPrinted}
-use Rattle.program_definitions.specs.Scanout.{endWord, endLines, changedLine, changedLines, Verdict, alike, bothStopped, notAlike, verdict, verdictLine, reportLines, lentFor, keptScanned, textScanned}
+use Rattle.program_definitions.specs.Scanout.{endWord, scanCountLines, endLines, changedLine, changedLines, Verdict, alike, bothStopped, notAlike, verdict, verdictLine, reportLines, lentFor, keptScanned, textScanned}
 
 -- ---- texts one after the other
 
@@ -202,21 +203,31 @@ unfolding endWord bytes
 word-short Ended = omega arith
 word-short Stopped = omega arith
 
-ends-short : (e : BothEnds) → e .ladder .rungs < 65536 → e .list .rungs < 2 ^ 64 → e .list .instructions < 2 ^ 64 → length (endLines e) ≤ 200
+-- the counts of both scans have 64 bits
+pub record Fitting (k : LadderCounts) (c : ListCounts) : Type 0 where
+  pub ladder-rungs : k .rungs < 2 ^ 64
+  pub ladder-moved : k .moved < 2 ^ 64
+  pub list-instructions : c .instructions < 2 ^ 64
+  pub list-rungs : c .rungs < 2 ^ 64
+  pub list-moved : c .moved < 2 ^ 64
+
+counts-lines-short : (k : LadderCounts) (c : ListCounts) → Fitting k c → length (scanCountLines k c) ≤ 132
+unfolding scanCountLines bytes
+counts-lines-short k c f =
+    let a = decimal-most (k .rungs) (f .ladder-rungs) in
+    let b = decimal-most (c .rungs) (f .list-rungs) in
+    let i = decimal-most (c .instructions) (f .list-instructions) in
+    let m = decimal-most (k .moved) (f .ladder-moved) in
+    let o = decimal-most (c .moved) (f .list-moved) in
+    simp length-append (omega arith)
+
+pub ends-short : (e : BothEnds) → Fitting (e .ladder) (e .list) → length (endLines e) ≤ 200
 unfolding endLines bytes
-ends-short e hk hr hi =
-    let x1 : length (decimal (e .list .instructions) ++ bytes "\n") ≤ 20 + 1 = long-then (e .list .instructions) (bytes "\n") 1 hi (omega arith) in
-    let x2 : length (decimal (e .list .rungs) ++ (bytes "\ninstructions - " ++ (decimal (e .list .instructions) ++ bytes "\n"))) ≤ 20 + 37
-    = long-then (e .list .rungs) _ 37 hr (omega (arith, x1)) in
-    let x3 : length (decimal (e .ladder .rungs) ++ (bytes " " ++ (decimal (e .list .rungs) ++ (bytes "\ninstructions - " ++ (decimal (e .list .instructions) ++ bytes "\n"))))) ≤ 5 + 58
-    = number-then (e .ladder .rungs) _ 58 hk (omega (arith, x2)) in
-    let x4 : length (endWord (e .listHalt) ++ (bytes "\nrungs " ++ (decimal (e .ladder .rungs) ++ (bytes " " ++ (decimal (e .list .rungs) ++ (bytes "\ninstructions - "
-    ++ (decimal (e .list .instructions) ++ bytes "\n"))))))) ≤ 7 + 70
-    = then (endWord (e .listHalt)) _ {b = 70} (word-short (e .listHalt)) (omega (arith, x3)) in
-    let x5 : length (endWord (e .ladderHalt) ++ (bytes " " ++ (endWord (e .listHalt) ++ (bytes "\nrungs " ++ (decimal (e .ladder .rungs) ++ (bytes " " ++ (decimal (e .list .rungs)
-    ++ (bytes "\ninstructions - " ++ (decimal (e .list .instructions) ++ bytes "\n"))))))))) ≤ 7 + 78
-    = then (endWord (e .ladderHalt)) _ {b = 78} (word-short (e .ladderHalt)) (omega (arith, x4)) in
-    omega (arith, x5)
+ends-short e f =
+    let w = word-short (e .ladderHalt) in
+    let v = word-short (e .listHalt) in
+    let c = counts-lines-short (e .ladder) (e .list) f in
+    simp length-append (omega arith)
 
 verdict-short : (x : Verdict) → length (verdictLine x) ≤ 13
 unfolding verdictLine bytes
@@ -244,7 +255,8 @@ module _ (vars : ℕ) (k : Kept) (table : List ℕ) (n : ℕ) where
   report-short given =
       let s = stateOf vars table in
       let e = both-ends vars k table (lentFor table) n w in
-      let range = vars-in-range vars (accepted vars k (given .given .accepted) .1 .range) in
+      let taken = accepted vars k (given .given .accepted) .1 in
+      let range = vars-in-range vars (taken .range) in
       let most = watchdog-in-range mostRungWatchdog n (given .given .watchdog) in
       let few = few-rungs (ladderOf k) n s in
       let top = watchdog-in-range mostInstructionWatchdog w (paired-legal vars k table n (given .given .accepted) (given .given .watchdog)) in
@@ -254,7 +266,13 @@ module _ (vars : ℕ) (k : Kept) (table : List ℕ) (n : ℕ) where
       let lb = bits vars l (ladder-legal vars (ladderOf k) n s (given .given .legal)) in
       let tb = bits vars t (list-legal vars (translate vars (ladderOf k)) w s (given .given .legal)) in
       let m = as-many vars table (given .given .legal) in
-      let head = ends-short e (omega (arith, most, few)) (omega (arith, c .rungs, top)) (omega (arith, c .instructions, top)) in
+      let head = ends-short e (record {
+        ladder-rungs = omega (arith, most, few);
+        ladder-moved = omega (arith, ladder-moved (ladderOf k) n s (sized (ladderOf k) (taken .sizes) .words-a-rung), most, few);
+        list-instructions = omega (arith, c .instructions, top);
+        list-rungs = omega (arith, c .rungs, top);
+        list-moved = omega (arith, list-moved (translate vars (ladderOf k)) w s, c .instructions, top);
+      }) in
       let changed = lines-short 0 (take vars table) (take vars l) (take vars t) (omega (arith, m, range .1)) (bits vars table (given .given .legal)) lb tb in
       let last = verdict-short (verdict e (take vars l) (take vars t)) in
       let x = then (endLines e) (changedLines 0 (take vars table) (take vars l) (take vars t) ++ verdictLine (verdict e (take vars l) (take vars t))) head

@@ -15,10 +15,15 @@ head : (c : tie.After-put-ends) → c .put-ends .result ≤ 1000
 unfolding endsIn countsIn
 head c =
     let s = c .before .before .before .before .before .before in
-    ends-reach (endsIn (s .args .ends)) (c .put-ends .ensures)
-    (omega (arith, s .good .1 .1 .0 .1 .1 .1 .1 .0 .1 .1 .0 .1))
-    (omega (arith, s .good .1 .1 .0 .1 .1 .1 .1 .1 .1 .0 .1 .1 .1 .0 .1))
-    (omega (arith, s .good .1 .1 .0 .1 .1 .1 .1 .1 .1 .0 .1 .1 .0 .1))
+    let ladder = s .good .1 .1 .0 .1 .1 .1 .1 .0 in
+    let list = s .good .1 .1 .0 .1 .1 .1 .1 .1 .1 .0 in
+    ends-reach (endsIn (s .args .ends)) (c .put-ends .ensures) (record {
+      ladder-rungs = omega (arith, ladder .1 .1 .0 .1);
+      ladder-moved = omega (arith, ladder .1 .1 .1 .0 .1);
+      list-instructions = omega (arith, list .1 .1 .0 .1);
+      list-rungs = omega (arith, list .1 .1 .1 .0 .1);
+      list-moved = omega (arith, list .1 .1 .1 .1 .0 .1);
+    })
 
 put-ends-requires : tie.Need-put-ends-requires
 put-ends-requires c κs = search needs

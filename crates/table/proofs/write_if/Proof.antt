@@ -1,7 +1,7 @@
--- `table::write_if` meets its contract: with power what `write` leaves, and else the bytes as they are. Assumes nothing.
+-- `table::write_if` meets its contract: with power what `write` leaves, and else the state as it is. Assumes nothing.
 use mathlib.Core.Path.{refl, _∙_}
 use borrow.Author.Needs.{needs}
-use Rattle.table.specs.State.{writtenIf}
+use Rattle.table.specs.State.{writeIf}
 use Rattle.table.proofs.write_if.Statement.{statement}
 use Rattle.table.proofs.write_if.Tie as tie
 
@@ -12,11 +12,11 @@ same-length : tie.Need-same-length
 same-length c = search needs
 
 returns : tie.Need-returns
-unfolding writtenIf
+unfolding writeIf
 returns c = c .before .before .write .ensures ∙ rw (c .before .before .before .before .if1 .taken) refl
 
 returns-2 : tie.Need-returns-2
-unfolding writtenIf
+unfolding writeIf
 returns-2 c = rw (c .if1 .left) refl
 
 pub write-if-spec : {M : Type 1} → statement M

@@ -9,10 +9,11 @@ use native.Mathlib.Decide.{ℕ-discrete, decLt}
 use lib.Dec.{eqb, eqb→eq}
 use lib.ListN.{length, getD, set, take, length-set, length-take}
 use lib.Seq.{getD-set-same, getD-set-other, ext-getD, getD-take, set-out, drop-set-lt}
+use borrow.Author.Tests.{le-ltb}
 use mir.Facts.{and-yes}
 use Rattle.questions.specs.Tests.{all, bit}
 use Rattle.questions.specs.Laws.Answers.{ask-passed}
-use Rattle.table.specs.State.{State, withBytes, scratchBytes, tableSize, variables, beyondVariables, truth, valueAt, value, writtenAt, write, writeIf, writtenIf, SameButScratch}
+use Rattle.table.specs.State.{State, stateOf, scratchBytes, tableSize, variables, beyondVariables, truth, valueAt, value, writtenAt, turns, write, writeIf, SameButScratch}
 use Rattle.table.specs.Questions.{tableInRange, question11, isBit, Legal}
 
 -- a table that question 11 takes has V + 32 bytes
@@ -20,13 +21,14 @@ pub table-room : (s : State) → question11 s ≡ none → length (s .bytes) ≡
 unfolding question11 tableInRange
 table-room s e = eqb→eq _ _ (and-yes (eqb (length (s .bytes)) (tableSize (s .vars))) (all isBit (s .bytes)) (ask-passed 11 _ e) .0)
 
--- The states s and t have V variables, and these are equal; their scratch may differ.
+-- The states s and t have V variables, and these are equal, as is what was turned over; their scratch may differ.
 pub record Alike (vars : ℕ) (s t : State) : Type 0 where
   pub vars-left : s .vars ≡ vars
   pub vars-right : t .vars ≡ vars
   pub same : (i : ℕ) → i < vars → getD (s .bytes) i 0 ≡ getD (t .bytes) i 0
   pub same-room : length (s .bytes) ≡ length (t .bytes)
   pub room : length (t .bytes) ≡ tableSize vars
+  pub same-moved : s .moved ≡ t .moved
 
 -- t′ has t's scratch below td
 pub record Keeps (vars d : ℕ) (t t′ : State) : Type 0 where
@@ -44,12 +46,6 @@ set-same s t v x h i e = go (ℕ-discrete i v) (decLt v (length t))
     go (yes p) (no k) = rw (set-out s v x (omega arith), set-out t v x (omega arith)) e
     go (no p) k = rw (getD-set-other s v i x 0 p, getD-set-other t v i x 0 p) e
 
--- what `writeIf` leaves of a state with other bytes
-pub write-if-bytes : (q : Bool) (s : State) (bytes : List ℕ) (i : ℕ) (b : Bool) → writeIf q (withBytes s bytes) i b ≡ withBytes s (writtenIf q bytes i b)
-unfolding writeIf writtenIf write
-write-if-bytes true s bytes i b = refl
-write-if-bytes false s bytes i b = refl
-
 module _ {vars : ℕ} {s t : State} (p : Alike vars s t) where
   pub value-alike : (v : ℕ) → v < vars → value t v ≡ value s v
   unfolding value valueAt
@@ -57,13 +53,14 @@ module _ {vars : ℕ} {s t : State} (p : Alike vars s t) where
 
   -- a variable written in both
   pub write-both : (v : ℕ) (b : Bool) → v < vars → Alike vars (write s v b) (write t v b)
-  unfolding write writtenAt
+  unfolding write writtenAt turns valueAt
   write-both v b h = record {
     vars-left = p .vars-left;
     vars-right = p .vars-right;
     same = λ i k. set-same (s .bytes) (t .bytes) v (bit b) (p .same-room) i (p .same i k);
     same-room = length-set (s .bytes) v (bit b) ∙ p .same-room ∙ sym (length-set (t .bytes) v (bit b));
     room = rw (length-set (t .bytes) v (bit b)) (p .room);
+    same-moved = rw (p .same v h, p .same-moved, p .vars-left, p .vars-right);
   }
 
   pub write-if-both : (q : Bool) (v : ℕ) (b : Bool) → v < vars → Alike vars (writeIf q s v b) (writeIf q t v b)
@@ -73,13 +70,14 @@ module _ {vars : ℕ} {s t : State} (p : Alike vars s t) where
 
   -- scratch written in the second alone
   pub write-scratch : (d : ℕ) (b : Bool) → d < scratchBytes → Alike vars s (write t (vars + d) b)
-  unfolding write writtenAt
+  unfolding write writtenAt turns
   write-scratch d b h = record {
     vars-left = p .vars-left;
     vars-right = p .vars-right;
     same = λ i k. p .same i k ∙ sym (getD-set-other (t .bytes) (vars + d) i (bit b) 0 (omega arith));
     same-room = p .same-room ∙ sym (length-set (t .bytes) (vars + d) (bit b));
     room = rw (length-set (t .bytes) (vars + d) (bit b)) (p .room);
+    same-moved = rw (p .vars-right, le-ltb (vars + d) vars (omega arith)) (p .same-moved ∙ omega arith);
   }
 
   pub value-written : (d : ℕ) (b : Bool) → d < scratchBytes → value (write t (vars + d) b) (vars + d) ≡ b
@@ -99,19 +97,25 @@ module _ {vars : ℕ} {s t : State} (p : Alike vars s t) where
 pub same-both : {s t u : State} → SameButScratch s t → SameButScratch t u → SameButScratch s u
 same-both h k = record { same-vars = h .same-vars ∙ k .same-vars; same-variables = h .same-variables ∙ k .same-variables }
 
--- legal states that differ in scratch at most
-pub alike-legal : (s t : State) → Legal s → Legal t → SameButScratch s t → Alike (t .vars) s t
+-- the same of the states that begin with their bytes
+pub same-tables : {s t : State} (vars : ℕ) → s .vars ≡ vars → t .vars ≡ vars → SameButScratch s t → SameButScratch (stateOf vars (s .bytes)) (stateOf vars (t .bytes))
 unfolding variables
-alike-legal s t hs ht e = let rs = table-room s (hs .table) in let rt = table-room t (ht .table) in let ev = e .same-vars in record {
+same-tables vars p q h = record { same-vars = refl; same-variables = rw (p, q) at (h .same-variables) }
+
+-- legal states that differ in scratch at most
+pub alike-legal : (s t : State) → Legal s → Legal t → SameButScratch s t → s .moved ≡ t .moved → Alike (t .vars) s t
+unfolding variables
+alike-legal s t hs ht e m = let rs = table-room s (hs .table) in let rt = table-room t (ht .table) in let ev = e .same-vars in record {
   vars-left = e .same-vars;
   vars-right = refl;
   same = λ i k. sym (getD-take (t .vars) (s .bytes) i 0 k) ∙ ap (λ l. getD l i 0) (rw (e .same-vars) at (e .same-variables)) ∙ getD-take (t .vars) (t .bytes) i 0 k;
   same-room = omega arith;
   room = rt;
+  same-moved = m;
 }
 
 pub alike-self : (s : State) → Legal s → Alike (s .vars) s s
-alike-self s h = alike-legal s s h h (record { same-vars = refl; same-variables = refl })
+alike-self s h = alike-legal s s h h (record { same-vars = refl; same-variables = refl }) refl
 
 module _ (vars : ℕ) where
   pub keeps-all : (d : ℕ) (t : State) → Keeps vars d t t

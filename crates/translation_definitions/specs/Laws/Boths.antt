@@ -18,14 +18,15 @@ use Rattle.ladder_definitions.specs.Meaning.{LadderResult, scanLadder}
 use Rattle.ladder_definitions.specs.Questions.{ladderOf, ladderAnswer}
 use Rattle.ladder_definitions.specs.LadderScan.{LadderCounts, countsOf as ladderCountsOf, scanned as ladderScanned, scanEnds as ladderEnds}
 use Rattle.ladder_definitions.specs.Laws.Accepting.{accepted, ladder-first}
+use Rattle.ladder_definitions.specs.Laws.Watchdog.{stopped-rungs, few-rungs}
 use Rattle.list_definitions.specs.Machine.{scanList}
 use Rattle.list_definitions.specs.ListScan.{countsOf as listCountsOf, scanEnds as listEnds}
 use Rattle.translation_definitions.specs.Translate.{translate}
 use Rattle.translation_definitions.specs.TranslateKept.{countsOf, listBuffers}
-use Rattle.translation_definitions.specs.Calls.{CallsAlike}
+use Rattle.translation_definitions.specs.Calls.{CallsAlike, CallsSums}
 use Rattle.translation_definitions.specs.BothScans.{Lent, lends, BothEnds, BothAnswer, both, refused, copyQuestion, tablesQuestions, bothQuestions, bothScans, instructionWatchdog, pairedWatchdog}
 use Rattle.translation_definitions.specs.BothAgree.{BothGiven, BothRan, BothAgree, PairedAgree}
-use Rattle.translation_definitions.specs.Laws.Calls.{few-rungs, stopped-rungs, ladder-call, list-call, translate-call, scans-alike}
+use Rattle.translation_definitions.specs.Laws.Calls.{ladder-call, list-call, translate-call, scans-alike}
 use Rattle.translation_definitions.specs.Laws.Legal.{watchdog-in-range as most-in-range}
 
 -- ---- the questions
@@ -156,15 +157,14 @@ module _ (vars : ℕ) (kept : Kept) (table : List ℕ) (lent : Lent) (n : ℕ) (
         }
 
     pub both-alike : BothAgree vars kept (lent .buffers) n w (bothScans vars kept table lent n w .answer) (bothScans vars kept table lent n w .lent)
-    unfolding ran both-ends both-left CallsAlike ladderEnds listEnds countsOf
+    unfolding ran both-ends both-left CallsAlike CallsSums ladderEnds listEnds countsOf
     both-alike =
         let s = scans-alike vars kept table n (given .given .accepted) (given .given .legal) (given .given .watchdog) in
-        let a = s .alike w in
-        let b = rw (
-          ladder-call vars kept table n (given .given .accepted) (given .given .legal) (given .given .watchdog),
-          list-call vars kept table n (given .given .accepted) (given .given .legal) (given .given .watchdog) w h,
-        ) at a in
-        record { ran = ran; alike = rw is b }
+        let ladder = ladder-call vars kept table n (given .given .accepted) (given .given .legal) (given .given .watchdog) in
+        let list = list-call vars kept table n (given .given .accepted) (given .given .legal) (given .given .watchdog) w h in
+        let a = rw (ladder, list) at (s .alike w) in
+        let b = rw (ladder, list) at (s .sums w) in
+        record { ran = ran; alike = rw is a; sums = b }
 
   pub both-runs : (w : ℕ) → question12 mostInstructionWatchdog w ≡ none → (e : BothEnds) × (bothScans vars kept table lent n w .answer ≡ both e)
   both-runs w h = (both-ends vars kept table lent n w, ap (λ c. c .answer) (both-scanned vars kept table lent n w (asked-yes w h)))
@@ -179,5 +179,6 @@ module _ (vars : ℕ) (kept : Kept) (table : List ℕ) (lent : Lent) (n : ℕ) (
       record {
         ran = a .ran;
         ended = λ e. a .alike .ended c (ap (λ g. ladderScanned g c) e) h (rw e (omega arith));
+        same-sum = λ e. a .sums .ended c (ap (λ g. ladderScanned g c) e) h (rw e (omega arith));
         stopped = λ e. a .alike .stopped c (ap (λ g. ladderScanned g c) e) (rw e (omega arith));
       }

@@ -1,7 +1,7 @@
 -- Demand 3 over the calls, from demand 3 over trees: what the calls do once every question got a "yes". Assumes nothing.
 use Prim.Native.Nat.{ℕ, _*_, _≤_}
 use native.Mathlib.Omega.{arith}
-use mathlib.Core.Path.{_≡_, refl, sym, ap, _∙_}
+use mathlib.Core.Path.{_≡_, sym, ap, _∙_}
 use mathlib.Core.Option.{none}
 use mathlib.Core.List.{List, [], _∷_, map}
 use lib.ListN.{length, take, length-map}
@@ -10,18 +10,18 @@ use Rattle.questions.specs.Laws.Answers.{watchdog-in-range, in-range-watchdog}
 use Rattle.table.specs.State.{State, stateOf}
 use Rattle.table.specs.Halt.{Halt, Ended, Stopped}
 use Rattle.table.specs.Questions.{question11}
-use Rattle.table.specs.Laws.Alike.{alike-self}
+use Rattle.table.specs.Laws.Alike.{alike-self, same-tables}
 use Rattle.rungs.specs.Records.{longest}
 use Rattle.rungs.specs.Buffers.{Buffers, asBuffers, needs, written, writtenOver, writtenWords, writtenRecords}
 use Rattle.rungs.specs.Laws.Filling.{written-first, row-of-buffers, labels-count, offsets-count, lengths-count}
 use Rattle.ladder_definitions.specs.Tree.{Ladder}
-use Rattle.ladder_definitions.specs.Meaning.{LadderResult, scanLadder}
+use Rattle.ladder_definitions.specs.Meaning.{scanLadder}
 use Rattle.ladder_definitions.specs.Kept.{Kept}
 use Rattle.ladder_definitions.specs.Questions.{ladderOf, ladderAnswer, Accepted}
 use Rattle.ladder_definitions.specs.LadderScan.{LadderCounts, countsOf as ladderCountsOf, callLadderScan, scanned as ladderScanned, scanEnds as ladderEnds, scanQuestions as ladderScanQuestions}
 use Rattle.ladder_definitions.specs.Laws.Accepting.{accepted, ladder-first}
 use Rattle.ladder_definitions.specs.Laws.Scratch.{scan-stays}
-use Rattle.ladder_definitions.specs.Laws.Watchdog.{stopped-stands, ended-stands}
+use Rattle.ladder_definitions.specs.Laws.Watchdog.{stopped-rungs, few-rungs}
 use Rattle.list_definitions.specs.Instruction.{instrWord, codeOf}
 use Rattle.list_definitions.specs.Machine.{InstructionList, scanList}
 use Rattle.list_definitions.specs.Questions.{question10, listAnswer}
@@ -29,28 +29,12 @@ use Rattle.list_definitions.specs.ListScan.{listOf, callListScan, scanEnds as l
 use Rattle.list_definitions.specs.Laws.Writes.{list-vars}
 use Rattle.translation_definitions.specs.Translate.{translate}
 use Rattle.translation_definitions.specs.TranslateKept.{countsOf, listBuffers, translated, translateKept}
-use Rattle.translation_definitions.specs.Demand3.{EndedAlike, StoppedAlike}
-use Rattle.translation_definitions.specs.Agreement.{Agreement}
-use Rattle.translation_definitions.specs.Calls.{Given, CallsAlike, ScansAgree, CallsAgree}
+use Rattle.translation_definitions.specs.Demand3.{EndedAlike, SameSum, StoppedAlike}
+use Rattle.translation_definitions.specs.Agreement.{Agreement, SumsAgree}
+use Rattle.translation_definitions.specs.Calls.{Given, CallsAlike, CallsSums, ScansAgree, CallsAgree}
 use Rattle.translation_definitions.specs.Laws.Answers.{call-written}
-use Rattle.translation_definitions.specs.Laws.Lists.{below-all, translated-agrees}
+use Rattle.translation_definitions.specs.Laws.Lists.{below-all, translated-agrees, translated-sums}
 use Rattle.translation_definitions.specs.Laws.Legal.{list-in-range, list-decodes, watchdog-in-range as most-in-range}
-
--- ---- the rungs entered are at most the watchdog, and equal it where the scan is Stopped
-
-module _ (gs : Ladder) (n : ℕ) (s : State) where
-  abbrev x : LadderResult
-  x = scanLadder gs n s
-
-  pub stopped-rungs : x .halt ≡ Stopped → x .rungs ≡ n
-  stopped-rungs e = stopped-stands gs s n (x .rungs) (x .state) (λ i. record { halt = e i; rungs = x .rungs; state = x .state }) .0
-
-  pub few-rungs : x .rungs ≤ n
-  few-rungs = go (x .halt) refl
-    where
-      go : (h : Halt) → x .halt ≡ h → x .rungs ≤ n
-      go Ended e = ended-stands gs s n (x .rungs) (x .state) (λ i. record { halt = e i; rungs = x .rungs; state = x .state }) .0
-      go Stopped e = let q = stopped-rungs e in omega arith
 
 -- ---- both scans, where the list is the ladder's
 
@@ -75,7 +59,10 @@ module _ (vars : ℕ) (kept : Kept) (table : List ℕ) (n : ℕ)
   taken = accepted vars kept ok .1
 
   agrees : Agreement 2 gs list s n
-  agrees = translated-agrees vars gs s n taken (alike-self s (record { table = legal }))
+  agrees = translated-agrees vars gs taken s n (alike-self s (record { table = legal }))
+
+  sums : SumsAgree gs list s n
+  sums = translated-sums vars gs taken s n (alike-self s (record { table = legal }))
 
   pub ladder-call : callLadderScan vars kept table n ≡ ladderEnds (scanLadder gs n s)
   unfolding callLadderScan ladderScanQuestions firstNo
@@ -96,30 +83,37 @@ module _ (vars : ℕ) (kept : Kept) (table : List ℕ) (n : ℕ)
       = rw (taken .range, list-in-range vars gs taken, legal, h) in
       rw (q, callListScan) (ap (λ l. listEnds (scanList l w s)) list-held)
 
-  -- the state that a scan left, from its table
-  ladder-state : stateOf vars (ladderEnds (scanLadder gs n s) .table) ≡ scanLadder gs n s .state
-  unfolding ladderEnds
-  ladder-state = λ i. stateOf (sym (scan-stays gs n s (below-all vars gs taken) .same-vars) i) (scanLadder gs n s .state .bytes)
-
-  list-state : (w : ℕ) → stateOf vars (listEnds (scanList list w s) .table) ≡ scanList list w s .state
-  unfolding listEnds
-  list-state w = λ i. stateOf (sym (list-vars list w s) i) (scanList list w s .state .bytes)
-
   -- what the ladder scan's answer tells
-  answered : (h : Halt) (c : LadderCounts) → callLadderScan vars kept table n .answer ≡ ladderScanned h c → (scanLadder gs n s .halt ≡ h) × (scanLadder gs n s .rungs ≡ c .rungs)
+  answered : (h : Halt) (c : LadderCounts) → callLadderScan vars kept table n .answer ≡ ladderScanned h c
+      → (scanLadder gs n s .halt ≡ h) × (scanLadder gs n s .rungs ≡ c .rungs) × (scanLadder gs n s .state .moved ≡ c .moved)
   unfolding ladderEnds
   answered h c e =
       let z : ladderScanned (scanLadder gs n s .halt) (ladderCountsOf (scanLadder gs n s)) ≡ ladderScanned h c = sym (ap (λ c. c .answer) ladder-call) ∙ e in
       let halt : scanLadder gs n s .halt ≡ h = cc in
       let counts : ladderCountsOf (scanLadder gs n s) ≡ c = cc in
-      (halt, ap (λ (d : LadderCounts). d .rungs) counts)
+      (halt, ap (λ (d : LadderCounts). d .rungs) counts, ap (λ (d : LadderCounts). d .moved) counts)
 
   ended-calls : (w : ℕ) (c : LadderCounts) → callLadderScan vars kept table n .answer ≡ ladderScanned Ended c → question12 mostInstructionWatchdog w ≡ none → c .rungs * most ≤ w
       → EndedAlike 2 most (c .rungs) (stateOf vars (callLadderScan vars kept table n .table)) (callListScan vars words (list .records) table w .answer)
       (stateOf vars (callListScan vars words (list .records) table w .table))
+  unfolding ladderEnds listEnds
   ended-calls w c e h room =
       let a = answered Ended c e in
-      rw (ladder-call, list-call w h, ladder-state, list-state w, ← (a .1)) (agrees .ended w (a .0) (rw (a .1) room))
+      let x = agrees .ended w (a .0) (rw (a .1) room) in
+      rw (ladder-call, list-call w h, ← (a .1)) (record {
+        counts = x .counts;
+        ended = x .ended;
+        same = same-tables vars (scan-stays gs n s (below-all vars gs taken) .same-vars) (list-vars list w s) (x .same);
+        rungs = x .rungs;
+        at-least = x .at-least;
+        at-most = x .at-most;
+      })
+
+  sums-calls : (w : ℕ) (c : LadderCounts) → callLadderScan vars kept table n .answer ≡ ladderScanned Ended c → question12 mostInstructionWatchdog w ≡ none → c .rungs * most ≤ w
+      → SameSum (c .moved) (callListScan vars words (list .records) table w .answer)
+  sums-calls w c e h room =
+      let a = answered Ended c e in
+      rw (list-call w h, ← (a .2)) (sums .ended w (a .0) (rw (a .1) room))
 
   stopped-calls : (w : ℕ) (c : LadderCounts) → callLadderScan vars kept table n .answer ≡ ladderScanned Stopped c → w ≤ 2 * n
       → StoppedAlike (callListScan vars words (list .records) table w .answer)
@@ -128,7 +122,7 @@ module _ (vars : ℕ) (kept : Kept) (table : List ℕ) (n : ℕ)
       rw (list-call w (in-range-watchdog mostInstructionWatchdog w (omega arith))) (agrees .stopped w (answered Stopped c e .0) few)
 
   pub scans-alike : ScansAgree vars kept words (list .records) most table n
-  unfolding listAnswer firstNo ladderEnds CallsAlike
+  unfolding listAnswer firstNo ladderEnds CallsAlike CallsSums
   scans-alike =
       let few = few-rungs gs n s in
       let most = watchdog-in-range mostRungWatchdog n watchdog in
@@ -141,6 +135,7 @@ module _ (vars : ℕ) (kept : Kept) (table : List ℕ) (n : ℕ)
         stopped-watchdog = in-range-watchdog mostInstructionWatchdog (2 * n) (omega arith);
         stopped-at = stopped-rungs gs n s;
         alike = λ w. record { ended = λ c. ended-calls w c; stopped = λ c. stopped-calls w c };
+        sums = λ w. record { ended = λ c. sums-calls w c };
       }
 
 -- ---- what Translate wrote, taken out again

@@ -19,10 +19,10 @@ use Rattle.ladder_definitions.specs.Meaning.{runRung}
 use Rattle.ladder_definitions.specs.Questions.{rungBelow, rungLeads, rungScratch, question6, question8, scratchInRange, question9, Accepted}
 use Rattle.list_definitions.specs.Instruction.{Instr}
 use Rattle.translation_definitions.specs.Translate.{rungCode, listRecords, translate}
-use Rattle.translation_definitions.specs.Agreement.{Agreement}
+use Rattle.translation_definitions.specs.Agreement.{Agreement, SumsAgree}
 use Rattle.translation_definitions.specs.Laws.Places.{labelOf, sizeBy, listOf, first}
 use Rattle.translation_definitions.specs.Laws.Parts.{same-length, rung-did}
-use Rattle.translation_definitions.specs.Laws.Scans.{RungDid, agrees}
+use Rattle.translation_definitions.specs.Laws.Scans.{RungDid, agrees, sums-agree}
 
 -- what questions 6, 8 and 9 tell of every rung
 pub below-all : (vars : ℕ) (gs : Ladder) → Accepted vars gs → T (all (rungBelow vars) gs)
@@ -64,15 +64,19 @@ module _ (vars : ℕ) (gs : Ladder) where
       let h = start-most labelOf (sizeBy code) gs l in
       omega arith
 
-  pub translated-agrees : (s : State) (n : ℕ) → Accepted vars gs → Alike vars s s → Agreement 2 gs (translate vars gs) s n
-  translated-agrees s n a alike = rw translate-is (agrees (Alike vars) (λ a b p. alike-same p) 2 code gs (omega arith) did s n alike)
-    where
-      did : (pre : Ladder) (g : Rung) (post : Ladder) → gs ≡ pre ++ g ∷ post → (s t : State) (v : Bool) → Alike vars s t
-          → RungDid (Alike vars) 2 code gs (sizes (sizeBy code) pre) (code g) v t (runRung g s)
-      did pre g post e s t v p = rung-did vars code gs (labels gs) start leads (sizes (sizeBy code) pre) g s t v
-          (all-at (rungBelow vars) pre g post (rw e at (below-all vars gs a)))
-          (all-at (rungLeads (labels gs)) pre g post (ap-all e (leads-all vars gs a)))
-          (leb→le (rungScratch g) scratchBytes (all-at (λ h. leb (rungScratch h) scratchBytes) pre g post (rw e at (scratch-all vars gs a)))) p
-        where
-          ap-all : {xs ys : Ladder} → xs ≡ ys → T (all (rungLeads (labels gs)) xs) → T (all (rungLeads (labels gs)) ys)
-          ap-all q h = rw q at h
+  module _ (a : Accepted vars gs) where
+    did : (pre : Ladder) (g : Rung) (post : Ladder) → gs ≡ pre ++ g ∷ post → (s t : State) (v : Bool) → Alike vars s t
+        → RungDid (Alike vars) 2 code gs (sizes (sizeBy code) pre) (code g) v t (runRung g s)
+    did pre g post e s t v p = rung-did vars code gs (labels gs) start leads (sizes (sizeBy code) pre) g s t v
+        (all-at (rungBelow vars) pre g post (rw e at (below-all vars gs a)))
+        (all-at (rungLeads (labels gs)) pre g post (ap-all e (leads-all vars gs a)))
+        (leb→le (rungScratch g) scratchBytes (all-at (λ h. leb (rungScratch h) scratchBytes) pre g post (rw e at (scratch-all vars gs a)))) p
+      where
+        ap-all : {xs ys : Ladder} → xs ≡ ys → T (all (rungLeads (labels gs)) xs) → T (all (rungLeads (labels gs)) ys)
+        ap-all q h = rw q at h
+
+    pub translated-agrees : (s : State) (n : ℕ) → Alike vars s s → Agreement 2 gs (translate vars gs) s n
+    translated-agrees s n alike = rw translate-is (agrees (Alike vars) (λ a b p. alike-same p) 2 code gs (omega arith) did s n alike)
+
+    pub translated-sums : (s : State) (n : ℕ) → Alike vars s s → SumsAgree gs (translate vars gs) s n
+    translated-sums s n alike = rw translate-is (sums-agree (Alike vars) (λ a b p. alike-same p) 2 code gs (omega arith) did s n alike (λ a b p. p .same-moved))

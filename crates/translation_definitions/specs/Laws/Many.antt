@@ -1,32 +1,30 @@
 -- Agreement over any number of scans, from demand 3's record for one scan: a ladder scan does not read scratch, and a list scan leaves a legal table legal.
 -- Assumes nothing.
 use Prim.Native.Nat.{ℕ, zero, suc}
-use native.Mathlib.Omega.{arith}
 use mathlib.Core.Path.{_≡_, refl, sym, ap, _∙_}
 use mathlib.Core.Option.{none, some}
 use mathlib.Core.List.{List, [], _∷_, map}
 use lib.ListN.{set, take}
 use Rattle.questions.specs.Tests.{bit}
 use Rattle.questions.specs.Questions.{Answer, firstNo, question1, question12, mostRungWatchdog, mostInstructionWatchdog}
-use Rattle.questions.specs.Laws.Answers.{first-yes, later-yes}
 use Rattle.table.specs.State.{State, stateOf, variables, writtenAt, SameButScratch}
-use Rattle.table.specs.Halt.{Halt, Ended}
-use Rattle.table.specs.Laws.Alike.{same-both}
+use Rattle.table.specs.Halt.{Ended}
+use Rattle.table.specs.Laws.Alike.{same-both, same-tables}
 use Rattle.table.specs.Laws.Legal.{LegalTable, written-legal}
 use Rattle.table.specs.Questions.{question11}
 use Rattle.rungs.specs.Records.{RungRecord}
-use Rattle.ladder_definitions.specs.Meaning.{scanLadder}
 use Rattle.ladder_definitions.specs.Kept.{Kept}
 use Rattle.ladder_definitions.specs.Questions.{ladderOf, ladderAnswer}
-use Rattle.ladder_definitions.specs.LadderScan.{LadderCounts, LadderScanCall, callLadderScan, scanQuestions as ladderScanQuestions, scanned, refused, scanEnds}
-use Rattle.ladder_definitions.specs.Laws.Accepting.{accepted, ladder-first}
+use Rattle.ladder_definitions.specs.LadderScan.{LadderScanCall, callLadderScan, scanned, scanEnds}
+use Rattle.ladder_definitions.specs.Laws.Accepting.{accepted}
+use Rattle.ladder_definitions.specs.Laws.Answers.{Asked, asked}
 use Rattle.ladder_definitions.specs.Laws.Scratch.{scan-stays}
 use Rattle.ladder_definitions.specs.Theorems.{scratch-not-read}
 use Rattle.list_definitions.specs.Instruction.{instrWord}
 use Rattle.list_definitions.specs.Questions.{question10}
 use Rattle.list_definitions.specs.ListScan.{listOf, callListScan, scanEnds as listEnds, scanQuestions}
 use Rattle.list_definitions.specs.Laws.Writes.{list-legal}
-use Rattle.translation_definitions.specs.Calls.{CallsAlike, ScansAgree}
+use Rattle.translation_definitions.specs.Calls.{CallsAlike, CallsSums, ScansAgree}
 use Rattle.translation_definitions.specs.ManyScans.{InputValue, inputPhase, Scan, listFor, longestFor, ladderWith, listWith, LadderEnds, LaddersEnd, ManyGiven, BothEnd, ManyAgree}
 use Rattle.translation_definitions.specs.Laws.Lists.{below-all}
 
@@ -77,44 +75,12 @@ input-same vars inputs t u e = record { same-vars = refl; same-variables = input
 -- ---- a ladder scan that is not refused does the same on two tables with the same variables
 
 module _ (vars : ℕ) (kept : Kept) where
-  -- questions 11 and 12 got a "yes", and the ladder was scanned
-  pub record Asked (table : List ℕ) (n : ℕ) : Type 0 where
-    pub legal : LegalTable vars table
-    pub watchdog : question12 mostRungWatchdog n ≡ none
-    pub call : callLadderScan vars kept table n ≡ scanEnds (scanLadder (ladderOf kept) n (stateOf vars table))
-
-  pub asked : (table : List ℕ) (n : ℕ) (h : Halt) (c : LadderCounts) → callLadderScan vars kept table n .answer ≡ scanned h c → Asked table n
-  unfolding callLadderScan ladderScanQuestions
-  asked table n h c e = go answers refl
-    where
-      s : State
-      s = stateOf vars table
-
-      later : List Answer
-      later = question11 s ∷ question12 mostRungWatchdog n ∷ []
-
-      answers : Answer
-      answers = ladderScanQuestions vars kept table n
-
-      go : (a : Answer) → answers ≡ a → Asked table n
-      go none q =
-          let rest = later-yes (ladderAnswer vars kept) later (sym (ladder-first vars kept later) ∙ q) in
-          record {
-            legal = first-yes (question11 s) _ rest;
-            watchdog = first-yes (question12 mostRungWatchdog n) _ (later-yes (question11 s) _ rest);
-            call = rw (q, callLadderScan);
-          }
-      go (some refusal) q =
-          let r : refused refusal ≡ scanned h c = rw (q, callLadderScan) at e in
-          let z : _≡_ {A = ℕ} 0 1 = cc in
-          absurd (omega arith)
-
   -- two ladder scans with the same answer and the same variables
   record Same (x y : LadderScanCall) : Type 0 where
     answer : x .answer ≡ y .answer
     same : SameButScratch (stateOf vars (x .table)) (stateOf vars (y .table))
 
-  ladder-same : ladderAnswer vars kept ≡ none → (t u : List ℕ) (n : ℕ) → SameButScratch (stateOf vars t) (stateOf vars u) → Asked t n → Asked u n
+  ladder-same : ladderAnswer vars kept ≡ none → (t u : List ℕ) (n : ℕ) → SameButScratch (stateOf vars t) (stateOf vars u) → Asked vars kept t n → Asked vars kept u n
       → Same (callLadderScan vars kept t n) (callLadderScan vars kept u n)
   unfolding variables scanEnds
   ladder-same ok t u n e a b =
@@ -122,12 +88,12 @@ module _ (vars : ℕ) (kept : Kept) where
       let taken = accepted vars kept ok .1 in
       let s : State = stateOf vars t in
       let s′ : State = stateOf vars u in
-      let x = scratch-not-read gs n s s′ (taken .variables) (record { table = a .legal }) (record { table = b .legal }) e in
+      let x = scratch-not-read gs n s s′ (taken .variables) (record { table = a .legal }) (record { table = b .legal }) e refl in
       let p = scan-stays gs n s (below-all vars gs taken) .same-vars in
       let q = scan-stays gs n s′ (below-all vars gs taken) .same-vars in
       rw (a .call, b .call) (record {
-        answer = λ i. scanned (x .halt i) (record { rungs = x .rungs i });
-        same = record { same-vars = refl; same-variables = rw (p, q) at (x .same .same-variables) };
+        answer = λ i. scanned (x .halt i) (record { rungs = x .rungs i; moved = x .moved i });
+        same = same-tables vars p q (x .same);
       })
 
 -- ---- scan by scan
@@ -140,7 +106,7 @@ OneScan vars kept = (table : List ℕ) (n : ℕ) → question11 (stateOf vars ta
 module _ (vars : ℕ) (kept : Kept) (demand3 : OneScan vars kept) (ok : ladderAnswer vars kept ≡ none) where
   scan-alike : (scan : Scan) (t u : List ℕ) → LegalTable vars u → SameButScratch (stateOf vars t) (stateOf vars u) → LadderEnds vars kept scan (ladderWith vars kept scan t)
       → BothEnd vars kept (ladderWith vars kept scan t) (listWith vars kept scan u)
-  unfolding ladderWith listWith CallsAlike
+  unfolding ladderWith listWith CallsAlike CallsSums
   scan-alike scan t u legal same h =
       let n = scan .rungWatchdog in
       let t′ = inputPhase (scan .inputs) t in
@@ -149,7 +115,9 @@ module _ (vars : ℕ) (kept : Kept) (demand3 : OneScan vars kept) (ok : ladderAn
       let one = demand3 u′ n (input-legal vars (scan .inputs) u legal) (a .watchdog) in
       let b = asked vars kept u′ n (one .halt) (one .counts) (one .scanned) in
       let s = ladder-same vars kept ok t′ u′ n (input-same vars (scan .inputs) t u same) a b in
-      let x = one .alike (scan .instructionWatchdog) .ended (h .counts) (sym (s .answer) ∙ h .ended) (h .watchdog) (h .enough) in
+      let w = scan .instructionWatchdog in
+      let ended = sym (s .answer) ∙ h .ended in
+      let x = one .alike w .ended (h .counts) ended (h .watchdog) (h .enough) in
       record {
         counts = h .counts;
         ladder-ended = h .ended;
@@ -161,6 +129,7 @@ module _ (vars : ℕ) (kept : Kept) (demand3 : OneScan vars kept) (ok : ladderAn
           at-least = x .at-least;
           at-most = x .at-most;
         };
+        same-sum = one .sums w .ended (h .counts) ended (h .watchdog) (h .enough);
       }
 
   scans-alike : (scans : List Scan) (t u : List ℕ) → LegalTable vars u → SameButScratch (stateOf vars t) (stateOf vars u) → LaddersEnd vars kept scans t

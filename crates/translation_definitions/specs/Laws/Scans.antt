@@ -19,7 +19,7 @@ use Rattle.list_definitions.specs.Machine.{InstructionList, Counts, Machine, fr
 use Rattle.list_definitions.specs.Laws.Watchdog.{scan-end, scan-stop, stops-sooner}
 use Rattle.list_definitions.specs.ListScan.{countsOf, scanEnds, scanned as listScanned}
 use Rattle.translation_definitions.specs.Demand3.{EndedAlike, StoppedAlike}
-use Rattle.translation_definitions.specs.Agreement.{Agreement}
+use Rattle.translation_definitions.specs.Agreement.{Agreement, SumsAgree}
 use Rattle.translation_definitions.specs.Laws.Exec.{Out, exec, machine, drop-head, drop-none, same-machine, counted, counted-instructions, counted-rungs, landing, resumes, exec-run}
 use Rattle.translation_definitions.specs.Laws.Places.{labelOf, sizeBy, listOf, followIndex, following, entered-once}
 
@@ -154,22 +154,29 @@ module _ (Alike : State → State → Type 0) (equal : (s t : State) → Alike s
     abbrev last : Machine
     last = machine (both .accumulator) (both .index) (both .counts)
 
+    -- a list scan under this watchdog comes to its end
+    ended-at : (w : ℕ) → scanLadder gs n s .halt ≡ Ended → scanLadder gs n s .rungs * longest (listOf code gs .records) ≤ w
+        → scanList (listOf code gs) w s ≡ halted Ended last (both .state)
+    unfolding scanList Standing begin fresh
+    ended-at w e h =
+        let N = both .instructions in
+        let high = both .high in
+        let h′ = rw (both .rungs) at h in
+        let ends = scan-end (listOf code gs) (w - N) last (both .state) (rw e at (both .stands)) in
+        let fuel : w ≡ N + (w - N) = omega arith in
+        ap (λ i. scanMachine (listOf code gs) i (begin (listOf code gs)) s) fuel ∙ both .runs (w - N) ∙ ends
+
     ended-alike : (w : ℕ) → scanLadder gs n s .halt ≡ Ended → scanLadder gs n s .rungs * longest (listOf code gs .records) ≤ w
         → EndedAlike least (longest (listOf code gs .records)) (scanLadder gs n s .rungs) (scanLadder gs n s .state)
         (scanEnds (scanList (listOf code gs) w s) .answer) (scanList (listOf code gs) w s .state)
-    unfolding scanList scanEnds Standing halted begin fresh listOf
+    unfolding scanEnds halted begin fresh listOf
     ended-alike w e h =
-        let N = both .instructions in
         let rungs = both .rungs in
         let low = both .low in
         let high = both .high in
         let ci = both .counts-instructions in
         let cr = both .counts-rungs in
-        let h′ = rw rungs at h in
-        let ends = scan-end (listOf code gs) (w - N) last (both .state) (rw e at (both .stands)) in
-        let fuel : w ≡ N + (w - N) = omega arith in
-        let q : scanMachine (listOf code gs) w (begin (listOf code gs)) s ≡ halted Ended last (both .state) =
-        ap (λ i. scanMachine (listOf code gs) i (begin (listOf code gs)) s) fuel ∙ both .runs (w - N) ∙ ends in
+        let q = ended-at w e h in
         record {
           counts = countsOf (halted Ended last (both .state));
           ended = ap (λ x. scanEnds x .answer) q;
@@ -197,3 +204,15 @@ module _ (Alike : State → State → Type 0) (equal : (s t : State) → Alike s
 
     pub agrees : Agreement least gs (listOf code gs) s n
     agrees = record { ended = ended-alike; stopped = stopped-alike }
+
+    -- where the relation makes the sums equal too
+    pub sums-agree : ((s t : State) → Alike s t → s .moved ≡ t .moved) → SumsAgree gs (listOf code gs) s n
+    unfolding scanEnds halted
+    sums-agree moved =
+        record {
+          ended = λ w e h. record {
+            counts = countsOf (halted Ended last (both .state));
+            ended = ap (λ x. scanEnds x .answer) (ended-at w e h);
+            same = sym (moved _ _ (both .alike));
+          };
+        }

@@ -1,5 +1,5 @@
 -- `ladder::scan::run` meets its contract. The loop's invariant: the scan from the rung that comes next is the whole scan. The measure is what is left before the watchdog.
--- Assumes nothing.
+-- Each rung adds to the sum as many as there are words, at most, and so it stays below 2^32. Assumes nothing.
 use Prim.Native.Nat.{_-_}
 use native.Mathlib.Omega.{arith}
 use borrow.Author.Needs.{needs}
@@ -8,25 +8,25 @@ use Rattle.ladder_walk.proofs.scan.run.Statement.{statement}
 use Rattle.ladder_walk.proofs.scan.run.Tie as tie
 
 abbrev Inv-loop : tie.InvT-loop
-Inv-loop words labels offsets table₀ watchdog entered₀ rung₀ table entered rung = Scanning words labels offsets table₀ watchdog table entered rung
+Inv-loop vars words labels offsets table₀ watchdog entered₀ moved₀ rung₀ table entered moved rung = Scanning vars words labels offsets table₀ watchdog table entered moved rung
 
 abbrev μ-loop : tie.MeasureT-loop
-μ-loop words labels offsets table₀ watchdog entered₀ rung₀ table entered rung = watchdog - entered
+μ-loop vars words labels offsets table₀ watchdog entered₀ moved₀ rung₀ table entered moved rung = watchdog - entered
 
 loop-holds : tie.Need-loop-holds Inv-loop μ-loop
-loop-holds c = scanning-first _ _ _ _ _
+loop-holds c = scanning-first _ _ _ _ _ _
 
 same-length : tie.Need-same-length Inv-loop μ-loop
 same-length c = c .before .loop .inv .long
 
 returns : tie.Need-returns Inv-loop μ-loop
-returns c = scan-ended _ _ _ _ _ _ _ _ (c .before .loop .inv) (c .if1 .taken)
+returns c = scan-ended _ _ _ _ _ _ _ _ _ _ (c .before .loop .inv) (c .if1 .taken)
 
 same-length-2 : tie.Need-same-length-2 Inv-loop μ-loop
 same-length-2 c = c .before .before .loop .inv .long
 
 returns-2 : tie.Need-returns-2 Inv-loop μ-loop
-returns-2 c = scan-stopped _ _ _ _ _ _ _ _ (c .before .before .loop .inv) (c .before .if1 .left) (c .if2 .taken)
+returns-2 c = scan-stopped _ _ _ _ _ _ _ _ _ _ (c .before .before .loop .inv) (c .before .if1 .left) (c .if2 .taken)
 
 add-entered : tie.Need-add-entered Inv-loop μ-loop
 add-entered c = omega (arith, c .before .before .loop .inv .within)
@@ -38,19 +38,19 @@ cast-start : tie.Need-cast-start Inv-loop μ-loop
 cast-start c = search needs
 
 run-rung-requires : tie.Need-run-rung-requires Inv-loop μ-loop
-run-rung-requires c κs = search needs
+run-rung-requires c κs = omega (arith, c .before .before .before .before .loop .inv .within, c .before .before .before .before .loop .inv .few, c .before .before .if2 .left, c .before .before .before .before .before .before .before .before .before .pre .words, c .before .before .before .before .before .before .before .before .before .pre .rungs)
 
-enum-told : tie.Need-enum-told Inv-loop μ-loop
-enum-told c = search needs
+enum-known-past-rung : tie.Need-enum-known-past-rung Inv-loop μ-loop
+enum-known-past-rung c = search needs
 
 add-rung : tie.Need-add-rung Inv-loop μ-loop
 add-rung c = omega arith
 
 loop-less : tie.Need-loop-less Inv-loop μ-loop
-loop-less c = omega (arith, c .before .before .before .before .before .before .before .before .before .loop .inv .within)
+loop-less c = omega (arith, c .before .before .before .before .before .before .before .before .before .before .loop .inv .within)
 
 loop-again : tie.Need-loop-again Inv-loop μ-loop
-loop-again c = scan-onward _ _ _ _ _ _ _ _ (c .before .before .before .before .before .before .before .before .before .loop .inv) (c .before .before .before .before .before .before .before .before .if1 .left) (c .before .before .before .before .before .before .before .if2 .left) _ (c .before .before .before .before .before .before .word-at .ensures) _ _ (c .before .before .before .before .run-rung .ensures) (c .before .before .before .before .run-rung .kept .1 .1 .0) _ (c .enum-told .given .1)
+loop-again c = scan-onward _ _ _ _ _ _ _ _ _ _ (c .before .before .before .before .before .before .before .before .before .before .loop .inv) (c .before .before .before .before .before .before .before .before .before .before .before .before .before .before .before .pre .words) (c .before .before .before .before .before .before .before .before .before .if1 .left) (c .before .before .before .before .before .before .before .before .if2 .left) _ (c .before .before .before .before .before .before .before .word-at .ensures) _ _ (c .before .before .before .before .before .run-rung .ensures) (c .before .before .before .before .before .run-rung .kept .1 .1 .1 .0) _ _ (c .before .past-rung .given .1)
 
 enum-known-label : tie.Need-enum-known-label Inv-loop μ-loop
 enum-known-label c = search needs
@@ -62,7 +62,7 @@ loop-less-2 : tie.Need-loop-less-2 Inv-loop μ-loop
 loop-less-2 c = omega (arith, c .before .before .before .before .before .before .before .before .before .before .before .loop .inv .within)
 
 loop-again-2 : tie.Need-loop-again-2 Inv-loop μ-loop
-loop-again-2 c = scan-jumped _ _ _ _ _ _ _ _ (c .before .before .before .before .before .before .before .before .before .before .before .loop .inv) (c .before .before .before .before .before .before .before .before .before .before .if1 .left) (c .before .before .before .before .before .before .before .before .before .if2 .left) _ (c .before .before .before .before .before .before .before .before .word-at .ensures) _ _ (c .before .before .before .before .before .before .run-rung .ensures) (c .before .before .before .before .before .before .run-rung .kept .1 .1 .0) _ _ (c .before .before .label .given .1) (c .search-label .ensures)
+loop-again-2 c = scan-jumped _ _ _ _ _ _ _ _ _ _ (c .before .before .before .before .before .before .before .before .before .before .before .loop .inv) (c .before .before .before .before .before .before .before .before .before .before .before .before .before .before .before .before .pre .words) (c .before .before .before .before .before .before .before .before .before .before .if1 .left) (c .before .before .before .before .before .before .before .before .before .if2 .left) _ (c .before .before .before .before .before .before .before .before .word-at .ensures) _ _ (c .before .before .before .before .before .before .run-rung .ensures) (c .before .before .before .before .before .before .run-rung .kept .1 .1 .1 .0) _ _ _ (c .before .before .label .given .1) (c .search-label .ensures)
 
 pub run-spec : {M : Type 1} → statement M
 run-spec =
@@ -79,7 +79,7 @@ run-spec =
     word-at-requires
     cast-start
     run-rung-requires
-    enum-told
+    enum-known-past-rung
     add-rung
     loop-less
     loop-again

@@ -47,11 +47,8 @@ loop-less c = omega arith
 loop-again : tie.Need-loop-again Inv-loop μ-loop
 loop-again c = omega arith
 
-scan-head-requires : tie.Need-scan-head-requires Inv-loop μ-loop
-scan-head-requires c κs = search needs
-
-put-head-requires : tie.Need-put-head-requires Inv-loop μ-loop
-put-head-requires c κs = search needs
+put-scanned-requires : tie.Need-put-scanned-requires Inv-loop μ-loop
+put-scanned-requires c κs = search needs
 
 put-bytes-requires : tie.Need-put-bytes-requires Inv-loop μ-loop
 put-bytes-requires c κs = search needs
@@ -85,8 +82,7 @@ answer-scan-spec =
     sub-left
     loop-less
     loop-again
-    scan-head-requires
-    put-head-requires
+    put-scanned-requires
     put-bytes-requires
     put-byte-requires
     same-length
