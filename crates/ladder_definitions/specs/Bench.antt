@@ -4,10 +4,10 @@ use mathlib.Core.Path.{_≡_, refl}
 use mathlib.Core.Bool.{true, false, xor}
 use mathlib.Core.List.{List, [], _∷_, _++_, map}
 use Prim.Native.Nat.{ℕ}
-use lib.ListN.{replicate, length}
+use lib.ListN.{replicate, length, take}
 use Rattle.table.specs.State.{State, stateOf, scratchBytes, variables, valueAt, value, writtenAt, turns, write, writeIf}
 use Rattle.table.specs.Halt.{Halt, Ended, Stopped}
-use Rattle.table.specs.Writes.{Write, wrote, wroteIf}
+use Rattle.table.specs.Writes.{Write, wrote, wroteIf, made, replay, changesByte, changesVariable, changes}
 use Rattle.rungs.specs.Records.{search}
 use Rattle.ladder_definitions.specs.Tree.{contact, contactn, Front, input, frontAnd, frontOr, coil, coiln, jump, jumpn, setCoil, resetCoil, Rear, output, rearAnd, rearOr, Rung, Ladder}
 use Rattle.ladder_definitions.specs.Meaning.{scanLadder, scanFrom, runRung, runRear, runOutput, workFront, workInput, jumpIf, unlessJumped, from, follow, left}
@@ -194,3 +194,15 @@ writes-in-order : map written (rowA ∷ rowB ∷ rowC ∷ latches ++ moves)
     ∷ []
 unfolding latches moves written start ladderWrites writesFrom rungWrites rearWrites outputWrites unlessJumpedWrites wroteIf runRung runRear runOutput workFront workInput jumpIf unlessJumped search from follow left valueAt value writtenAt write writeIf
 writes-in-order = refl
+
+changed : Row → ℕ
+changed r = changes (length (r .before)) (written r) (start r .bytes)
+
+replayed : Row → List ℕ
+replayed r = take (length (r .before)) (replay (written r) (start r .bytes))
+
+-- the writes alone tell each row's sum and variables
+writes-told : (map changed rows ≡ map (λ (r : Row). r .moved) rows) × (map replayed rows ≡ map (λ (r : Row). r .after) rows)
+unfolding rows further latches moves written start changed replayed made replay changesByte changesVariable changes ladderWrites writesFrom rungWrites rearWrites outputWrites unlessJumpedWrites wroteIf
+    runRung runRear runOutput workFront workInput jumpIf unlessJumped search from follow left valueAt value writtenAt write writeIf
+writes-told = (refl, refl)

@@ -1,5 +1,5 @@
 -- What is proved of the definitions of this crate, a theorem to a sentence; the proofs are in Laws. Assumes nothing.
-use Prim.Native.Nat.{ℕ, _+_, _*_, _≤_}
+use Prim.Native.Nat.{ℕ, _+_, _*_, _^_, _≤_, _<_}
 use native.Mathlib.Omega.{arith}
 use mathlib.Core.Path.{_≡_, refl, ap, _∙_}
 use mathlib.Core.Logic.{_↔_}
@@ -103,10 +103,11 @@ pub call-writes-tell : (vars : ℕ) (kept : Kept) (watchdog : ℕ) (table : List
 call-writes-tell vars kept watchdog table halt counts e = writes-tell vars kept table watchdog halt counts e
 
 -- And its sum fits 32 bits: at most 64 for each rung entered, since an output takes a word, every output but one a rear-or, and the front a word at least;
--- and at most 65,535 rungs are entered.
+-- and at most 65,535 rungs are entered, which makes 4,194,240.
 pub record SumFits (counts : LadderCounts) : Type 0 where
   pub a-rung : counts .moved ≤ mostRungWrites * counts .rungs
-  pub a-scan : counts .moved ≤ 4194240
+  pub a-scan : counts .moved ≤ mostRungWrites * mostRungWatchdog
+  pub fits : counts .moved < 2 ^ 32
 
 pub call-sum-fits : (vars : ℕ) (kept : Kept) (watchdog : ℕ) (table : List ℕ) (halt : Halt) (counts : LadderCounts)
     → callLadderScan vars kept table watchdog .answer ≡ scanned halt counts → SumFits counts
@@ -114,7 +115,7 @@ call-sum-fits vars kept watchdog table halt counts e =
     let few = sum-few vars kept table watchdog halt counts e in
     let rungs = rungs-few vars kept table watchdog halt counts e in
     let most = watchdog-in-range mostRungWatchdog watchdog (asked vars kept table watchdog halt counts e .watchdog) in
-    record { a-rung = few; a-scan = omega arith }
+    record { a-rung = few; a-scan = omega arith; fits = omega arith }
 
 -- A ladder scan's answer, and all that it leaves but scratch, do not depend on scratch.
 pub record ScansSame (x y : LadderResult) : Type 0 where

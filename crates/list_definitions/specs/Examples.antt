@@ -4,13 +4,13 @@ use mathlib.Core.Option.{some}
 use mathlib.Core.List.{List, [], _∷_, _++_, map, flatMap}
 use mathlib.Core.Bool.{true, false, xor}
 use Prim.Native.Nat.{ℕ}
-use lib.ListN.{replicate, length}
+use lib.ListN.{replicate, length, take}
 use Rattle.questions.specs.Bytes.{bytes, decimal, digits}
 use Rattle.questions.specs.Tests.{all}
 use Rattle.questions.specs.Questions.{Answer, yes, ask, varsInRange, question1, firstNo}
 use Rattle.table.specs.State.{State, stateOf, scratchBytes, variables, valueAt, value, writtenAt, turns, write, writeIf}
 use Rattle.table.specs.Halt.{Halt, Ended, Stopped}
-use Rattle.table.specs.Writes.{Write, wrote, wroteIf}
+use Rattle.table.specs.Writes.{Write, wrote, wroteIf, made, replay, changesByte, changesVariable, changes}
 use Rattle.rungs.specs.Records.{RungRecord, isStart, laid}
 use Rattle.list_definitions.specs.Instruction.{Instr, LD, LDN, ST, STN, AND, ANDN, OR, ORN, XOR, XORN, NOT, JMP, JMPC, JMPCN, S, R, operand, opOf, operandNumber, instrWord, decodeInstr, ops, onlyNot}
 use Rattle.list_definitions.specs.Machine.{InstructionList, does, count, step, fresh, begin, halted, scanMachine, scanList}
@@ -136,6 +136,17 @@ writes-in-order : map written rows
     ∷ []
 unfolding rows start written listWrites writesFrom instrWrites wroteIf begin fresh step count does isStart valueAt value writtenAt write writeIf xor
 writes-in-order = refl
+
+changed : Row → ℕ
+changed r = changes (length (r .before)) (written r) (start r .bytes)
+
+replayed : Row → List ℕ
+replayed r = take (length (r .before)) (replay (written r) (start r .bytes))
+
+-- the writes alone tell each row's sum and variables
+writes-told : (map changed rows ≡ map (λ (r : Row). r .moved) rows) × (map replayed rows ≡ map (λ (r : Row). r .after) rows)
+unfolding rows start written changed replayed made replay changesByte changesVariable changes listWrites writesFrom instrWrites wroteIf begin fresh step count does isStart valueAt value writtenAt write writeIf xor
+writes-told = (refl, refl)
 
 no-place : Answer
 no-place = some (record { number = 10; place = 0 })

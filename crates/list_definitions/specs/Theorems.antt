@@ -1,5 +1,5 @@
 -- What is proved of the definitions of this crate, a theorem to a sentence; the proofs are in Laws. Assumes nothing.
-use Prim.Native.Nat.{ℕ, _+_, _≤_}
+use Prim.Native.Nat.{ℕ, _+_, _^_, _≤_, _<_}
 use native.Mathlib.Omega.{arith}
 use mathlib.Core.Path.{_≡_, ap, _∙_}
 use mathlib.Core.Logic.{_↔_}
@@ -72,7 +72,8 @@ call-writes-tell vars words records table watchdog halt counts e = writes-tell v
 -- And its sum fits 32 bits: at most one for each instruction carried out, and at most 16,777,215 are.
 pub record SumFits (counts : ListCounts) : Type 0 where
   pub an-instruction : counts .moved ≤ counts .instructions
-  pub a-scan : counts .moved ≤ 16777215
+  pub a-scan : counts .moved ≤ mostInstructionWatchdog
+  pub fits : counts .moved < 2 ^ 32
 
 pub call-sum-fits : (vars : ℕ) (words : List ℕ) (records : List RungRecord) (table : List ℕ) (watchdog : ℕ) (halt : Halt) (counts : ListCounts)
     → callListScan vars words records table watchdog .answer ≡ scanned halt counts → SumFits counts
@@ -80,4 +81,4 @@ call-sum-fits vars words records table watchdog halt counts e =
     let few = sum-few vars words records table watchdog halt counts e in
     let carried = instructions-few vars words records table watchdog halt counts e in
     let most = watchdog-in-range mostInstructionWatchdog watchdog (asked vars words records table watchdog halt counts e .watchdog) in
-    record { an-instruction = few; a-scan = omega arith }
+    record { an-instruction = few; a-scan = omega arith; fits = omega arith }
