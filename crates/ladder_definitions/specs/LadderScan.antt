@@ -21,6 +21,7 @@ pub record LadderCounts : Type 0 where
   pub rungs : ℕ
   pub moved : ℕ
 
+-- those of a scan
 abbrev pub countsOf : LadderResult → LadderCounts
 countsOf x = record { rungs = x .rungs; moved = x .state .moved }
 

@@ -23,6 +23,7 @@ pub record ListCounts : Type 0 where
   pub rungs : ℕ
   pub moved : ℕ
 
+-- those of a scan
 abbrev pub countsOf : ListResult → ListCounts
 countsOf x = record { instructions = x .counts .instructions; rungs = x .counts .rungs; moved = x .state .moved }
 

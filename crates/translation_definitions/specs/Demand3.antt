@@ -1,5 +1,6 @@
--- Demand 3's two halves, and what document 02 adds to them, once for trees, calls, code and many scans. The ladder scan entered k rungs and left the state s; of the list scan they tell its
--- answer and the state t that it left. A rung of the list takes `least` instructions or more: 2 where Translate wrote it; `longest` is L. Assumes nothing.
+-- Demand 3's two halves, and what document 02 adds to them, once for trees, calls, code and many scans. The ladder scan entered k rungs and left the state s;
+-- of the list scan they tell its answer and the state t that it left. A rung of the list takes `least` instructions or more: 2 where Translate wrote it;
+-- `longest` is L. Assumes nothing.
 use Prim.Native.Nat.{ℕ, _*_, _≤_}
 use mathlib.Core.Path.{_≡_}
 use Rattle.questions.specs.Questions.{yes, question12, mostInstructionWatchdog}

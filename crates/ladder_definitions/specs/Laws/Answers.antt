@@ -51,13 +51,17 @@ module _ (vars : ℕ) (k : Kept) (table : List ℕ) (n : ℕ) (h : Halt) (c : La
           let z : _≡_ {A = ℕ} 0 1 = cc in
           absurd (omega arith)
 
-  -- its counts are those of the scan
-  pub counted : countsOf (scanLadder (ladderOf k) n (stateOf vars table)) ≡ c
+  same-answer : scanned (scanLadder (ladderOf k) n (stateOf vars table) .halt) (countsOf (scanLadder (ladderOf k) n (stateOf vars table))) ≡ scanned h c
   unfolding scanEnds
-  counted =
-      let z : scanned (scanLadder (ladderOf k) n (stateOf vars table) .halt) (countsOf (scanLadder (ladderOf k) n (stateOf vars table))) ≡ scanned h c
-      = sym (ap (λ x. x .answer) (asked .call)) ∙ e in
-      cc
+  same-answer = sym (ap (λ x. x .answer) (asked .call)) ∙ e
+
+  -- it tells how the scan halted,
+  pub halt-told : scanLadder (ladderOf k) n (stateOf vars table) .halt ≡ h
+  halt-told = let z = same-answer in cc
+
+  -- and its counts
+  pub counted : countsOf (scanLadder (ladderOf k) n (stateOf vars table)) ≡ c
+  counted = let z = same-answer in cc
 
   pub writes-tell : WritesTell vars (ladderWrites (ladderOf k) n (stateOf vars table)) table (c .moved) (callLadderScan vars k table n .table)
   unfolding scanEnds

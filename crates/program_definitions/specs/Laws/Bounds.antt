@@ -8,7 +8,6 @@ use mathlib.Core.List.{List, [], _∷_, _++_}
 use lib.Dec.{T, eqb, leb→le}
 use lib.ListN.{length, take, drop, replicate, length-append, length-replicate, take-append-drop}
 use lib.Seq.{length-take-le}
-use mir.Facts.{and-yes}
 use Rattle.questions.specs.Bytes.{bytes, decimal}
 use Rattle.questions.specs.Tests.{all}
 use Rattle.questions.specs.Questions.{Refusal, Answer, firstNo, question1, question13, longEnough, mostRungWatchdog, mostInstructionWatchdog}
@@ -16,9 +15,9 @@ use Rattle.questions.specs.Laws.Answers.{ask-passed, first-yes, later-yes, vars
 use Rattle.questions.specs.Laws.Tests.{all-head, all-tail, all-first}
 use Rattle.printing.specs.Laws.Puts.{decimal-long, decimal-most}
 use Rattle.table.specs.Halt.{Halt, Ended, Stopped}
-use Rattle.table.specs.State.{stateOf, tableSize}
-use Rattle.table.specs.Questions.{isBit, tableInRange, question11}
-use Rattle.table.specs.Laws.Alike.{table-room}
+use Rattle.table.specs.State.{stateOf}
+use Rattle.table.specs.Questions.{isBit}
+use Rattle.table.specs.Laws.Alike.{table-room, table-bits}
 use Rattle.rungs.specs.Records.{RungRecord, longest, mostRecords}
 use Rattle.rungs.specs.Buffers.{Buffers, written as writtenFrom, writtenWords, writtenRecords}
 use Rattle.rungs.specs.Laws.Filling.{written-first}
@@ -238,9 +237,7 @@ verdict-short notAlike = omega arith
 -- the V variables of a legal table
 module _ (vars : ℕ) (table : List ℕ) (legal : LegalTable vars table) where
   bits : T (all isBit (take vars table))
-  unfolding question11 tableInRange
-  bits = all-first isBit (take vars table) (drop vars table)
-      (rw (take-append-drop vars table) (and-yes (eqb (length table) (tableSize vars)) (all isBit table) (ask-passed 11 _ legal) .1))
+  bits = all-first isBit (take vars table) (drop vars table) (rw (take-append-drop vars table) (table-bits (stateOf vars table) legal))
 
   as-many : length (take vars table) ≡ vars
   as-many = let m = table-room (stateOf vars table) legal in length-take-le vars table (omega (arith, m))

@@ -6,7 +6,7 @@ use mathlib.Core.List.{List}
 use Prim.Native.Nat.{ℕ, _+_, _≤_, _<_}
 use native.Mathlib.Omega.{arith}
 use native.Mathlib.Decide.{ℕ-discrete, decLt}
-use lib.Dec.{eqb, eqb→eq}
+use lib.Dec.{T, eqb, eqb→eq}
 use lib.ListN.{length, getD, set, take, length-set, length-take}
 use lib.Seq.{getD-set-same, getD-set-other, ext-getD, getD-take, set-out, drop-set-lt}
 use borrow.Author.Tests.{le-ltb}
@@ -20,6 +20,11 @@ use Rattle.table.specs.Questions.{tableInRange, question11, isBit, Legal
 pub table-room : (s : State) → question11 s ≡ none → length (s .bytes) ≡ tableSize (s .vars)
 unfolding question11 tableInRange
 table-room s e = eqb→eq _ _ (and-yes (eqb (length (s .bytes)) (tableSize (s .vars))) (all isBit (s .bytes)) (ask-passed 11 _ e) .0)
+
+-- and they are 0 and 1
+pub table-bits : (s : State) → question11 s ≡ none → T (all isBit (s .bytes))
+unfolding question11 tableInRange
+table-bits s e = and-yes (eqb (length (s .bytes)) (tableSize (s .vars))) (all isBit (s .bytes)) (ask-passed 11 _ e) .1
 
 -- The states s and t have V variables, and these are equal, as is what was turned over; their scratch may differ.
 pub record Alike (vars : ℕ) (s t : State) : Type 0 where

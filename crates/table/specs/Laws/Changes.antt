@@ -9,14 +9,12 @@ use lib.Dec.{T, eqb, ltb, leb→le}
 use lib.ListN.{length, getD}
 use lib.Seq.{getD-set-same}
 use borrow.Author.Tests.{ltb-true}
-use mir.Facts.{and-yes}
 use Rattle.questions.specs.Tests.{all, bit}
 use Rattle.questions.specs.Laws.Tests.{all-head, all-tail}
-use Rattle.questions.specs.Laws.Answers.{ask-passed}
-use Rattle.table.specs.State.{State, stateOf, tableSize, truth, valueAt, writtenAt, turns, write}
-use Rattle.table.specs.Questions.{isBit, tableInRange, question11}
+use Rattle.table.specs.State.{State, stateOf, truth, valueAt, writtenAt, turns, write}
+use Rattle.table.specs.Questions.{isBit}
 use Rattle.table.specs.Writes.{Write, wrote, made, changesByte, changesVariable, changes, WritesTell}
-use Rattle.table.specs.Laws.Alike.{table-room}
+use Rattle.table.specs.Laws.Alike.{table-room, table-bits}
 use Rattle.table.specs.Laws.Legal.{LegalTable, written-legal}
 use Rattle.table.specs.Laws.Moved.{write-few}
 use Rattle.table.specs.Laws.Replaying.{makes, makes-bytes}
@@ -36,7 +34,7 @@ byte-changes (suc zero) false h = refl
 byte-changes (suc (suc x)) b h = absurd (omega arith)
 
 pub turns-changes : (vars : ℕ) (bytes : List ℕ) (i : ℕ) (b : Bool) → LegalTable vars bytes → turns vars bytes i b ≡ changesVariable vars (wrote i b) bytes
-unfolding turns changesVariable changesByte made writtenAt valueAt question11 tableInRange
+unfolding turns changesVariable changesByte made writtenAt valueAt
 turns-changes vars bytes i b legal = go (ltb i vars) refl
   where
     go : (c : Bool) → ltb i vars ≡ c → turns vars bytes i b ≡ changesVariable vars (wrote i b) bytes
@@ -44,7 +42,7 @@ turns-changes vars bytes i b legal = go (ltb i vars) refl
     go true e =
         let room = table-room (stateOf vars bytes) legal in
         let below = ltb-true i vars e in
-        let bits = and-yes (eqb (length bytes) (tableSize vars)) (all isBit bytes) (ask-passed 11 _ legal) .1 in
+        let bits = table-bits (stateOf vars bytes) legal in
         rw (e, getD-set-same bytes i (bit b) 0 (omega arith)) (byte-changes (getD bytes i 0) b (bit-at bytes i bits))
 
 -- the sum after some writes

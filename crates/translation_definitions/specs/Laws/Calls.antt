@@ -1,7 +1,7 @@
 -- Demand 3 over the calls, from demand 3 over trees: what the calls do once every question got a "yes". Assumes nothing.
 use Prim.Native.Nat.{ℕ, _*_, _≤_}
 use native.Mathlib.Omega.{arith}
-use mathlib.Core.Path.{_≡_, sym, ap, _∙_}
+use mathlib.Core.Path.{_≡_, ap, _∙_}
 use mathlib.Core.Option.{none}
 use mathlib.Core.List.{List, [], _∷_, map}
 use lib.ListN.{length, take, length-map}
@@ -20,6 +20,7 @@ use Rattle.ladder_definitions.specs.Kept.{Kept}
 use Rattle.ladder_definitions.specs.Questions.{ladderOf, ladderAnswer, Accepted}
 use Rattle.ladder_definitions.specs.LadderScan.{LadderCounts, countsOf as ladderCountsOf, callLadderScan, scanned as ladderScanned, scanEnds as ladderEnds, scanQuestions as ladderScanQuestions}
 use Rattle.ladder_definitions.specs.Laws.Accepting.{accepted, ladder-first}
+use Rattle.ladder_definitions.specs.Laws.Answers.{halt-told, counted}
 use Rattle.ladder_definitions.specs.Laws.Scratch.{scan-stays}
 use Rattle.ladder_definitions.specs.Laws.Watchdog.{stopped-rungs, few-rungs}
 use Rattle.list_definitions.specs.Instruction.{instrWord, codeOf}
@@ -86,12 +87,9 @@ module _ (vars : ℕ) (kept : Kept) (table : List ℕ) (n : ℕ)
   -- what the ladder scan's answer tells
   answered : (h : Halt) (c : LadderCounts) → callLadderScan vars kept table n .answer ≡ ladderScanned h c
       → (scanLadder gs n s .halt ≡ h) × (scanLadder gs n s .rungs ≡ c .rungs) × (scanLadder gs n s .state .moved ≡ c .moved)
-  unfolding ladderEnds
   answered h c e =
-      let z : ladderScanned (scanLadder gs n s .halt) (ladderCountsOf (scanLadder gs n s)) ≡ ladderScanned h c = sym (ap (λ c. c .answer) ladder-call) ∙ e in
-      let halt : scanLadder gs n s .halt ≡ h = cc in
-      let counts : ladderCountsOf (scanLadder gs n s) ≡ c = cc in
-      (halt, ap (λ (d : LadderCounts). d .rungs) counts, ap (λ (d : LadderCounts). d .moved) counts)
+      let counts = counted vars kept table n h c e in
+      (halt-told vars kept table n h c e, ap (λ (d : LadderCounts). d .rungs) counts, ap (λ (d : LadderCounts). d .moved) counts)
 
   ended-calls : (w : ℕ) (c : LadderCounts) → callLadderScan vars kept table n .answer ≡ ladderScanned Ended c → question12 mostInstructionWatchdog w ≡ none → c .rungs * most ≤ w
       → EndedAlike 2 most (c .rungs) (stateOf vars (callLadderScan vars kept table n .table)) (callListScan vars words (list .records) table w .answer)
