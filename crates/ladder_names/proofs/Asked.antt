@@ -7,16 +7,17 @@ use mathlib.Core.Path.{_≡_, refl, sym, ap, _∙_}
 use mathlib.Core.Bool.{Bool, true, false, true≢false, not, _&&_, _||_, and-assoc, and-true, and-false}
 use mathlib.Core.Option.{none, some}
 use mathlib.Core.List.{List, [], _∷_, _++_, map, flatMap, append-assoc, append-nil}
-use lib.Dec.{T, eqb, leb, ltb, ltb→lt}
+use lib.Dec.{T, leb, ltb, ltb→lt}
 use lib.ListN.{length, getD, take, drop, length-append, length-drop, length-map}
 use lib.Seq.{drop-cons, drop-drop, take-append-seam, drop-append-seam, length-take-le, getD-take}
 use mir.Facts.{and-yes}
 use borrow.Author.Count.{below-more}
-use borrow.Author.Tests.{eq-eqb, ne-eqb, lt-ltb, le-ltb, le-leb, lt-leb}
+use borrow.Author.Tests.{lt-ltb, le-ltb, le-leb, lt-leb}
 use Rattle.questions.specs.Tests.{all, firstFailed}
 use Rattle.questions.specs.Laws.Tests.{T→true, all-head, all-tail, all-cons, all-ends, failed-none}
 use Rattle.rungs.specs.Words.{operands, word, numberOf, operandOf}
 use Rattle.rungs.specs.Records.{search, present}
+use Rattle.rungs.specs.Laws.Search.{search-before, search-past}
 use Rattle.ladder_definitions.specs.Tree.{Input, contact, contactn, Front, input, frontAnd, frontOr, Output, coil, coiln, jump, jumpn, setCoil, resetCoil, Rear, output, rearAnd, rearOr, Rung, Ladder, inputVariable, outputNames, number, frontAll, rearAll, rungAll}
 use Rattle.ladder_definitions.specs.Kept.{inputKind, outputKind, noName, nameSorts, nameSort, inputWord, outputWord, frontWords, rearWords, rungWords, encode, inputFits, outputFits}
 use Rattle.ladder_definitions.specs.Questions.{mostRungs, mostWords, sizesInRange, inputBelow, namedBelow, outputBelow, newLabels, namedLeads, outputLeads}
@@ -318,24 +319,9 @@ module _ {test : ℕ → Bool} {inputs : Input → Bool} {outputs : Output → B
 -- ---- labels
 
 -- a label is present where it stands, and nowhere else
-search-below : (l : ℕ) (ls : List ℕ) (i : ℕ) → i < length ls → getD ls i 0 ≡ l → search l ls < length ls
-unfolding search
-search-below l [] i h e = absurd (omega arith)
-search-below l (m ∷ ls) zero h e = rw (eq-eqb m l e, search) (omega arith)
-search-below l (m ∷ ls) (suc i) h e = go (eqb m l) refl (search-below l ls i (omega arith) e)
-  where
-    go : (b : Bool) → eqb m l ≡ b → search l ls < length ls → search l (m ∷ ls) < suc (length ls)
-    go true q ih = rw (q, search) (omega arith)
-    go false q ih = rw (q, search) (omega arith)
-
-search-past : (l : ℕ) (ls : List ℕ) → ((i : ℕ) → i < length ls → getD ls i 0 ≡ l → ⊥) → search l ls ≡ length ls
-unfolding search
-search-past l [] h = refl
-search-past l (m ∷ ls) h = rw (ne-eqb m l (h 0 (omega arith)), search, search-past l ls (λ i k. h (suc i) (omega arith)))
-
 present-at : (l : ℕ) (ls : List ℕ) (i : ℕ) → i < length ls → getD ls i 0 ≡ l → present l ls ≡ true
 unfolding present
-present-at l ls i h e = lt-ltb (search l ls) (length ls) (search-below l ls i h e)
+present-at l ls i h e = let b = search-before l ls i h e in lt-ltb (search l ls) (length ls) (omega arith)
 
 absent : (l : ℕ) (ls : List ℕ) → ((i : ℕ) → i < length ls → getD ls i 0 ≡ l → ⊥) → present l ls ≡ false
 unfolding present

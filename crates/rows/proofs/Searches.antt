@@ -1,52 +1,20 @@
 -- Laws of the search for a label, record by record: where it would end, seen from each record. Assumes nothing.
-use Prim.Native.Nat.{ℕ, zero, suc, _+_, _≤_, _<_}
+use Prim.Native.Nat.{ℕ, _+_, _≤_, _<_}
 use native.Mathlib.Decide.{ℕ-discrete}
 use native.Mathlib.Omega.{arith}
 use mathlib.Core.Bool.{Bool, true, false}
 use mathlib.Core.Path.{_≡_, refl, ap, sym, _∙_}
-use mathlib.Core.List.{List, [], _∷_}
-use lib.Dec.{eqb, ltb}
+use mathlib.Core.List.{List}
+use lib.Dec.{ltb}
 use lib.ListN.{length, getD, take}
 use lib.Seq.{length-take-le, getD-take}
 use borrow.Author.Tests.{ltb-true, ltb-false, lt-ltb, le-ltb, eq-eqb, ne-eqb}
 use Rattle.rungs.specs.Records.{labels, search}
+use Rattle.rungs.specs.Laws.Search.{search-within, search-before, search-at}
 use Rattle.rows.specs.declared.Rung.{Rung}
 use Rattle.rows.specs.Rows.{recordOf, recordsOf}
 use Rattle.rows.specs.Parts.{nextFound}
 use Rattle.rows.specs.Laws.Records.{rungAt, labels-at, labels-length}
-
--- ---- of the search
-
-search-within : (l : ℕ) (ms : List ℕ) → search l ms ≤ length ms
-unfolding search
-search-within l [] = omega arith
-search-within l (m ∷ ms) = go (eqb m l) (search-within l ms)
-  where
-    go : (t : Bool) → search l ms ≤ length ms → elim t [ true ↦ 0 | false ↦ suc (search l ms) ] ≤ suc (length ms)
-    go true p = omega arith
-    go false p = omega arith
-
--- it goes no further than a place that has the label, and not to one that has not
-search-before : (l : ℕ) (ms : List ℕ) (i : ℕ) → i < length ms → getD ms i 0 ≡ l → search l ms ≤ i
-unfolding search
-search-before l [] i h e = absurd (omega arith)
-search-before l (m ∷ ms) zero h e = rw (eq-eqb m l e, search) (omega arith)
-search-before l (m ∷ ms) (suc i) h e = go (eqb m l) (search-before l ms i (omega arith) e)
-  where
-    go : (t : Bool) → search l ms ≤ i → elim t [ true ↦ 0 | false ↦ suc (search l ms) ] ≤ suc i
-    go true p = omega arith
-    go false p = omega arith
-
-search-at : (l : ℕ) (ms : List ℕ) → search l ms < length ms → getD ms (search l ms) 0 ≡ l
-unfolding search
-search-at l [] h = absurd (omega arith)
-search-at l (m ∷ ms) h = go (ℕ-discrete m l) h (search-at l ms)
-  where
-    go : Dec (m ≡ l) → search l (m ∷ ms) < suc (length ms) → (search l ms < length ms → getD ms (search l ms) 0 ≡ l) → getD (m ∷ ms) (search l (m ∷ ms)) 0 ≡ l
-    go (yes e) h more = rw (eq-eqb m l e, search) e
-    go (no e) h more =
-        let p : search l (m ∷ ms) ≡ suc (search l ms) = rw (ne-eqb m l e, search) in
-        rw p (more (omega arith))
 
 -- ---- of the first records
 

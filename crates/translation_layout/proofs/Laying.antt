@@ -148,20 +148,20 @@ module _ (vars : ℕ) (ws ls os : List ℕ) (k put : ℕ) (b : Before vars ws ls
       let p = few-put starts r in
       (few-vars vars ws ls os starts r, m, omega arith)
 
--- one rung's instructions put, from its offset on
-module _ (vars : ℕ) (ws ls os : List ℕ) (k put : ℕ) (h : k < length os) (at : ℕ) (here : at ≡ getD os k 0) (st : List ℕ) (r : Positions) (e x : List ℕ)
-    (p : RungPut vars ws at ls st put r e x) where
+-- one rung's instructions put, from its offset on, its jumps by the labels ms and their starts
+module _ (vars : ℕ) (ws ls os : List ℕ) (k put : ℕ) (h : k < length os) (at : ℕ) (here : at ≡ getD os k 0) (ms st : List ℕ) (r : Positions) (e x : List ℕ)
+    (p : RungPut vars ws at ms st put r e x) where
   module _ (gs : Ladder) (held : LadderHeld ws ls os gs) where
     abbrev pub rungAt : Rung
     rungAt = nextOf ws ls os k h gs held .apart .rung
 
-    pub one-put : CodePut at (length (rungWords rungAt)) put (rungCode vars (startIn ls st) rungAt) r e x
+    pub one-put : CodePut at (length (rungWords rungAt)) put (rungCode vars (startIn ms st) rungAt) r e x
     one-put =
         let n = nextOf ws ls os k h gs held in
         p .done rungAt (subst (λ (i : ℕ). RungAt ws i rungAt) (sym here) (rung-at ws ls os gs held k (in-ladder ws ls os k h gs held) (n .apart)))
 
     pub one-size : r .put ≡ put + sizeOf vars rungAt
-    one-size = one-put .end ∙ ap (λ n. put + n) (same-length vars (startIn ls st) (λ l. 0) rungAt)
+    one-size = one-put .end ∙ ap (λ n. put + n) (same-length vars (startIn ms st) (λ l. 0) rungAt)
 
   pub before-more : Before vars ws ls os k put → Before vars ws ls os (k + 1) (r .put)
   before-more b = record {
@@ -220,13 +220,13 @@ module _ (vars : ℕ) (ws ls os e x none : List ℕ) (k put most : ℕ) (l : Lay
       let d = r .enough in
       (a, omega arith, omega arith)
 
-  pub laying-more : k < length os → (at : ℕ) → at ≡ getD os k 0 → (st : List ℕ) (r : Positions) (a b : List ℕ) → RungPut vars ws at ls st put r a b
+  pub laying-more : k < length os → (at : ℕ) → at ≡ getD os k 0 → (ms st : List ℕ) (r : Positions) (a b : List ℕ) → RungPut vars ws at ms st put r a b
       → (most′ : ℕ) → most′ ≡ max most (r .put - put) → (none′ : List ℕ) → length none′ ≡ 0 → Laying vars ws ls os e (set x k put) none′ (k + 1) (r .put) most′
-  laying-more h at here st r a b p most′ m none′ z = record {
-    put-before = before-more vars ws ls os k put h at here st r a b p (l .put-before);
+  laying-more h at here ms st r a b p most′ m none′ z = record {
+    put-before = before-more vars ws ls os k put h at here ms st r a b p (l .put-before);
     longest-before = λ gs held.
         let n = nextOf ws ls os k h gs held in
-        let s : r .put - put ≡ sizeOf vars (n .apart .rung) = omega (arith, one-size vars ws ls os k put h at here st r a b p gs held) in
+        let s : r .put - put ≡ sizeOf vars (n .apart .rung) = omega (arith, one-size vars ws ls os k put h at here ms st r a b p gs held) in
         m ∙ ap (λ i. max most i) s ∙ ap (λ i. max i (sizeOf vars (n .apart .rung))) (l .longest-before gs held) ∙ sym (longest-more vars gs k n);
     starts = λ gs held.
         stored-offset vars gs k (nextOf ws ls os k h gs held) (in-ladder ws ls os k h gs held) e x put (l .starts gs held) (l .put-before .same gs held);

@@ -93,7 +93,7 @@ module _ (vars : ℕ) (ws ls os starts : List ℕ) (e x : Buffers) (k put : ℕ)
 
   module _ (h : k < length os) (at : ℕ) (here : at ≡ getD os k 0) (r : Positions) (c : List ℕ) (p : RungPut vars ws at ls starts put r (x .words) c) where
     after : Before vars ws ls os (k + 1) (r .put)
-    after = before-more vars ws ls os k put h at here starts r (x .words) c p (w .put-before)
+    after = before-more vars ws ls os k put h at here ls starts r (x .words) c p (w .put-before)
 
     pub few-more : LadderReady vars ws ls os starts → r .put ≤ 16384
     few-more ready = few-put vars ws ls os (k + 1) (r .put) after starts ready
@@ -104,7 +104,7 @@ module _ (vars : ℕ) (ws ls os starts : List ℕ) (e x : Buffers) (k put : ℕ)
       put-before = after;
       words = λ gs held.
           words-stored vars (startIn ls starts) gs k (nextOf ws ls os k h gs held) (e .words) (x .words) (y .words) put (w .words gs held) (w .put-before .same gs held)
-          (a ∙ one-put vars ws ls os k put h at here starts r (x .words) c p gs held .wrote);
+          (a ∙ one-put vars ws ls os k put h at here ls starts r (x .words) c p gs held .wrote);
       labels = λ gs held.
           let n = nextOf ws ls os k h gs held in
           f ∙ stored-label vars gs k n (in-ladder ws ls os k h gs held) (e .labels) (x .labels) (getD ls k 0) (w .labels gs held)
@@ -114,7 +114,7 @@ module _ (vars : ℕ) (ws ls os starts : List ℕ) (e x : Buffers) (k put : ℕ)
           (w .put-before .same gs held);
       lengths = λ gs held.
           l ∙ stored-length vars gs k (nextOf ws ls os k h gs held) (in-ladder ws ls os k h gs held) (e .lengths) (x .lengths) (r .put - put) (w .lengths gs held)
-          (omega (arith, one-size vars ws ls os k put h at here starts r (x .words) c p gs held));
+          (omega (arith, one-size vars ws ls os k put h at here ls starts r (x .words) c p gs held));
     }
 
   module _ (h : length os ≤ k) (gs : Ladder) (held : LadderHeld ws ls os gs) where

@@ -21,6 +21,8 @@ pub fn lay_out(
         (now (starts .entry)) (now (starts .exit)) ⌝ }
 {
     let mut none = [0u32; 0];
+    // A rung is as long wherever its jumps lead: no label is searched.
+    let no_labels = &labels[..0];
     let mut instructions: usize = 0;
     let mut longest: usize = 0;
     let mut rung: usize = 0;
@@ -31,7 +33,7 @@ pub fn lay_out(
             vars,
             words,
             at,
-            labels,
+            no_labels,
             starts,
             &mut none,
             instructions,

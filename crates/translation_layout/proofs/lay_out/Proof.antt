@@ -8,27 +8,30 @@ use Rattle.translation_layout.proofs.lay_out.Statement.{statement}
 use Rattle.translation_layout.proofs.lay_out.Tie as tie
 
 abbrev Inv-loop : tie.InvT-loop
-Inv-loop vars words labels offsets starts₀ none₀ instructions₀ longest₀ rung₀ starts none instructions longest rung =
+Inv-loop vars words labels offsets starts₀ none₀ no-labels instructions₀ longest₀ rung₀ starts none instructions longest rung =
     Laying vars words labels offsets starts₀ starts none rung instructions longest
 
 abbrev μ-loop : tie.MeasureT-loop
-μ-loop vars words labels offsets starts₀ none₀ instructions₀ longest₀ rung₀ starts none instructions longest rung =
+μ-loop vars words labels offsets starts₀ none₀ no-labels instructions₀ longest₀ rung₀ starts none instructions longest rung =
     length offsets - rung
+
+slice-aggregate-no-labels : tie.Need-slice-aggregate-no-labels Inv-loop μ-loop
+slice-aggregate-no-labels c = refl
 
 loop-holds : tie.Need-loop-holds Inv-loop μ-loop
 loop-holds c = laying-first _ _ _ _ _
 
 cast-starts : tie.Need-cast-starts Inv-loop μ-loop
-cast-starts c = let h = room _ _ _ _ _ _ _ _ _ _ (c .before .loop .inv) (c .before .before .before .before .before .before .pre) (c .loop-test .taken) .0 in omega arith
+cast-starts c = let h = room _ _ _ _ _ _ _ _ _ _ (c .before .loop .inv) (c .before .before .before .before .before .before .before .pre) (c .loop-test .taken) .0 in omega arith
 
 mul-starts : tie.Need-mul-starts Inv-loop μ-loop
-mul-starts c = let h = room _ _ _ _ _ _ _ _ _ _ (c .before .loop .inv) (c .before .before .before .before .before .before .pre) (c .loop-test .taken) .2 in omega arith
+mul-starts c = let h = room _ _ _ _ _ _ _ _ _ _ (c .before .loop .inv) (c .before .before .before .before .before .before .before .pre) (c .loop-test .taken) .2 in omega arith
 
 slice-write-starts : tie.Need-slice-write-starts Inv-loop μ-loop
-slice-write-starts c = room _ _ _ _ _ _ _ _ _ _ (c .before .loop .inv) (c .before .before .before .before .before .before .pre) (c .loop-test .taken) .1
+slice-write-starts c = room _ _ _ _ _ _ _ _ _ _ (c .before .loop .inv) (c .before .before .before .before .before .before .before .pre) (c .loop-test .taken) .1
 
 mul-at : tie.Need-mul-at Inv-loop μ-loop
-mul-at c = let h = room _ _ _ _ _ _ _ _ _ _ (c .before .loop .inv) (c .before .before .before .before .before .before .pre) (c .loop-test .taken) .2 in omega arith
+mul-at c = let h = room _ _ _ _ _ _ _ _ _ _ (c .before .loop .inv) (c .before .before .before .before .before .before .before .pre) (c .loop-test .taken) .2 in omega arith
 
 shared-slice-read-at : tie.Need-shared-slice-read-at Inv-loop μ-loop
 shared-slice-read-at c = c .before .loop-test .taken
@@ -42,7 +45,7 @@ slice-aggregate-rung-code c = sym (c .before .before .before .before .loop .inv 
 rung-code-requires : tie.Need-rung-code-requires Inv-loop μ-loop
 rung-code-requires c κs =
     rung-ready _ _ _ _ _ _ (c .before .before .before .before .loop .inv .put-before) _
-    (c .before .before .before .before .before .before .before .before .before .pre) _
+    (c .before .before .before .before .before .before .before .before .before .before .pre) _
 
 sub-larger : tie.Need-sub-larger Inv-loop μ-loop
 sub-larger c = c .before .before .rung-code .ensures .within .on
@@ -53,7 +56,7 @@ larger-requires c κs = tt
 add-rung : tie.Need-add-rung Inv-loop μ-loop
 add-rung c =
     let i = c .before .before .before .before .before .before .before in
-    let h = room _ _ _ _ _ _ _ _ _ _ (i .before .loop .inv) (i .before .before .before .before .before .before .pre) (i .loop-test .taken) .2 in
+    let h = room _ _ _ _ _ _ _ _ _ _ (i .before .loop .inv) (i .before .before .before .before .before .before .before .pre) (i .loop-test .taken) .2 in
     omega arith
 
 loop-less : tie.Need-loop-less Inv-loop μ-loop
@@ -62,7 +65,7 @@ loop-less c = let h = c .before .before .before .before .before .before .before 
 loop-again : tie.Need-loop-again Inv-loop μ-loop
 loop-again c =
     let i = c .before .before .before .before .before .before .before in
-    laying-more _ _ _ _ _ _ _ _ _ _ (i .before .loop .inv) (i .loop-test .taken) _ refl _ _ _ _
+    laying-more _ _ _ _ _ _ _ _ _ _ (i .before .loop .inv) (i .loop-test .taken) _ refl _ _ _ _ _
     (c .before .before .before .rung-code .ensures) _ (c .larger .ensures) _ (c .before .before .none2 .given)
 
 same-length : tie.Need-same-length Inv-loop μ-loop
@@ -77,6 +80,7 @@ lay-out-spec =
     (tie.spec
     Inv-loop
     μ-loop
+    slice-aggregate-no-labels
     loop-holds
     cast-starts
     mul-starts
