@@ -1,7 +1,7 @@
-/* The five calls of document 01, with document 02's requests up to Req 02, in plain C, for comparison. Written from the documents alone; it
-   shares nothing with the proved code.
+/* The five calls of document 01 and the search for a label, with document 02's requests up to Req 03, in plain C, for comparison. Written
+   from the documents alone; it shares nothing with the proved code.
    Standard input: a number of turns, LF, and one request of the vectors' format. Each turn works on fresh copies of the lent buffers.
-   Standard output: the request's answer line, as the program vectors prints it. Standard error: nanoseconds a turn. */
+   Standard output: the request's answer line, as the program test_vectors prints it. Standard error: nanoseconds a turn. */
 #include <stdint.h>
 #include <stdio.h>
 #include <stdlib.h>
@@ -63,11 +63,17 @@ static int holds(const uint32_t *w, size_t n, const Rung *r, size_t m)
     return start == n;
 }
 
-static size_t search(const Rung *r, size_t m, uint32_t label)
+/* "the search goes up from record 0, ends at the match, and tells how many records it looked at" */
+typedef struct { int found; size_t place, looked; } Search;
+
+static Search search(const Rung *r, size_t m, uint32_t label)
 {
-    size_t i = 0;
-    while (i < m && r[i].label != label) i++;
-    return i;
+    Search s = {0, 0, 0};
+    for (size_t i = 0; i < m; i++) {
+        s.looked++;
+        if (r[i].label == label) { s.found = 1; s.place = i; break; }
+    }
+    return s;
 }
 
 /* Scratch that a part takes; *at moves past it. */
@@ -111,7 +117,7 @@ static No asked(uint32_t vars, const uint32_t *w, size_t n, const Rung *r, size_
         for (size_t i = 0; i < j; i++) if (r[i].label == r[j].label) return no(7, j);
     for (size_t i = 0; i < m; i++)
         for (size_t j = r[i].offset; j < r[i].offset + r[i].length; j++)
-            if ((kind(w[j]) == 7 || kind(w[j]) == 8) && search(r, m, operand(w[j])) == m) return no(8, i);
+            if ((kind(w[j]) == 7 || kind(w[j]) == 8) && !search(r, m, operand(w[j])).found) return no(8, i);
     if (scratch)
         for (size_t i = 0; i < m; i++) {
             size_t at = r[i].offset;
@@ -185,7 +191,7 @@ static Scan ladder_scan(uint32_t vars, const uint32_t *w, size_t n, const Rung *
         size_t at = r[rung].offset;
         int power = front_value(w, &at, t);
         int32_t jump = run_rear(w, &at, power, t, &s);
-        rung = jump < 0 ? rung + 1 : search(r, m, (uint32_t)jump);
+        rung = jump < 0 ? rung + 1 : search(r, m, (uint32_t)jump).place;
     }
 }
 
@@ -296,7 +302,7 @@ static size_t rear_code(const uint32_t *w, size_t at, uint32_t depth, Out *o)
     case 6: emit(o, STN, x); return at + 1;
     case 11: emit(o, S, x); return at + 1;
     case 12: emit(o, R, x); return at + 1;
-    case 7: case 8: { size_t i = search(o->rungs, o->m, x); emit(o, k == 7 ? JMPC : JMPCN, i < o->m ? o->starts[i] : 0); return at + 1; }
+    case 7: case 8: emit(o, k == 7 ? JMPC : JMPCN, o->starts[search(o->rungs, o->m, x).place]); return at + 1;
     case 9: at = join_code(w, at + 1, AND, depth, o); return rear_code(w, at, depth, o);
     default:
         emit(o, ST, o->vars + depth);
@@ -315,7 +321,7 @@ static Translation translate(uint32_t vars, const uint32_t *w, size_t n, const R
     t.no = ladder_asked(vars, w, n, r, m);
     if (t.no.number) return t;
     memset(starts, 0, sizeof starts);
-    Out count = {code, 0, 0, vars, r, m, starts};
+    Out count = {code, 0, 0, vars, r, 0, starts};   /* counting needs no jump's rung, and has no record to search */
     for (size_t i = 0; i < m; i++) {
         size_t begin = count.put;
         starts[i] = (uint32_t)begin;
@@ -555,13 +561,15 @@ static double now(void) { struct timespec t; clock_gettime(CLOCK_MONOTONIC, &t);
 
 int main(void)
 {
-    uint32_t turns = next(), call = next(), vars = next();
-    size_t n, m = 0, a = 0, b = 0;
+    uint32_t turns = next(), call = next(), vars = call == 6 ? 0 : next();
+    size_t n = 0, m = 0, a = 0, b = 0;
     ReadDone r = {YES, 0, 0};
     Translation t = {YES, 0, 0, 0};
     Scan s = {YES, 0, 0, 0, 0};
     ListingDone l = {YES, 0};
+    Search f = {0, 0, 0};
     if (call == 1) { n = in_bytes(); a = next(); b = next(); }
+    else if (call == 6) { m = in_rungs(); b = next(); }
     else {
         n = in_words();
         m = in_rungs();
@@ -574,6 +582,7 @@ int main(void)
         if (call == 1) r = read_text(vars, lent_bytes, n, words, a, rungs, b);
         else if (call == 2) t = translate(vars, lent_words, n, lent_rungs, m, words, a, rungs, b);
         else if (call == 5) { if (i == 0) memset(bytes, 255, a); l = listing(vars, lent_words, n, lent_rungs, m, bytes, a); }
+        else if (call == 6) f = search(lent_rungs, m, (uint32_t)b);
         else {
             memcpy(bytes, lent_bytes, a);
             s = call == 3 ? ladder_scan(vars, lent_words, n, lent_rungs, m, bytes, a, (uint32_t)b) : list_scan(vars, lent_words, n, lent_rungs, m, bytes, a, (uint32_t)b);
@@ -586,7 +595,9 @@ int main(void)
     else if (call == 2) printf("1 %zu %zu %zu", t.instructions, t.rungs, t.longest);
     else if (call == 3) printf("%d %u %u", s.ended ? 1 : 2, s.rungs, s.moved);
     else if (call == 4) printf("%d %u %u %u", s.ended ? 1 : 2, s.instructions, s.rungs, s.moved);
-    else printf("1 %zu", l.bytes);
+    else if (call == 5) printf("1 %zu", l.bytes);
+    else if (f.found) printf("1 %zu %zu", f.place, f.looked);
+    else printf("2 %zu", f.looked);
     if (call <= 2) { out_words(a); out_rungs(b); }
     else if (call == 5) out_lines(a);
     else out_table(a);

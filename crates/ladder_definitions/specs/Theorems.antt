@@ -6,7 +6,7 @@ use mathlib.Core.Logic.{_↔_}
 use mathlib.Core.Option.{some}
 use mathlib.Core.List.{List, [], _∷_}
 use lib.Dec.{T}
-use lib.ListN.{length}
+use lib.ListN.{length, drop}
 use Rattle.questions.specs.Tests.{all}
 use Rattle.questions.specs.Questions.{yes, mostRungWatchdog}
 use Rattle.questions.specs.Laws.Answers.{each-passed, watchdog-in-range}
@@ -18,8 +18,11 @@ use Rattle.table.specs.Laws.Alike.{alike-legal, alike-same}
 use Rattle.table.specs.Laws.Legal.{legal-table}
 use Rattle.table.specs.Laws.Replaying.{makes-bytes}
 use Rattle.table.specs.Laws.Changes.{makes-moved}
-use Rattle.ladder_definitions.specs.Tree.{Input, contact, contactn, Output, coil, coiln, jump, jumpn, setCoil, resetCoil, Rung, Ladder, rungAll, outputNames}
-use Rattle.ladder_definitions.specs.Meaning.{LadderResult, scanLadder}
+use Rattle.rungs.specs.Records.{lookUp}
+use Rattle.rungs.specs.Theorems.{same-place}
+use Rattle.rungs.specs.declared.Search.the-variants.{Found}
+use Rattle.ladder_definitions.specs.Tree.{Input, contact, contactn, Output, coil, coiln, jump, jumpn, setCoil, resetCoil, Rung, Ladder, labels, rungAll, outputNames}
+use Rattle.ladder_definitions.specs.Meaning.{jumped, from, follow, LadderResult, scanLadder}
 use Rattle.ladder_definitions.specs.Writes.{ladderWrites, mostRungWrites}
 use Rattle.ladder_definitions.specs.Standing.{Stands}
 use Rattle.ladder_definitions.specs.Kept.{Kept, encode, decode, inputFits, outputFits, inputKind, outputKind, contactSort, outputSort, kindSorts, kindSort, variableName, nameSorts, nameSort, namedSort}
@@ -69,6 +72,11 @@ accepted-exactly vars k = (
   (λ e. let h = accepted vars k e in (ladderOf k, decoded-exactly k (ladderOf k) .0 (h .0), h .1)),
   (λ h. accepting vars k (rw (ladder-is k (h .0) (decoded-exactly k (h .0) .1 (h .1))) (h .2))),
 )
+
+-- A taken jump goes to the rung at the place that the search for its label finds. Document 02, Req 03.
+pub jump-to-found : (gs rest : Ladder) (l : ℕ) (s : State) (place looked : ℕ) → lookUp l (labels gs) ≡ Found place looked → follow gs rest (jumped l s) ≡ drop place gs
+unfolding follow from
+jump-to-found gs rest l s place looked e = ap (λ i. drop i gs) (same-place l (labels gs) place looked e)
 
 -- A scan is Stopped with k rungs entered exactly when k equals the watchdog and, after k rungs, a rung is still to come.
 pub stopped-exactly : (gs : Ladder) (watchdog : ℕ) (s : State) (k : ℕ) (t : State)

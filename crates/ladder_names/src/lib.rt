@@ -146,7 +146,8 @@ fn word_leads(labels: &[u16], word: u32) -> bool
     ensures { λ r. ⌜ r ≡ wordLeads (now (labels .entry)) word ⌝ }
 {
     if ladder_kinds::names_label(word / rungs::OPERANDS) {
-        return rungs::search_label(labels, word % rungs::OPERANDS) < labels.len();
+        let search = rungs::search_label(labels, word % rungs::OPERANDS);
+        return rungs::place_of(search) < labels.len();
     }
     true
 }

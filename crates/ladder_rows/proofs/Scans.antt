@@ -3,16 +3,16 @@ use Prim.Native.Nat.{ℕ, _+_, _-_, _≤_, _<_, _^_}
 use native.Mathlib.Omega.{arith}
 use mathlib.Core.Path.{_≡_, refl, sym, ap, _∙_}
 use mathlib.Core.Bool.{Bool, true, false, not, _&&_}
-use mathlib.Core.Logic.{_⊎_, inl, inr}
 use mathlib.Core.List.{List}
-use lib.Dec.{eqb, leb, leb→le, nleb→lt, eqb→eq}
-use lib.ListN.{length, getD, take, length-map, List·getD-map}
-use lib.Seq.{take-all}
+use lib.Dec.{T as Holds, eqb, leb, leb→le, nleb→lt, eqb→eq}
+use lib.ListN.{length, getD, length-map, List·getD-map}
 use borrow.Author.Tests.{eq-eqb, le-leb, lt-leb, not-false}
 use Rattle.questions.specs.declared.Refusal.{Refusal}
 use Rattle.questions.specs.declared.Verdict.{Verdict}
 use Rattle.questions.specs.declared.Verdict.the-variants.{Accepted, Refused}
-use Rattle.rungs.specs.Records.{RungRecord, labels, offsets, search}
+use Rattle.rungs.specs.Records.{RungRecord, labels, offsets, search, lookUp}
+use Rattle.rungs.specs.Parts.{placeOf}
+use Rattle.rungs.specs.Laws.Search.{place-of}
 use Rattle.rows.specs.Rows.{noRecord, recordAt}
 use Rattle.ladder_walk.specs.Walking.{RungRun}
 use Rattle.ladder_walk.specs.Scanned.{Scanned}
@@ -20,11 +20,19 @@ use Rattle.ladder_walk.specs.Laws.Scanning.{Scanning, scanning-first, scan-ende
 use Rattle.ladder_definitions.specs.declared.LadderScanned.the-variants.{Ended as EndedCase, Stopped as StoppedCase, Refused as RefusedScan}
 use Rattle.ladder_walk.specs.declared.Ran.{Ran}
 use Rattle.ladder_walk.specs.declared.Ran.the-variants.{Onward, Jumped}
-use Rattle.ladder_rows.specs.Parts.{goesOn, accepts, begun, wayOf, Entered, arrivesAt, arrived, answered, RowReady, RowScanned}
+use Rattle.ladder_rows.specs.Parts.{goesOn, accepts, begun, wayOf, Entered, nextRung, arrived, answered, RowReady, RowScanned}
 use Rattle.ladder_rows.specs.declared.Standing.{Standing}
 use Rattle.ladder_rows.specs.declared.Way.{Way}
 
 -- ---- what the tests tell
+
+pub is-true : (b : Bool) → Holds b → b ≡ true
+is-true true h = refl
+is-true false h = absurd h
+
+pub is-false : (b : Bool) → Holds (not b) → b ≡ false
+is-false true h = absurd h
+is-false false h = refl
 
 accepts-taken : (v : Verdict) → accepts v ≡ true → v ≡ Accepted
 unfolding accepts
@@ -78,25 +86,28 @@ module _ (v : Verdict) (n w : ℕ) where
   unfolding begun accepts
   begun-accepted e on q = rw (e, q)
 
-module _ (vars : ℕ) (ws : List ℕ) (r : RungRecord) (n : ℕ) (t : List ℕ) (moved : ℕ) (u : List ℕ) (ran : Ran) (run : RungRun vars ws (r .offset) t moved ran u) where
-  pub entered-onward : (k m : ℕ) → ran ≡ Onward k m → Entered vars ws r n t moved (record { jumped = false; label = 0; upto = 0; moved = m }) u
+module _ (vars : ℕ) (ws : List ℕ) (r : RungRecord) (t : List ℕ) (moved : ℕ) (u : List ℕ) (ran : Ran) (run : RungRun vars ws (r .offset) t moved ran u) where
+  pub entered-onward : (k m : ℕ) → ran ≡ Onward k m → Entered vars ws r t moved (record { jumped = false; label = 0; moved = m }) u
   unfolding wayOf
   entered-onward k m e = record { ran = ran; run = run; way = rw (e, wayOf) }
 
-  pub entered-jumped : (l m : ℕ) → ran ≡ Jumped l m → Entered vars ws r n t moved (record { jumped = true; label = l; upto = n; moved = m }) u
+  pub entered-jumped : (l m : ℕ) → ran ≡ Jumped l m → Entered vars ws r t moved (record { jumped = true; label = l; moved = m }) u
   unfolding wayOf
   entered-jumped l m e = record { ran = ran; run = run; way = rw (e, wayOf) }
 
-module _ (at : Standing) (way : Way) (found rung : ℕ) where
-  pub arrives : ((way .jumped ≡ true) × (rung ≡ found)) ⊎ ((way .jumped ≡ false) × (rung ≡ at .rung + 1)) → rung ≡ arrivesAt at way found
-  unfolding arrivesAt
-  arrives (inl e) = rw (e .0, arrivesAt) (e .1)
-  arrives (inr e) = rw (e .0, arrivesAt) (e .1)
+module _ (ls : List ℕ) (way : Way) (rung : ℕ) where
+  pub next-found : way .jumped ≡ true → placeOf (lookUp (way .label) ls) ≡ nextRung ls way rung
+  unfolding nextRung
+  next-found e = rw (e, nextRung) (place-of (way .label) ls)
 
-  pub arrived-there : (n w : ℕ) → rung ≡ arrivesAt at way found → (on : Bool) → on ≡ goesOn rung n (at .entered + 1) w
-      → record { entered = at .entered + 1; moved = way .moved; rung = rung; on = on } ≡ arrived at way found n w
-  unfolding arrived
-  arrived-there n w e on q = rw (q, e)
+  pub next-onward : way .jumped ≡ false → rung + 1 ≡ nextRung ls way rung
+  unfolding nextRung
+  next-onward e = rw (e, nextRung)
+
+pub arrived-there : (at : Standing) (way : Way) (rung n w : ℕ) (on : Bool) → on ≡ goesOn rung n (at .entered + 1) w
+    → record { entered = at .entered + 1; moved = way .moved; rung = rung; on = on } ≡ arrived at way rung n w
+unfolding arrived
+arrived-there at way rung n w on q = rw q
 
 module _ (v : Verdict) (at : Standing) (n : ℕ) where
   pub answer-refused : (x : Refusal) → v ≡ Refused x → RefusedScan x ≡ answered v at n
@@ -160,23 +171,14 @@ module _ (v : Verdict) (vars : ℕ) (ws : List ℕ) (rs : List RungRecord) (t : 
           let fits = ready .fits verdict in
           omega (arith, few, fits .words, fits .rungs, going-needs .1)
 
-      module _ (way : Way) (u′ : List ℕ) (e : Entered vars ws (recordAt rs (at .rung)) (length rs) u (at .moved) way u′) where
-        pub going-upto : way .upto ≤ length rs
-        unfolding wayOf
-        going-upto = go (e .ran) (e .way)
-          where
-            go : (ran : Ran) → way ≡ wayOf (length rs) ran → way .upto ≤ length rs
-            go (Onward k m) q = let n = ap (λ s. s .upto) q in omega arith
-            go (Jumped l m) q = let n = ap (λ s. s .upto) q in omega arith
-
-        pub going-nearer : (found : ℕ) → w - arrived at way found (length rs) w .entered < w - at .entered
+      module _ (way : Way) (u′ : List ℕ) (e : Entered vars ws (recordAt rs (at .rung)) u (at .moved) way u′) (rung : ℕ) where
+        pub going-nearer : w - arrived at way rung (length rs) w .entered < w - at .entered
         unfolding arrived
-        going-nearer found = let n = going-needs .1 in omega arith
+        going-nearer = let n = going-needs .1 in omega arith
 
-        pub going-next : (stays : length u′ ≡ length u) (found : ℕ) → found ≡ search (way .label) (take (way .upto) (labels rs))
-            → Going v vars ws rs t w u′ (arrived at way found (length rs) w)
-        unfolding accepts arrived wayOf arrivesAt
-        going-next stays found f =
+        pub going-next : (stays : length u′ ≡ length u) → rung ≡ nextRung (labels rs) way (at .rung) → Going v vars ws rs t w u′ (arrived at way rung (length rs) w)
+        unfolding accepts arrived wayOf nextRung
+        going-next stays f =
             let n = going-needs in
             record {
               on-is = rw (verdict, accepts);
@@ -195,21 +197,18 @@ module _ (v : Verdict) (vars : ℕ) (ws : List ℕ) (rs : List RungRecord) (t : 
             offset : recordAt rs (at .rung) .offset ≡ getD (offsets rs) (at .rung) 0
             offset = sym (List·getD-map (λ (r : RungRecord). r .offset) rs (at .rung) noRecord)
 
-            go : (ran : Ran) → RungRun vars ws (recordAt rs (at .rung) .offset) u (at .moved) ran u′ → way ≡ wayOf (length rs) ran
-                → Scanning vars ws (labels rs) (offsets rs) t w u′ (at .entered + 1) (way .moved) (arrivesAt at way found)
+            go : (ran : Ran) → RungRun vars ws (recordAt rs (at .rung) .offset) u (at .moved) ran u′ → way ≡ wayOf ran
+                → Scanning vars ws (labels rs) (offsets rs) t w u′ (at .entered + 1) (way .moved) rung
             go (Onward k m) run q =
-                let p : arrivesAt at way found ≡ at .rung + 1 = ap (λ s. arrivesAt at s found) q in
+                let p : rung ≡ at .rung + 1 = f ∙ ap (λ s. nextRung (labels rs) s (at .rung)) q in
                 let sum : way .moved ≡ m = ap (λ s. s .moved) q in
                 rw (p, sum) (scan-onward vars ws (labels rs) (offsets rs) t w u (at .entered) (at .moved) (at .rung) (g .going verdict) (ready .fits verdict .words) inside (next .before) _ offset
                 (Onward k m) u′ run stays k m refl)
             go (Jumped l m) run q =
-                let p : arrivesAt at way found ≡ found = ap (λ s. arrivesAt at s found) q in
+                let p : rung ≡ search l (labels rs) = f ∙ ap (λ s. nextRung (labels rs) s (at .rung)) q in
                 let sum : way .moved ≡ m = ap (λ s. s .moved) q in
-                let n = length-map rs (λ (r : RungRecord). r .label) in
-                let all : take (length rs) (labels rs) ≡ labels rs = take-all (length rs) (labels rs) (omega arith) in
-                let z : found ≡ search l (labels rs) = f ∙ ap (λ s. search (s .label) (take (s .upto) (labels rs))) q ∙ ap (λ ls. search l ls) all in
-                rw (p, sum) (scan-jumped vars ws (labels rs) (offsets rs) t w u (at .entered) (at .moved) (at .rung) (g .going verdict) (ready .fits verdict .words) inside (next .before) _ offset
-                (Jumped l m) u′ run stays l m found refl z)
+                rw sum (scan-jumped vars ws (labels rs) (offsets rs) t w u (at .entered) (at .moved) (at .rung) (g .going verdict) (ready .fits verdict .words) inside (next .before) _ offset
+                (Jumped l m) u′ run stays l m rung refl p)
 
     pub going-ends : at .on ≡ false → RowScanned v vars ws rs t w (answered v at (length rs)) u
     unfolding answered accepts goesOn

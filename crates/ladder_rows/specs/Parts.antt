@@ -11,7 +11,7 @@ use Rattle.questions.specs.Refusals.{refusalOf, verdictAnswer}
 use Rattle.questions.specs.declared.Refusal.{Refusal}
 use Rattle.questions.specs.declared.Verdict.{Verdict}
 use Rattle.questions.specs.declared.Verdict.the-variants.{Accepted, Refused}
-use Rattle.rungs.specs.Records.{RungRecord, labels, offsets, mostRecords}
+use Rattle.rungs.specs.Records.{RungRecord, labels, offsets, mostRecords, search}
 use Rattle.rows.specs.Parts.{gathered}
 use Rattle.rows.specs.declared.Rows.{Rows}
 use Rattle.ladder_definitions.specs.Questions.{holdsLadder, ladderAnswer}
@@ -70,21 +70,22 @@ accepts (Refused x) = false
 unfoldable pub begun : Verdict → ℕ → ℕ → Standing
 begun v n w = record { entered = 0; moved = 0; rung = 0; on = accepts v && goesOn 0 n 0 w }
 
--- where a rung leads in a row of n records
-unfoldable pub wayOf : ℕ → Ran → Way
-wayOf n (Onward k m) = record { jumped = false; label = 0; upto = 0; moved = m }
-wayOf n (Jumped l m) = record { jumped = true; label = l; upto = n; moved = m }
+-- where a rung leads
+unfoldable pub wayOf : Ran → Way
+wayOf (Onward k m) = record { jumped = false; label = 0; moved = m }
+wayOf (Jumped l m) = record { jumped = true; label = l; moved = m }
 
-pub record Entered (vars : ℕ) (ws : List ℕ) (r : RungRecord) (n : ℕ) (t : List ℕ) (moved : ℕ) (s : Way) (u : List ℕ) : Type 0 where
+pub record Entered (vars : ℕ) (ws : List ℕ) (r : RungRecord) (t : List ℕ) (moved : ℕ) (s : Way) (u : List ℕ) : Type 0 where
   pub ran : Ran
   pub run : RungRun vars ws (r .offset) t moved ran u
-  pub way : s ≡ wayOf n ran
+  pub way : s ≡ wayOf ran
 
-unfoldable pub arrivesAt : Standing → Way → ℕ → ℕ
-arrivesAt at way found = elim (way .jumped) [ true ↦ found | false ↦ at .rung + 1 ]
+-- the rung that comes next in a row with these labels
+unfoldable pub nextRung : List ℕ → Way → ℕ → ℕ
+nextRung ls way rung = elim (way .jumped) [ true ↦ search (way .label) ls | false ↦ rung + 1 ]
 
 unfoldable pub arrived : Standing → Way → ℕ → ℕ → ℕ → Standing
-arrived at way found n w = record { entered = at .entered + 1; moved = way .moved; rung = arrivesAt at way found; on = goesOn (arrivesAt at way found) n (at .entered + 1) w }
+arrived at way rung n w = record { entered = at .entered + 1; moved = way .moved; rung = rung; on = goesOn rung n (at .entered + 1) w }
 
 unfoldable pub answered : Verdict → Standing → ℕ → LadderScanned
 answered (Refused x) at n = RefusedScan x

@@ -3,10 +3,11 @@
 ghost use mathlib.Core.Path.{_≡_};
 ghost use lib.ListN.{length};
 ghost use Prim.Native.Nat.{_+_, _≤_, _<_, _^_};
+ghost use Rattle.rungs.specs.Records.{labels};
 ghost use Rattle.rows.specs.Rows.{recordOf, recordsOf};
 ghost use Rattle.ladder_definitions.specs.LadderScan.{callLadderScan, LadderScanDone};
 ghost use Rattle.ladder_rows.specs.Parts.{longHolds, LongRefused, laidFirst, laidNext, laidWhole, askedTo, RowAsked};
-ghost use Rattle.ladder_rows.specs.Parts.{Entered, goesOn, begun, arrived, answered, RowReady, RowScanned};
+ghost use Rattle.ladder_rows.specs.Parts.{Entered, goesOn, begun, nextRung, arrived, answered, RowReady, RowScanned};
 use ladder_definitions::LadderScanned;
 use ladder_walk::Ran;
 use questions::Refusal;
@@ -28,12 +29,10 @@ pub struct Standing {
     pub on: bool,
 }
 
-// Where a rung leads: to a label, which is to be searched among the first `upto` records, or onward. And how many times variables were
-// turned over by then.
+// Where a rung leads: to a label, or onward. And how many times variables were turned over by then.
 pub struct Way {
     pub jumped: bool,
     pub label: u32,
-    pub upto: usize,
     pub moved: u32,
 }
 
@@ -175,9 +174,9 @@ fn goes_on(rung: usize, n: usize, entered: u32, watchdog: u32) -> bool
 }
 
 // A rung is run, and leads on.
-fn enter(vars: u32, words: &[u32], r: Rung, n: usize, table: &mut [u8], moved: u32) -> Way
+fn enter(vars: u32, words: &[u32], r: Rung, table: &mut [u8], moved: u32) -> Way
     requires { ⌜ moved + length (now words) < 2 ^ 32 ⌝ }
-    ensures { λ s. ⌜ Entered vars (now (words .entry)) (recordOf r) n (now (table .entry)) moved s (now (table .exit)) ⌝ }
+    ensures { λ s. ⌜ Entered vars (now (words .entry)) (recordOf r) (now (table .entry)) moved s (now (table .exit)) ⌝ }
 {
     match ladder_walk::run_rung(vars, words, r.offset as usize, table, moved) {
         Ran::Onward {
@@ -186,25 +185,33 @@ fn enter(vars: u32, words: &[u32], r: Rung, n: usize, table: &mut [u8], moved: u
         } => Way {
             jumped: false,
             label: 0,
-            upto: 0,
             moved: sum,
         },
         Ran::Jumped { label, moved: sum } => Way {
             jumped: true,
             label,
-            upto: n,
             moved: sum,
         },
     }
 }
 
-// Where the scan stands after a rung: at the record found, if the rung jumped, and else at the record next in the row.
-fn arrive(at: Standing, way: Way, found: usize, n: usize, watchdog: u32) -> Standing
-    requires { ⌜ (at .entered + 1 < 2 ^ 32) × (at .rung + 1 < 2 ^ 64) ⌝ }
-    ensures { λ r. ⌜ r ≡ arrived at way found n watchdog ⌝ }
+// The rung that comes next: the one with the label, if the rung jumped, and else the next in the row.
+fn next_rung(row: &[Rung], way: Way, rung: usize) -> usize
+    requires { ⌜ rung + 1 < 2 ^ 64 ⌝ }
+    ensures { λ r. ⌜ r ≡ nextRung (labels (recordsOf (now (row .entry)))) way rung ⌝ }
+{
+    if way.jumped {
+        return rungs::place_of(rows::look_up(row, way.label));
+    }
+    rung + 1
+}
+
+// Where the scan stands after a rung, once the rung that comes next is known.
+fn arrive(at: Standing, way: Way, rung: usize, n: usize, watchdog: u32) -> Standing
+    requires { ⌜ at .entered + 1 < 2 ^ 32 ⌝ }
+    ensures { λ r. ⌜ r ≡ arrived at way rung n watchdog ⌝ }
 {
     let entered = at.entered + 1;
-    let rung = if way.jumped { found } else { at.rung + 1 };
     Standing {
         entered,
         moved: way.moved,
@@ -248,16 +255,9 @@ fn run(
 {
     let mut at = begin(verdict, row.len(), watchdog);
     while at.on {
-        let way = enter(
-            vars,
-            words,
-            rows::rung_at(row, at.rung),
-            row.len(),
-            table,
-            at.moved,
-        );
-        let found = rows::look_up(row, way.label, way.upto);
-        at = arrive(at, way, found, row.len(), watchdog);
+        let way = enter(vars, words, rows::rung_at(row, at.rung), table, at.moved);
+        let rung = next_rung(row, way, at.rung);
+        at = arrive(at, way, rung, row.len(), watchdog);
     }
     answer(verdict, at, row.len())
 }

@@ -46,7 +46,7 @@ pub fn run(
                 moved: at_jump,
             } => {
                 moved = at_jump;
-                rung = rungs::search_label(labels, label);
+                rung = rungs::place_of(rungs::search_label(labels, label));
             }
         }
     }

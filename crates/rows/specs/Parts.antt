@@ -2,15 +2,21 @@
 use Prim.Native.Nat.{ℕ, min}
 use mathlib.Core.Bool.{true, false}
 use mathlib.Core.List.{List, _++_, map}
-use lib.Dec.{eqb}
+use lib.Dec.{eqb, ltb}
 use lib.ListN.{length, getD, take, drop, replicate}
 use Rattle.rungs.specs.Records.{RungRecord, mostRecords, labels, offsets, rowOf}
+use Rattle.rungs.specs.declared.Search.{Search}
+use Rattle.rungs.specs.declared.Search.the-variants.{Found, Missing}
 use Rattle.rows.specs.declared.Rung.{Rung}
 use Rattle.rows.specs.declared.Rows.{Rows}
 
 -- where a search ends that has come to record i, r: there, where r has the label, else where it would have ended
 unfoldable pub nextFound : ℕ → ℕ → RungRecord → ℕ → ℕ
 nextFound found i r label = elim (eqb (r .label) label) [ true ↦ i | false ↦ found ]
+
+-- what a search tells that looked at so many of n records and ended at `found`, which is n where none has the label
+unfoldable pub searchTold : ℕ → ℕ → ℕ → Search
+searchTold found looked n = elim (ltb found n) [ true ↦ Found found looked | false ↦ Missing looked ]
 
 abbrev pub rowsOf : List ℕ → List ℕ → List ℕ → ℕ → ℕ → Rows
 rowsOf ls os ns n k = record { labels = ls; offsets = os; lengths = ns; n = n; kept = k }

@@ -2,11 +2,12 @@
 // each)." The contracts speak of a row's records as those of the other crates do (rungs, Records).
 ghost use mathlib.Core.Path.{_≡_};
 ghost use Prim.Native.Nat.{_<_, _≤_, min};
-ghost use lib.ListN.{length, take, set};
-ghost use Rattle.rungs.specs.Records.{labels, search, mostRecords};
+ghost use lib.ListN.{length, set};
+ghost use Rattle.rungs.specs.Records.{labels, lookUp, mostRecords};
 ghost use Rattle.rows.specs.Rows.{recordOf, recordsOf, recordAt};
-ghost use Rattle.rows.specs.Parts.{gathered, scattered, nextFound, rowsOf, rungIn};
+ghost use Rattle.rows.specs.Parts.{gathered, scattered, nextFound, rowsOf, rungIn, searchTold};
 use rungs::MOST_RECORDS;
+use rungs::Search;
 
 pub struct Rung {
     pub label: u16,
@@ -41,18 +42,31 @@ fn next_found(found: usize, i: usize, r: Rung, label: u32) -> usize
     found
 }
 
-// The place of the first of some records with a label, and their number where none has it.
-pub fn look_up(row: &[Rung], label: u32, upto: usize) -> usize
-    requires { ⌜ upto ≤ length (now row) ⌝ }
-    ensures { λ r. ⌜ r ≡ search label (take upto (labels (recordsOf (now (row .entry))))) ⌝ }
+// What a search tells that looked at so many of `n` records and ended at `found`, which is `n` where none has the label.
+fn told(found: usize, looked: usize, n: usize) -> Search
+    ensures { λ r. ⌜ r ≡ searchTold found looked n ⌝ }
 {
-    let mut found = upto;
-    let mut i = 0;
-    while i < found {
-        found = next_found(found, i, rung_at(row, i), label);
-        i += 1;
+    if found < n {
+        Search::Found {
+            place: found,
+            looked,
+        }
+    } else {
+        Search::Missing { looked }
     }
-    found
+}
+
+// The search for a label: up from record 0, ending at the first that has it.
+pub fn look_up(row: &[Rung], label: u32) -> Search
+    ensures { λ r. ⌜ r ≡ lookUp label (labels (recordsOf (now (row .entry)))) ⌝ }
+{
+    let mut found = row.len();
+    let mut looked = 0;
+    while looked < found {
+        found = next_found(found, looked, rung_at(row, looked), label);
+        looked += 1;
+    }
+    told(found, looked, row.len())
 }
 
 // As many of `n` records as stand in a `Rows`.

@@ -4,6 +4,8 @@ use mathlib.Core.Bool.{Bool, true, false, _&&_, _||_}
 use mathlib.Core.List.{List, [], _∷_, map, zipWith}
 use lib.Dec.{eqb, ltb}
 use lib.ListN.{length, getD}
+use Rattle.rungs.specs.declared.Search.{Search}
+use Rattle.rungs.specs.declared.Search.the-variants.{Found, Missing}
 
 -- "Rung records lie side by side in one lent row: label (16 bits), offset and length (32 bits each)."
 pub record RungRecord : Type 0 where
@@ -39,6 +41,18 @@ search l (m ∷ ms) = elim (eqb m l) [ true ↦ 0 | false ↦ suc (search l ms) 
 
 unfoldable pub present : ℕ → List ℕ → Bool
 present l ms = ltb (search l ms) (length ms)
+
+-- Document 02, Req 03: "the search goes up from record 0, ends at the match": the labels that a search for l looks at, in order
+unfoldable pub lookedAt : ℕ → List ℕ → List ℕ
+lookedAt l [] = []
+lookedAt l (m ∷ ms) = m ∷ elim (eqb m l) [ true ↦ [] | false ↦ lookedAt l ms ]
+
+-- "and tells how many records it looked at": what the search tells, with the place of the first of some labels that is l, if one is
+unfoldable pub lookUp : ℕ → List ℕ → Search
+lookUp l ms = elim (present l ms) [
+  | true ↦ Found (search l ms) (length (lookedAt l ms))
+  | false ↦ Missing (length (lookedAt l ms))
+]
 
 -- where the rung with label l begins
 unfoldable pub startOf : List RungRecord → ℕ → ℕ

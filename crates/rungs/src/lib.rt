@@ -3,13 +3,21 @@
 ghost use mathlib.Core.Path.{_≡_};
 ghost use Prim.Native.Nat.{max};
 ghost use lib.ListN.{getD, set};
-ghost use Rattle.rungs.specs.Records.{search};
+ghost use Rattle.rungs.specs.Records.{lookUp};
+ghost use Rattle.rungs.specs.Parts.{placeOf};
 
 // A word is its kind or op times this, and its operand.
 pub const OPERANDS: u32 = 65536;
 
 // At most 256 records.
 pub const MOST_RECORDS: usize = 256;
+
+// What a search for a label tells (document 02, Req 03): the place of the first record that has it, if one has, and how many records were
+// looked at.
+pub enum Search {
+    Found { place: usize, looked: usize },
+    Missing { looked: usize },
+}
 
 // The word at a position, 0 past the end.
 pub fn word_at(words: &[u32], at: usize) -> u32
@@ -36,18 +44,31 @@ pub fn put_label(labels: &mut [u16], at: usize, label: u16)
     }
 }
 
-// The place of the first of some labels that is `label`, and their number where none is.
-pub fn search_label(labels: &[u16], label: u32) -> usize
-    ensures { λ r. ⌜ r ≡ search label (now (labels .entry)) ⌝ }
+// The search for a label: up from record 0, ending at the first that has it.
+pub fn search_label(labels: &[u16], label: u32) -> Search
+    ensures { λ r. ⌜ r ≡ lookUp label (now (labels .entry)) ⌝ }
 {
-    let mut i: usize = 0;
-    while i < labels.len() {
-        if labels[i] as u32 == label {
-            return i;
+    let mut looked: usize = 0;
+    while looked < labels.len() {
+        if labels[looked] as u32 == label {
+            return Search::Found {
+                place: looked,
+                looked: looked + 1,
+            };
         }
-        i += 1;
+        looked += 1;
     }
-    i
+    Search::Missing { looked }
+}
+
+// Where a search ended: at the place found, or past the last record.
+pub fn place_of(search: Search) -> usize
+    ensures { λ r. ⌜ r ≡ placeOf search ⌝ }
+{
+    match search {
+        Search::Found { place, looked: _ } => place,
+        Search::Missing { looked } => looked,
+    }
 }
 
 // The larger of two.

@@ -1,12 +1,14 @@
 // Runs document 01's case A, and then a ladder with set and reset coils, through the calls over rows: this program owns two rows of rung
 // records, the ladder's and the list's, and lends them. It prints what each call answered, the variables that each scan left, and the
 // listing. Then it lends rows of 300 records, which the calls refuse: 5, or 4 where the last record does not fit; List scan and Listing 10.
+// Last it searches a row of 300 records for labels.
 use ladder_definitions::LadderScanned;
 use libc::STDOUT_FILENO;
 use list_definitions::ListScanned;
 use list_definitions::Listed;
 use questions::Refusal;
 use rows::Rung;
+use rungs::Search;
 use test_requests::output;
 use text_definitions::TextRead;
 use translation_definitions::Translated;
@@ -30,6 +32,13 @@ const INSTRUCTION_WATCHDOG: u32 = 20;
 const LONG_RUNGS: usize = 300;
 
 const LONG_WORDS: usize = 600;
+
+// Two places with one label.
+const TWICE: usize = 100;
+
+const AGAIN: usize = 200;
+
+const ROOM: usize = 2000;
 
 // As kept words a contact v0 and a coil v1, as instructions LD v0 and AND v1.
 const CONTACT: u32 = 65536;
@@ -152,6 +161,18 @@ fn run_long(
     let list = list_rows::list_scan(VARS, words, &row, list_table, INSTRUCTION_WATCHDOG);
     let listed = list_rows::listing(VARS, words, &row, lines);
     long_answers_of(translated, ladder, list, listed)
+}
+
+// 300 records, of which two have one label.
+fn twice_row() -> [Rung; LONG_RUNGS] {
+    let mut row = long_row(2);
+    row[AGAIN].label = TWICE as u16;
+    row
+}
+
+// The search for a label over a row of 300 records.
+fn search_long(row: [Rung; LONG_RUNGS], label: u32) -> Search {
+    rows::look_up(&row, label)
 }
 
 // A text and a number after it.
@@ -339,17 +360,43 @@ fn put_long(room: &mut [u8], placed: usize, last: u32) -> usize {
     put_listed(room, scanned, listed, &lines)
 }
 
+fn put_search(room: &mut [u8], placed: usize, label: u32, answer: Search) -> usize {
+    let name = put_count(room, placed, b"search", label as u64);
+    match answer {
+        Search::Found { place, looked } => {
+            let found = put_count(room, name, b" place", place as u64);
+            put_count(room, found, b" looked", looked as u64)
+        }
+        Search::Missing { looked } => put_count(room, name, b" none looked", looked as u64),
+    }
+}
+
+// Searches a row of 300 records, and puts what was told.
+fn put_long_search(room: &mut [u8], placed: usize, label: u32) -> usize {
+    let told = put_search(room, placed, label, search_long(twice_row(), label));
+    output::put_byte(room, told, b'\n')
+}
+
+// The first record's label, one that two records have, the last record's, and one that none has.
+fn put_searches(room: &mut [u8], placed: usize) -> usize {
+    let first = put_long_search(room, placed, 0);
+    let twice = put_long_search(room, first, TWICE as u32);
+    let last = put_long_search(room, twice, LONG_RUNGS as u32 - 1);
+    put_long_search(room, last, AGAIN as u32)
+}
+
 fn put_all(room: &mut [u8]) -> usize {
     let case_a = put_case(room, 0, b"10:c0|c1&n2>o1|c3&j20\n20:n3>o4\n");
     let latched = put_case(room, case_a, b"10:c0|c1&n2>s1|c3&r4\n20:n3>r0\n");
     let laid = put_long(room, latched, 2);
-    put_long(room, laid, 1)
+    let short = put_long(room, laid, 1);
+    put_searches(room, short)
 }
 
 fn main() {
-    let mut room = [0u8; 1000];
+    let mut room = [0u8; ROOM];
     let placed = put_all(&mut room);
-    if placed <= 1000 {
+    if placed <= ROOM {
         io::write_all(STDOUT_FILENO, &room[..placed]);
     }
 }

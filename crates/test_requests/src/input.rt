@@ -239,7 +239,7 @@ fn read_code(chunk: &mut [u8], input: Input, code: &mut [u32]) -> Counted
 }
 
 // Up to 400 records, their count first.
-fn read_rows(
+pub fn read_rows(
     chunk: &mut [u8],
     input: Input,
     labels: &mut [u16],

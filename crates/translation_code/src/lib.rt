@@ -118,7 +118,7 @@ fn join_code(
 fn start_of(labels: &[u16], starts: &[u16], label: u32) -> u32
     ensures { λ r. ⌜ (r ≡ startIn (now (labels .entry)) (now (starts .entry)) label) × (r < operands) ⌝ }
 {
-    let rung = rungs::search_label(labels, label);
+    let rung = rungs::place_of(rungs::search_label(labels, label));
     if rung < starts.len() {
         starts[rung] as u32
     } else {

@@ -1,4 +1,4 @@
--- `rungs::search_label` meets its contract. The loop's invariant: the search from `i` on is the whole search. Assumes nothing.
+-- `rungs::search_label` meets its contract. The loop's invariant: the search from `looked` on is the whole search. Assumes nothing.
 use Prim.Native.Nat.{_-_}
 use native.Mathlib.Omega.{arith}
 use lib.ListN.{length}
@@ -7,10 +7,10 @@ use Rattle.rungs.proofs.search_label.Statement.{statement}
 use Rattle.rungs.proofs.search_label.Tie as tie
 
 abbrev Inv-loop : tie.InvT-loop
-Inv-loop labels label i₀ i = Searched label labels i
+Inv-loop labels label looked₀ looked = Searched label labels looked
 
 abbrev μ-loop : tie.MeasureT-loop
-μ-loop labels label i₀ i = length labels - i
+μ-loop labels label looked₀ looked = length labels - looked
 
 loop-holds : tie.Need-loop-holds Inv-loop μ-loop
 loop-holds c = search-start _ _
@@ -22,13 +22,16 @@ shared-slice-read-if1 : tie.Need-shared-slice-read-if1 Inv-loop μ-loop
 shared-slice-read-if1 c = omega arith
 
 cast-if1 : tie.Need-cast-if1 Inv-loop μ-loop
-cast-if1 c = omega (arith, c .shared-slice-known .given (c .before .before .loop .i))
+cast-if1 c = omega (arith, c .shared-slice-known .given (c .before .before .loop .looked))
+
+add-t9 : tie.Need-add-t9 Inv-loop μ-loop
+add-t9 c = omega arith
 
 returns : tie.Need-returns Inv-loop μ-loop
 returns c = search-found (c .before .before .before .loop .inv) (c .before .before .loop-test .taken) (c .if1 .taken)
 
-add-i : tie.Need-add-i Inv-loop μ-loop
-add-i c = omega arith
+add-looked : tie.Need-add-looked Inv-loop μ-loop
+add-looked c = omega arith
 
 loop-less : tie.Need-loop-less Inv-loop μ-loop
 loop-less c = omega arith
@@ -49,8 +52,9 @@ search-label-spec =
     mul-if1
     shared-slice-read-if1
     cast-if1
+    add-t9
     returns
-    add-i
+    add-looked
     loop-less
     loop-again
     returns-2)

@@ -3,6 +3,7 @@
 use Prim.Native.Nat.{_-_}
 use native.Mathlib.Omega.{arith}
 use borrow.Author.Needs.{needs}
+use Rattle.rungs.specs.Laws.Search.{ends-at}
 use Rattle.ladder_walk.specs.Laws.Scanning.{Scanning, scanning-first, scan-ended, scan-stopped, scan-onward, scan-jumped}
 use Rattle.ladder_walk.proofs.scan.run.Statement.{statement}
 use Rattle.ladder_walk.proofs.scan.run.Tie as tie
@@ -58,11 +59,14 @@ enum-known-label c = search needs
 search-label-requires : tie.Need-search-label-requires Inv-loop μ-loop
 search-label-requires c κs = search needs
 
+place-of-requires : tie.Need-place-of-requires Inv-loop μ-loop
+place-of-requires c κs = search needs
+
 loop-less-2 : tie.Need-loop-less-2 Inv-loop μ-loop
-loop-less-2 c = omega (arith, c .before .before .before .before .before .before .before .before .before .before .before .loop .inv .within)
+loop-less-2 c = omega (arith, c .before .before .before .before .before .before .before .before .before .before .before .before .loop .inv .within)
 
 loop-again-2 : tie.Need-loop-again-2 Inv-loop μ-loop
-loop-again-2 c = scan-jumped _ _ _ _ _ _ _ _ _ _ (c .before .before .before .before .before .before .before .before .before .before .before .loop .inv) (c .before .before .before .before .before .before .before .before .before .before .before .before .before .before .before .before .pre .words) (c .before .before .before .before .before .before .before .before .before .before .if1 .left) (c .before .before .before .before .before .before .before .before .before .if2 .left) _ (c .before .before .before .before .before .before .before .before .word-at .ensures) _ _ (c .before .before .before .before .before .before .run-rung .ensures) (c .before .before .before .before .before .before .run-rung .kept .1 .1 .1 .0) _ _ _ (c .before .before .label .given .1) (c .search-label .ensures)
+loop-again-2 c = scan-jumped _ _ _ _ _ _ _ _ _ _ (c .before .before .before .before .before .before .before .before .before .before .before .before .loop .inv) (c .before .before .before .before .before .before .before .before .before .before .before .before .before .before .before .before .before .pre .words) (c .before .before .before .before .before .before .before .before .before .before .before .if1 .left) (c .before .before .before .before .before .before .before .before .before .before .if2 .left) _ (c .before .before .before .before .before .before .before .before .before .word-at .ensures) _ _ (c .before .before .before .before .before .before .before .run-rung .ensures) (c .before .before .before .before .before .before .before .run-rung .kept .1 .1 .1 .0) _ _ _ (c .before .before .before .label .given .1) (ends-at _ _ _ _ (c .before .search-label .ensures) (c .place-of .ensures))
 
 pub run-spec : {M : Type 1} → statement M
 run-spec =
@@ -85,5 +89,6 @@ run-spec =
     loop-again
     enum-known-label
     search-label-requires
+    place-of-requires
     loop-less-2
     loop-again-2)
