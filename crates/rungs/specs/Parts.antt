@@ -1,7 +1,7 @@
 -- What functions inside promise of searches and of lent buffers. Nothing here is a sentence of document 01. Assumes nothing.
 use Prim.Native.Nat.{ℕ}
 use lib.Seq.{sets}
-use Rattle.rungs.specs.Buffers.{Buffers}
+use Rattle.rungs.specs.Buffers.{Columns}
 use Rattle.rungs.specs.declared.Search.{Search}
 use Rattle.rungs.specs.declared.Search.the-variants.{Found, Missing}
 
@@ -10,8 +10,8 @@ unfoldable pub placeOf : Search → ℕ
 placeOf (Found place looked) = place
 placeOf (Missing looked) = looked
 
--- buffers written from the start as far as there is room, where no question 13 has been put
-unfoldable pub putAll : Buffers → Buffers → Buffers
+-- columns written from the start as far as there is room, where no question 13 has been put
+unfoldable pub putAll : Columns → Columns → Columns
 putAll b new =
     record {
       words = sets (b .words) 0 (new .words);

@@ -25,11 +25,11 @@ use Rattle.ladder_definitions.specs.Laws.Accepting.{ladder-is}
 use Rattle.text_grammar.specs.Reader.{Parse, read, stuck, textOf}
 use Rattle.text_grammar.specs.Questions.{question3}
 use Rattle.text_grammar.specs.Theorems.{read-exactly, read-whole, scratch-always, decoded-always, kept-always}
-use Rattle.rungs.specs.Buffers.{Buffers, asBuffers, needs, written, writtenOver}
+use Rattle.rungs.specs.Buffers.{Buffers, Columns, asBuffers, needs, written, writtenOver}
 use Rattle.rungs.specs.Parts.{putAll}
 use Rattle.rungs.specs.Laws.Filling.{taken-out, row-of-buffers, labels-count, offsets-count, lengths-count}
 use Rattle.text_definitions.specs.Read.{textLadder, keptBuffers, ReadCall, kept, refused, readText, ReadDone, textReadAnswer}
-use Rattle.text_lines.specs.Parts.{sizesOf, linesParsed, LinesAreKept}
+use Rattle.text_lines.specs.Parts.{sizesOf, linesParsed, keptColumns, LinesAreKept}
 use Rattle.text.specs.Parts.{fits, handOver}
 use Rattle.text_definitions.specs.declared.TextRead.{TextRead}
 use Rattle.text_definitions.specs.declared.TextRead.the-variants.{Kept as KeptCase, Refused as RefusedCase}
@@ -194,7 +194,7 @@ module _ (vars : ℕ) (text : List ℕ) (lent : Buffers) where
 
 -- ---- from the lines to the questions
 
-module _ (p : Parse Ladder) (r : LinesParsed) (b a : Buffers) (k : LinesAreKept p r b a) where
+module _ (p : Parse Ladder) (r : LinesParsed) (b a : Columns) (k : LinesAreKept p r b a) where
   pub lines-stuck : (x : ℕ) → r ≡ LinesStuckCase x → p ≡ stuck x
   lines-stuck x e = go p (sym e ∙ k .same)
     where
@@ -223,17 +223,17 @@ fits-room z e =
     record { rungs = leb→le _ _ (h .0); longest = leb→le _ _ (g .0); words = leb→le _ _ (g .1) }
 
 -- buffers of the sizes that question 5 asks for
-pub record Zeroed (b : Buffers) : Type 0 where
+pub record Zeroed (b : Columns) : Type 0 where
   pub words : length (b .words) ≡ 8192
   pub labels : length (b .labels) ≡ 256
   pub offsets : length (b .offsets) ≡ 256
   pub lengths : length (b .lengths) ≡ 256
 
 -- the first entries of the buffers that the lines were kept in
-abbrev pub firstOf : Sizes → Buffers → Buffers
+abbrev pub firstOf : Sizes → Columns → Buffers
 firstOf z a = record { words = take (z .words) (a .words); labels = take (z .rungs) (a .labels); offsets = take (z .rungs) (a .offsets); lengths = take (z .rungs) (a .lengths) }
 
-module _ (gs : Ladder) (b a : Buffers) (room : Room (sizesOf gs)) (zeroed : Zeroed b) (e : a ≡ putAll b (keptBuffers gs)) where
+module _ (gs : Ladder) (b a : Columns) (room : Room (sizesOf gs)) (zeroed : Zeroed b) (e : a ≡ putAll b (keptColumns gs)) where
   abbrev new : Buffers
   new = keptBuffers gs
 
@@ -255,7 +255,7 @@ module _ (gs : Ladder) (b a : Buffers) (room : Room (sizesOf gs)) (zeroed : Zero
       }
 
 module _ (vars : ℕ) (text : List ℕ) (lent : Buffers) (yes1 : varsInRange vars ≡ true) (yes2 : (leb 1 (length text) && leb (length text) 65535) ≡ true)
-    (r : LinesParsed) (b a : Buffers) (k : LinesAreKept (textOf text) r b a) where
+    (r : LinesParsed) (b a : Columns) (k : LinesAreKept (textOf text) r b a) where
   pub read-stuck : (x : ℕ) → r ≡ LinesStuckCase x → ReadDone (readText vars text lent) (RefusedCase (Text x)) lent
   read-stuck x e = read-refused-3 vars text lent yes1 yes2 x (lines-stuck (textOf text) r b a k x e)
 

@@ -13,10 +13,9 @@ use Rattle.rungs.specs.Laws.Layout.{pieces-length, lay-length, flatMap-snoc, la
 use Rattle.ladder_definitions.specs.Tree.{Rung, Ladder}
 use Rattle.ladder_definitions.specs.Kept.{rungWords, encode}
 use Rattle.text_grammar.specs.Reader.{pick, Parse, read, stuck, mapP, bind, lineOf, linesOf, textOf}
-use Rattle.rungs.specs.Buffers.{Buffers, asBuffers}
+use Rattle.rungs.specs.Buffers.{Columns, asBuffers}
 use Rattle.rungs.specs.Parts.{putAll}
-use Rattle.text_definitions.specs.Read.{keptBuffers}
-use Rattle.text_lines.specs.Parts.{lineParsed, LineRead, withRung, putRung, lineKept, LineIsKept, sizesOf, LinesAreKept}
+use Rattle.text_lines.specs.Parts.{lineParsed, LineRead, withRung, putRung, lineKept, LineIsKept, sizesOf, keptColumns, LinesAreKept}
 use Rattle.text_lines.specs.declared.Sizes.{Sizes}
 use Rattle.text_lines.specs.declared.LineParsed.{LineParsed}
 use Rattle.text_lines.specs.declared.LineParsed.the-variants.{Read as LineReadCase, Stuck as LineStuckCase}
@@ -34,7 +33,7 @@ unfolding withRung
 grown-by z count m e = rw e refl
 
 -- four stores
-pub stored : (b : Buffers) (z : Sizes) (label count : ℕ) (ws words labels offsets lengths : List ℕ) → words ≡ sets (b .words) (z .words) ws
+pub stored : (b : Columns) (z : Sizes) (label count : ℕ) (ws words labels offsets lengths : List ℕ) → words ≡ sets (b .words) (z .words) ws
     → labels ≡ set (b .labels) (z .rungs) label → offsets ≡ set (b .offsets) (z .rungs) (z .words) → lengths ≡ set (b .lengths) (z .rungs) count
     → record { words = words; labels = labels; offsets = offsets; lengths = lengths } ≡ putRung b z label count ws
 unfolding putRung
@@ -58,7 +57,7 @@ line-stuck (read m g) x e = let z : _≡_ {A = ℕ} 0 1 = cc in absurd (omega ar
 line-stuck (stuck p) x e = cc
 
 module _ (p : Parse Rung) (s : List ℕ) (at : ℕ) (r : LineParsed) (e x : List ℕ) (f : LineRead p s at r e x) where
-  pub line-not-kept : (m : ℕ) → r ≡ LineStuckCase m → (z : Sizes) (before after : Buffers) → LineIsKept p s at z (LineNotKept m) before after
+  pub line-not-kept : (m : ℕ) → r ≡ LineStuckCase m → (z : Sizes) (before after : Columns) → LineIsKept p s at z (LineNotKept m) before after
   line-not-kept m q z before after =
       let g = subst (λ (a : LineParsed). LineRead p s at a e x) q f in
       let k = line-stuck p m (g .same) in
@@ -72,7 +71,7 @@ module _ (p : Parse Rung) (s : List ℕ) (at : ℕ) (r : LineParsed) (e x : List
     pub line-room : (z : Sizes) → length s < 4294967296 → z .words ≤ at → z .rungs ≤ at → (z .words + w < 4294967296) × (z .rungs + 1 < 4294967296)
     line-room z long few fewer = let c = got .within in (omega arith, omega arith)
 
-    pub line-kept : length e ≡ 128 → (z : Sizes) → z .words ≤ at → z .rungs ≤ at → (before after : Buffers) → after ≡ putRung before z l w (take w x)
+    pub line-kept : length e ≡ 128 → (z : Sizes) → z .words ≤ at → z .rungs ≤ at → (before after : Columns) → after ≡ putRung before z l w (take w x)
         → (y : Sizes) → y ≡ withRung z w → LineIsKept p s at z (LineKeptCase n y) before after
     unfolding withRung
     line-kept long z few fewer before after put y grown =
@@ -134,24 +133,24 @@ module _ (done : Ladder) (g : Rung) where
       ∙ sets-append b 0 (encode done .words) (rungWords g)
       ∙ ap (λ (i : ℕ). sets (sets b 0 (encode done .words)) i (rungWords g)) (zero-add (length (encode done .words))))
 
-  pub put-more : (b : Buffers) → putRung (putAll b (keptBuffers done)) (sizesOf done) (g .label) (length (rungWords g)) (rungWords g)
-      ≡ putAll b (keptBuffers (done ++ g ∷ []))
+  pub put-more : (b : Columns) → putRung (putAll b (keptColumns done)) (sizesOf done) (g .label) (length (rungWords g)) (rungWords g)
+      ≡ putAll b (keptColumns (done ++ g ∷ []))
   unfolding putRung putAll asBuffers sizesOf last-record
   put-more b =
       rw (words-after (b .words), stored-after (λ r. r .label) (b .labels), stored-after (λ r. r .offset) (b .offsets), stored-after (λ r. r .length) (b .lengths)) refl
 
 -- ---- the loop over lines: the rungs before what the lines that follow give are the text, and they are kept
 
-pub record AsLong (a b : Buffers) : Type 0 where
+pub record AsLong (a b : Columns) : Type 0 where
   pub words : length (b .words) ≡ length (a .words)
   pub labels : length (b .labels) ≡ length (a .labels)
   pub offsets : length (b .offsets) ≡ length (a .offsets)
   pub lengths : length (b .lengths) ≡ length (a .lengths)
 
-as-long : (a b c : Buffers) → AsLong a b → AsLong b c → AsLong a c
+as-long : (a b c : Columns) → AsLong a b → AsLong b c → AsLong a c
 as-long a b c f g = record { words = g .words ∙ f .words; labels = g .labels ∙ f .labels; offsets = g .offsets ∙ f .offsets; lengths = g .lengths ∙ f .lengths }
 
-pub record Keeping (s : List ℕ) (before now : Buffers) (next : ℕ) (z : Sizes) : Type 0 where
+pub record Keeping (s : List ℕ) (before now : Columns) (next : ℕ) (z : Sizes) : Type 0 where
   pub left : ℕ
   pub done : Ladder
   pub takes : z ≡ sizesOf done
@@ -161,7 +160,7 @@ pub record Keeping (s : List ℕ) (before now : Buffers) (next : ℕ) (z : Sizes
   pub few : z .words ≤ next
   pub fewer : z .rungs ≤ next
   pub long : AsLong before now
-  pub out : z .longest ≤ 128 → now ≡ putAll before (keptBuffers done)
+  pub out : z .longest ≤ 128 → now ≡ putAll before (keptColumns done)
 
 map-none : (p : Parse Ladder) → mapP (λ gs. [] ++ gs) p ≡ p
 unfolding mapP
@@ -177,11 +176,11 @@ no-rungs : sizesOf [] ≡ record { words = 0; rungs = 0; longest = 0 }
 unfolding sizesOf encode lay longest flatMap
 no-rungs = refl
 
-nothing-put : (b : Buffers) → putAll b (keptBuffers []) ≡ b
+nothing-put : (b : Columns) → putAll b (keptColumns []) ≡ b
 unfolding putAll asBuffers encode lay flatMap
 nothing-put b = refl
 
-pub keeping-start : (s : List ℕ) (b : Buffers) → Keeping s b b 0 (record { words = 0; rungs = 0; longest = 0 })
+pub keeping-start : (s : List ℕ) (b : Columns) → Keeping s b b 0 (record { words = 0; rungs = 0; longest = 0 })
 unfolding textOf
 keeping-start s b =
     record {
@@ -215,9 +214,9 @@ line-last : (s : List ℕ) (l n : ℕ) (g : Rung) (p : Parse Rung) → p ≡ rea
 unfolding bind
 line-last s l n g p e q = rw (e, eq-eqb _ _ q) refl
 
-module _ (s : List ℕ) (before now : Buffers) (next : ℕ) (z : Sizes) (h : Keeping s before now next z)
-    (r : LineKept) (after : Buffers) (fr : LineIsKept (lineOf s next) s next z r now after) where
-  pub lines-stuck : (x : ℕ) → r ≡ LineNotKept x → (last : Buffers) → LinesAreKept (textOf s) (LinesStuckCase x) before last
+module _ (s : List ℕ) (before now : Columns) (next : ℕ) (z : Sizes) (h : Keeping s before now next z)
+    (r : LineKept) (after : Columns) (fr : LineIsKept (lineOf s next) s next z r now after) where
+  pub lines-stuck : (x : ℕ) → r ≡ LineNotKept x → (last : Columns) → LinesAreKept (textOf s) (LinesStuckCase x) before last
   unfolding linesOf bind mapP
   lines-stuck x e last =
       let f = subst (λ (a : LineKept). LineIsKept (lineOf s next) s next z a now after) e fr in
@@ -238,13 +237,13 @@ module _ (s : List ℕ) (before now : Buffers) (next : ℕ) (z : Sizes) (h : Kee
       takes-more : y ≡ sizesOf (h .done ++ g ∷ [])
       takes-more = grown ∙ ap (λ (k : Sizes). withRung k (length (rungWords g))) (h .takes) ∙ sym (sizes-more (h .done) g)
 
-      put-line : y .longest ≤ 128 → after ≡ putAll before (keptBuffers (h .done ++ g ∷ []))
+      put-line : y .longest ≤ 128 → after ≡ putAll before (keptColumns (h .done ++ g ∷ []))
       unfolding withRung
       put-line m =
           let k : y .longest ≡ max (z .longest) (length (rungWords g)) = ap (λ (k : Sizes). k .longest) grown in
           got-line .out n g p (omega arith)
-          ∙ ap (λ (b : Buffers). putRung b z (g .label) (length (rungWords g)) (rungWords g)) (h .out (omega arith))
-          ∙ ap (λ (k : Sizes). putRung (putAll before (keptBuffers (h .done))) k (g .label) (length (rungWords g)) (rungWords g)) (h .takes)
+          ∙ ap (λ (b : Columns). putRung b z (g .label) (length (rungWords g)) (rungWords g)) (h .out (omega arith))
+          ∙ ap (λ (k : Sizes). putRung (putAll before (keptColumns (h .done))) k (g .label) (length (rungWords g)) (rungWords g)) (h .takes)
           ∙ put-more (h .done) g before
 
       ended : n ≡ length s → textOf s ≡ read n (h .done ++ g ∷ [])
@@ -286,7 +285,7 @@ module _ (s : List ℕ) (before now : Buffers) (next : ℕ) (z : Sizes) (h : Kee
           out = λ m gs b small.
               let u : h .done ++ t .0 ∷ [] ≡ gs = same-tree (sym k ∙ b) in
               let v : y ≡ sizesOf gs = a ∙ ap sizesOf u in
-              put-line (t .0) (t .1) (t .2) (rw v small) ∙ ap (λ (l : Ladder). putAll before (keptBuffers l)) u;
+              put-line (t .0) (t .1) (t .2) (rw v small) ∙ ap (λ (l : Ladder). putAll before (keptColumns l)) u;
         }
 
     pub lines-more : (n ≡ length s → ⊥) → AsLong now after → Keeping s before after n y

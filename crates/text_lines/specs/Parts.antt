@@ -6,7 +6,7 @@ use lib.ListN.{length, set}
 use lib.Seq.{sets}
 use Rattle.questions.specs.Bytes.{byte}
 use Rattle.rungs.specs.Records.{longest}
-use Rattle.rungs.specs.Buffers.{Buffers}
+use Rattle.rungs.specs.Buffers.{Columns, columnsOf}
 use Rattle.rungs.specs.Parts.{putAll}
 use Rattle.ladder_definitions.specs.Tree.{Rung, Ladder}
 use Rattle.ladder_definitions.specs.Kept.{rungWords, encode}
@@ -44,7 +44,7 @@ unfoldable pub withRung : Sizes → ℕ → Sizes
 withRung z count = record { words = z .words + count; rungs = z .rungs + 1; longest = max (z .longest) count }
 
 -- a rung's words and record after those of z
-unfoldable pub putRung : Buffers → Sizes → ℕ → ℕ → List ℕ → Buffers
+unfoldable pub putRung : Columns → Sizes → ℕ → ℕ → List ℕ → Columns
 putRung b z label count ws =
     record {
       words = sets (b .words) (z .words) ws;
@@ -62,7 +62,7 @@ KeptWithin s at z (LineKeptCase n y) = (at < n) × (n ≤ length s) × (y .words
 KeptWithin s at z (LineNotKept p) = Unit {0}
 
 -- a line is read, and where its rung is not too long it is kept
-pub record LineIsKept (p : Parse Rung) (s : List ℕ) (at : ℕ) (z : Sizes) (r : LineKept) (before after : Buffers) : Type 0 where
+pub record LineIsKept (p : Parse Rung) (s : List ℕ) (at : ℕ) (z : Sizes) (r : LineKept) (before after : Columns) : Type 0 where
   pub same : r ≡ lineKept z p
   pub within : KeptWithin s at z r
   pub out : (n : ℕ) (g : Rung) → p ≡ read n g → length (rungWords g) ≤ mostRungWords → after ≡ putRung before z (g .label) (length (rungWords g)) (rungWords g)
@@ -74,7 +74,11 @@ abbrev pub linesParsed : Parse Ladder → LinesParsed
 linesParsed (read n gs) = LinesReadCase (sizesOf gs)
 linesParsed (stuck p) = LinesStuckCase p
 
+-- a ladder's words, and of its records labels, offsets and lengths
+abbrev pub keptColumns : Ladder → Columns
+keptColumns gs = columnsOf (keptBuffers gs)
+
 -- a text is read, and where no rung is too long all are kept, as far as there is room
-pub record LinesAreKept (p : Parse Ladder) (r : LinesParsed) (before after : Buffers) : Type 0 where
+pub record LinesAreKept (p : Parse Ladder) (r : LinesParsed) (before after : Columns) : Type 0 where
   pub same : r ≡ linesParsed p
-  pub out : (n : ℕ) (gs : Ladder) → p ≡ read n gs → sizesOf gs .longest ≤ mostRungWords → after ≡ putAll before (keptBuffers gs)
+  pub out : (n : ℕ) (gs : Ladder) → p ≡ read n gs → sizesOf gs .longest ≤ mostRungWords → after ≡ putAll before (keptColumns gs)

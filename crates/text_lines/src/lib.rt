@@ -4,7 +4,7 @@ ghost use mathlib.Core.Path.{_≡_};
 ghost use lib.ListN.{length, take};
 ghost use Rattle.text_grammar.specs.Reader.{lineOf, textOf};
 ghost use Rattle.ladder_definitions.specs.Kept.{rungWords};
-ghost use Rattle.rungs.specs.Buffers.{buffers};
+ghost use Rattle.rungs.specs.Buffers.{columns};
 ghost use Rattle.text_lines.specs.Parts.{rungOf, LineRead, withRung, putRung, LineIsKept, LinesAreKept};
 ghost use Rattle.text_fronts.specs.Parts.{PartRead};
 use ladder_kinds::MOST_RUNG_WORDS;
@@ -123,8 +123,8 @@ fn keep(
     lengths: &mut [u32],
 )
     requires { ⌜ (sizes .words + count < 2 ^ 32) × (sizes .rungs < 2 ^ 32) ⌝ }
-    ensures { λ _. ⌜ buffers (now (words .exit)) (now (labels .exit)) (now (offsets .exit)) (now (lengths .exit))
-        ≡ putRung (buffers (now (words .entry)) (now (labels .entry)) (now (offsets .entry)) (now (lengths .entry)))
+    ensures { λ _. ⌜ columns (now (words .exit)) (now (labels .exit)) (now (offsets .exit)) (now (lengths .exit))
+        ≡ putRung (columns (now (words .entry)) (now (labels .entry)) (now (offsets .entry)) (now (lengths .entry)))
         sizes label count (take count (now (rung .entry))) ⌝ }
 {
     let at = sizes.rungs;
@@ -147,8 +147,8 @@ fn keep_line(
 ) -> LineKept
     requires { ⌜ (length (now text) < 2 ^ 32) × (sizes .words ≤ at) × (sizes .rungs ≤ at) ⌝ }
     ensures { λ r. ⌜ LineIsKept (lineOf (now (text .entry)) at) (now (text .entry)) at sizes r
-        (buffers (now (words .entry)) (now (labels .entry)) (now (offsets .entry)) (now (lengths .entry)))
-        (buffers (now (words .exit)) (now (labels .exit)) (now (offsets .exit)) (now (lengths .exit))) ⌝ }
+        (columns (now (words .entry)) (now (labels .entry)) (now (offsets .entry)) (now (lengths .entry)))
+        (columns (now (words .exit)) (now (labels .exit)) (now (offsets .exit)) (now (lengths .exit))) ⌝ }
 {
     let mut rung = [0u32; MOST_RUNG_WORDS];
     match line(text, at, &mut rung) {
@@ -173,8 +173,8 @@ pub fn lines(
 ) -> LinesParsed
     requires { ⌜ length (now text) < 2 ^ 32 ⌝ }
     ensures { λ r. ⌜ LinesAreKept (textOf (now (text .entry))) r
-        (buffers (now (words .entry)) (now (labels .entry)) (now (offsets .entry)) (now (lengths .entry)))
-        (buffers (now (words .exit)) (now (labels .exit)) (now (offsets .exit)) (now (lengths .exit))) ⌝ }
+        (columns (now (words .entry)) (now (labels .entry)) (now (offsets .entry)) (now (lengths .entry)))
+        (columns (now (words .exit)) (now (labels .exit)) (now (offsets .exit)) (now (lengths .exit))) ⌝ }
 {
     let mut next: usize = 0;
     let mut sizes = Sizes {

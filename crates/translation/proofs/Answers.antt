@@ -13,7 +13,7 @@ use Rattle.questions.specs.Refusals.{refusalOf}
 use Rattle.questions.specs.declared.Refusal.{Refusal as RefusalCase}
 use Rattle.questions.specs.declared.Refusal.the-variants.{Buffer as BufferCase}
 use Rattle.rungs.specs.Records.{offsets, search}
-use Rattle.rungs.specs.Buffers.{Buffers, asBuffers, needs, written}
+use Rattle.rungs.specs.Buffers.{Buffers, columnsOf, asBuffers, needs, written}
 use Rattle.rungs.specs.Laws.Layout.{lay-length}
 use Rattle.rungs.specs.Laws.Filling.{written-sets, labels-count, offsets-count, lengths-count, short-words, short-labels, short-offsets, short-lengths, enough, put-written}
 use Rattle.ladder_definitions.specs.Tree.{Ladder}
@@ -136,7 +136,7 @@ module _ (vars : ℕ) (ws ls os ns : List ℕ) (lent : Buffers) where
                   ap (λ s. getD s (search i ls) 0) (laid .starts gs the-held ∙ ap (λ s. sets s 0 (offsets (listRecords vars gs))) z)
                   ∙ over-zeros (offsets (listRecords vars gs)) mostRungs (search i ls) (omega (arith, length-map (listRecords vars gs) (λ r. r .offset), records-many, rungs-many, sized gs (accepted vars kept ok .1 .sizes) .rungs))
 
-              pub translate-done : e ≡ replicate mostRungs 0 → (after : Buffers) → ListPut vars ws ls os x lent after
+              pub translate-done : e ≡ replicate mostRungs 0 → (after : Buffers) → ListPut vars ws ls os x (columnsOf lent) (columnsOf after)
                   → TranslateDone (translateKept vars kept lent) (WrittenCase (record { instructions = r .instructions; rungs = length os; longest = r .longest })) after
               unfolding translatedAnswer countsOf translate
               translate-done z after put =
@@ -145,6 +145,6 @@ module _ (vars : ℕ) (ws ls os ns : List ℕ) (lent : Buffers) where
                   record {
                     answer = rw (c, counted, laid .longest gs the-held, ← records-many) refl;
                     same-buffers = rw c
-                        (put .wrote gs the-held (starts-laid z)
-                        ∙ put-written new lent (omega (arith, words-many)) (omega (arith, labels-many)) (omega (arith, offsets-many)) (omega (arith, lengths-many)));
+                        (put-written new lent (omega (arith, words-many)) (omega (arith, labels-many)) (omega (arith, offsets-many)) (omega (arith, lengths-many)) after
+                        (put .wrote gs the-held (starts-laid z)));
                   }

@@ -7,7 +7,7 @@ use native.Mathlib.Omega.{arith}
 use lib.ListN.{length, getD, take, set, length-map}
 use lib.Seq.{sets, length-sets}
 use Rattle.rungs.specs.Records.{RungRecord, lay, search, startOf, labels as labelsOf, offsets as offsetsOf}
-use Rattle.rungs.specs.Buffers.{Buffers, asBuffers}
+use Rattle.rungs.specs.Buffers.{Columns, columnsOf, asBuffers}
 use Rattle.rungs.specs.Parts.{putAll}
 use Rattle.rungs.specs.Laws.Layout.{sizes, lay-labels, flatMap-snoc}
 use Rattle.ladder_definitions.specs.Tree.{Ladder}
@@ -47,14 +47,14 @@ module _ (vars : ℕ) (start : ℕ → ℕ) (gs : Ladder) (k : ℕ) where
 
 -- ---- the loop: the rungs before place k are written
 
-pub record Writing (vars : ℕ) (ws ls os starts : List ℕ) (e x : Buffers) (k put : ℕ) : Type 0 where
+pub record Writing (vars : ℕ) (ws ls os starts : List ℕ) (e x : Columns) (k put : ℕ) : Type 0 where
   pub put-before : Before vars ws ls os k put
   pub words : (gs : Ladder) → LadderHeld ws ls os gs → x .words ≡ sets (e .words) 0 (firstWords vars (startIn ls starts) gs k)
   pub labels : (gs : Ladder) → LadderHeld ws ls os gs → x .labels ≡ sets (e .labels) 0 (labelsOf (firsts vars gs k))
   pub offsets : (gs : Ladder) → LadderHeld ws ls os gs → x .offsets ≡ sets (e .offsets) 0 (offsetsOf (firsts vars gs k))
   pub lengths : (gs : Ladder) → LadderHeld ws ls os gs → x .lengths ≡ sets (e .lengths) 0 (map (λ (r : RungRecord). r .length) (firsts vars gs k))
 
-pub writing-first : (vars : ℕ) (ws ls os starts : List ℕ) (e : Buffers) → Writing vars ws ls os starts e e 0 0
+pub writing-first : (vars : ℕ) (ws ls os starts : List ℕ) (e : Columns) → Writing vars ws ls os starts e e 0 0
 unfolding lay flatMap
 writing-first vars ws ls os starts e = record {
   put-before = before-first vars ws ls os;
@@ -65,7 +65,7 @@ writing-first vars ws ls os starts e = record {
 }
 
 -- no buffer gets longer
-pub record AsLong (a b : Buffers) : Type 0 where
+pub record AsLong (a b : Columns) : Type 0 where
   pub words : length (b .words) ≡ length (a .words)
   pub labels : length (b .labels) ≡ length (a .labels)
   pub offsets : length (b .offsets) ≡ length (a .offsets)
@@ -74,7 +74,7 @@ pub record AsLong (a b : Buffers) : Type 0 where
 kept-long : (x b : List ℕ) (i : ℕ) (vs : List ℕ) → x ≡ sets b i vs → length x ≡ length b
 kept-long x b i vs p = ap length p ∙ length-sets b i vs
 
-module _ (vars : ℕ) (ws ls os starts : List ℕ) (e x : Buffers) (k put : ℕ) (w : Writing vars ws ls os starts e x k put) where
+module _ (vars : ℕ) (ws ls os starts : List ℕ) (e x : Columns) (k put : ℕ) (w : Writing vars ws ls os starts e x k put) where
   pub room : LadderReady vars ws ls os starts → k < length os → (put ≤ 16384) × (k < length ls) × (k < 256)
   room r h =
       let a = few-put vars ws ls os k put (w .put-before) starts r in
@@ -98,7 +98,7 @@ module _ (vars : ℕ) (ws ls os starts : List ℕ) (e x : Buffers) (k put : ℕ)
     pub few-more : LadderReady vars ws ls os starts → r .put ≤ 16384
     few-more ready = few-put vars ws ls os (k + 1) (r .put) after starts ready
 
-    pub writing-more : (y : Buffers) → y .words ≡ c → y .labels ≡ set (x .labels) k (getD ls k 0) → y .offsets ≡ set (x .offsets) k put
+    pub writing-more : (y : Columns) → y .words ≡ c → y .labels ≡ set (x .labels) k (getD ls k 0) → y .offsets ≡ set (x .offsets) k put
         → y .lengths ≡ set (x .lengths) k (r .put - put) → Writing vars ws ls os starts e y (k + 1) (r .put)
     writing-more y a f o l = record {
       put-before = after;
@@ -135,7 +135,7 @@ module _ (vars : ℕ) (ws ls os starts : List ℕ) (e x : Buffers) (k put : ℕ)
           ap (λ (start : ℕ → ℕ). firstWords vars start gs k) same-start
           ∙ ap (λ (hs : Ladder). map instrWord (flatMap (rungCode vars (startOf (listRecords vars gs))) hs)) (all-taken ws ls os k h gs held)
 
-      all-put : x ≡ putAll e (listBuffers (translate vars gs))
+      all-put : x ≡ putAll e (columnsOf (listBuffers (translate vars gs)))
       unfolding putAll asBuffers translate
       all-put =
           let rs = all-firsts ws ls os k h gs held vars in

@@ -5,7 +5,7 @@ use mathlib.Core.List.{List}
 use lib.ListN.{length}
 use lib.Seq.{sets}
 use Rattle.rungs.specs.Records.{offsets, longest}
-use Rattle.rungs.specs.Buffers.{Buffers}
+use Rattle.rungs.specs.Buffers.{Columns, columnsOf}
 use Rattle.rungs.specs.Parts.{putAll}
 use Rattle.ladder_definitions.specs.Tree.{Ladder}
 use Rattle.ladder_definitions.specs.Held.{LadderHeld}
@@ -27,6 +27,6 @@ pub record LaidOut (vars : ℕ) (ws ls os : List ℕ) (r : Layout) (e x : List �
   pub longest : (gs : Ladder) → LadderHeld ws ls os gs → r .longest ≡ longest (listRecords vars gs)
   pub starts : (gs : Ladder) → LadderHeld ws ls os gs → x ≡ sets e 0 (offsets (listRecords vars gs))
 
-pub record ListPut (vars : ℕ) (ws ls os starts : List ℕ) (e x : Buffers) : Type 0 where
+pub record ListPut (vars : ℕ) (ws ls os starts : List ℕ) (e x : Columns) : Type 0 where
   pub wrote : (gs : Ladder) → LadderHeld ws ls os gs → ((l : ℕ) → startIn ls starts l ≡ startIn ls (offsets (listRecords vars gs)) l)
-      → x ≡ putAll e (listBuffers (translate vars gs))
+      → x ≡ putAll e (columnsOf (listBuffers (translate vars gs)))

@@ -1,5 +1,5 @@
 // A ladder's list, rung by rung: first laid out, then written.
-ghost use Rattle.rungs.specs.Buffers.{buffers};
+ghost use Rattle.rungs.specs.Buffers.{columns};
 ghost use Rattle.translation_layout.specs.Parts.{LadderReady, LaidOut, ListPut};
 
 // A list's instructions, and those of its longest rung.
@@ -62,8 +62,8 @@ pub fn write_list(
 )
     requires { ⌜ LadderReady vars (now words) (now labels) (now offsets) (now starts) ⌝ }
     ensures { λ _. ⌜ ListPut vars (now (words .entry)) (now (labels .entry)) (now (offsets .entry)) (now (starts .entry))
-        (buffers (now (code .entry)) (now («code_labels» .entry)) (now («code_offsets» .entry)) (now («code_lengths» .entry)))
-        (buffers (now (code .exit)) (now («code_labels» .exit)) (now («code_offsets» .exit)) (now («code_lengths» .exit))) ⌝ }
+        (columns (now (code .entry)) (now («code_labels» .entry)) (now («code_offsets» .entry)) (now («code_lengths» .entry)))
+        (columns (now (code .exit)) (now («code_labels» .exit)) (now («code_offsets» .exit)) (now («code_lengths» .exit))) ⌝ }
 {
     let mut put: usize = 0;
     let mut rung: usize = 0;
