@@ -1,6 +1,7 @@
-/* The five calls of document 01 and the search for a label, with document 02's requests up to Req 03, in plain C, for comparison. Written
+/* The five calls of document 01 and the search for a label, with document 02's requests up to Req 04, in plain C, for comparison. Written
    from the documents alone; it shares nothing with the proved code.
-   Standard input: a number of turns, LF, and one request of the vectors' format. Each turn works on fresh copies of the lent buffers.
+   Standard input: a number of turns, LF, and one request of the vectors' format. Each turn works on a fresh copy of the table;
+   the times entered need none, since a list scan sets them for itself alone.
    Standard output: the request's answer line, as the program test_vectors prints it. Standard error: nanoseconds a turn. */
 #include <stdint.h>
 #include <stdio.h>
@@ -10,7 +11,7 @@
 
 enum { MOST_VARS = 1024, MOST_RUNGS = 256, MOST_RUNG_WORDS = 128, MOST_WORDS = 8192, MOST_CODE = 16384, SCRATCH = 32, MOST_BRACKETS = 15 };
 
-typedef struct { uint16_t label; uint32_t offset, length; } Rung;
+typedef struct { uint16_t label; uint32_t offset, length, times; } Rung;
 typedef struct { int number; size_t place; } No;
 
 static const No YES = {0, 0};
@@ -224,7 +225,8 @@ static void write_byte(uint32_t vars, uint8_t *t, uint32_t x, int value, Scan *s
     else t[x] = (uint8_t)value;
 }
 
-static Scan list_scan(uint32_t vars, const uint32_t *c, size_t n, const Rung *r, size_t m, uint8_t *t, size_t bytes, uint32_t watchdog)
+/* "a list scan that isn't refused sets every field for that scan alone, and a refused one touches none" */
+static Scan list_scan(uint32_t vars, const uint32_t *c, size_t n, Rung *r, size_t m, uint8_t *t, size_t bytes, uint32_t watchdog)
 {
     Scan s = {YES, 0, 0, 0, 0};
     s.no = list_asked(vars, c, n, r, m);
@@ -232,6 +234,7 @@ static Scan list_scan(uint32_t vars, const uint32_t *c, size_t n, const Rung *r,
     s.no = table_asked(vars, t, bytes);
     if (s.no.number) return s;
     if (watchdog > 16777215) { s.no = no(12, 0); return s; }
+    for (size_t i = 0; i < m; i++) r[i].times = 0;
     size_t pc = 0, next = 0;
     uint32_t start = r[0].offset;
     int acc = 0;
@@ -239,7 +242,7 @@ static Scan list_scan(uint32_t vars, const uint32_t *c, size_t n, const Rung *r,
         if (pc == n) { s.ended = 1; return s; }
         if (s.instructions == watchdog) return s;
         s.instructions++;
-        if (next < m && start == pc) { s.rungs++; next++; start = next < m ? r[next].offset : 0; }
+        if (next < m && start == pc) { s.rungs++; r[next].times++; next++; start = next < m ? r[next].offset : 0; }
         uint32_t word = c[pc], x = operand(word);
         size_t to = pc + 1;
         switch (kind(word)) {
@@ -336,6 +339,7 @@ static Translation translate(uint32_t vars, const uint32_t *w, size_t n, const R
         out[i].label = r[i].label;
         out[i].offset = (uint32_t)begin;
         out[i].length = (uint32_t)(write.put - begin);
+        out[i].times = 0;
     }
     t.instructions = write.put;
     t.rungs = m;
@@ -487,6 +491,7 @@ static ReadDone read_text(uint32_t vars, const uint8_t *text, size_t bytes, uint
         read_rungs[m].label = (uint16_t)label;
         read_rungs[m].offset = (uint32_t)from;
         read_rungs[m].length = (uint32_t)(p.put - from);
+        read_rungs[m].times = 0;
         m++;
     } while (p.at < bytes);
     d.no = asked(vars, read_words, p.put, read_rungs, m, 0);
@@ -518,14 +523,19 @@ static size_t in_bytes(void) { size_t n = next(); for (size_t i = 0; i < n; i++)
 static size_t in_rungs(void)
 {
     size_t m = next();
-    for (size_t i = 0; i < m; i++) { lent_rungs[i].label = (uint16_t)next(); lent_rungs[i].offset = next(); lent_rungs[i].length = next(); }
+    for (size_t i = 0; i < m; i++) {
+        lent_rungs[i].label = (uint16_t)next();
+        lent_rungs[i].offset = next();
+        lent_rungs[i].length = next();
+        lent_rungs[i].times = next();
+    }
     return m;
 }
 
 static void fill(void)
 {
     memset(words, 255, sizeof words);
-    for (size_t i = 0; i < 400; i++) { rungs[i].label = 65535; rungs[i].offset = rungs[i].length = 4294967295u; }
+    for (size_t i = 0; i < 400; i++) { rungs[i].label = 65535; rungs[i].offset = rungs[i].length = rungs[i].times = 4294967295u; }
 }
 
 static void out_words(size_t n)
@@ -537,16 +547,19 @@ static void out_words(size_t n)
     printf(" %zu", n - k);
 }
 
+static int filling(Rung r) { return r.label == 65535 && r.offset == 4294967295u && r.length == 4294967295u && r.times == 4294967295u; }
+
 static void out_rungs(size_t n)
 {
     size_t k = n;
-    while (k > 0 && rungs[k - 1].label == 65535 && rungs[k - 1].offset == 4294967295u && rungs[k - 1].length == 4294967295u) k--;
+    while (k > 0 && filling(rungs[k - 1])) k--;
     printf(" %zu", k);
-    for (size_t i = 0; i < k; i++) printf(" %u %u %u", rungs[i].label, rungs[i].offset, rungs[i].length);
+    for (size_t i = 0; i < k; i++) printf(" %u %u %u %u", rungs[i].label, rungs[i].offset, rungs[i].length, rungs[i].times);
     printf(" %zu", n - k);
 }
 
 static void out_table(size_t n) { for (size_t i = 0; i < n; i++) printf(" %u", bytes[i]); }
+static void out_times(size_t m) { for (size_t i = 0; i < m; i++) printf(" %u", lent_rungs[i].times); }
 
 static void out_lines(size_t n)
 {
@@ -601,6 +614,7 @@ int main(void)
     if (call <= 2) { out_words(a); out_rungs(b); }
     else if (call == 5) out_lines(a);
     else out_table(a);
+    if (call == 4) out_times(m);
     printf("\n");
     fprintf(stderr, "%.1f\n", turns ? (end - begin) / turns : 0.0);
     return 0;

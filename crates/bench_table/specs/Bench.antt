@@ -1,7 +1,7 @@
 -- Document 01, "Bench ladders": the rows A to I in one table, with one theorem: texts through the definitions of Read, Translate, Ladder scan and List scan.
 -- The list scan has the watchdog of demand 3: k × L where the ladder scan ends with k rungs, 2 × n where it stops at n. A to D say no rung watchdog;
--- theirs is the number of rungs that they enter, so that a watchdog asked before the end would show. J stands below the table, and so do the latches and
--- sums of document 02, Req 01 and 02, through the same definitions. Assumes nothing.
+-- theirs is the number of rungs that they enter, so that a watchdog asked before the end would show. J stands below the table, and so do the latches,
+-- sums and times entered of document 02, Req 01, 02 and 04, through the same definitions. Assumes nothing.
 use mathlib.Core.Path.{_≡_, refl}
 use mathlib.Core.Bool.{xor}
 use mathlib.Core.Option.{Option, none, some}
@@ -11,13 +11,14 @@ use lib.ListN.{length, replicate, take}
 use Rattle.questions.specs.Tests.{all, firstFailed}
 use Rattle.questions.specs.Bytes.{bytes}
 use Rattle.questions.specs.Questions.{ask, askEach, firstNo, varsInRange, question1, question2, question12, longEnough, question13}
-use Rattle.table.specs.State.{scratchBytes, valueAt, value, writtenAt, turns, write, writeIf}
+use Rattle.table.specs.State.{stateOf, scratchBytes, valueAt, value, writtenAt, turns, write, writeIf}
 use Rattle.table.specs.Halt.{Halt, Ended, Stopped}
 use Rattle.table.specs.Questions.{tableInRange, question11}
-use Rattle.rungs.specs.Records.{RungRecord, laid, lay, search, present, startOf, isStart, longest, rowOf}
+use Rattle.rungs.specs.Records.{RungRecord, laid, lay, search, present, startOf, isStart, enter, longest, fieldsOf, rowOf}
 use Rattle.rungs.specs.Buffers.{Buffers, buffers, asBuffers, needs, written, writtenOver, writtenWords, writtenRecords}
 use Rattle.ladder_definitions.specs.Tree.{frontAll, rearAll, rungAll, inputVariable, outputNames, number}
 use Rattle.ladder_definitions.specs.Meaning.{scanLadder, scanFrom, runRung, runRear, runOutput, workFront, workInput, jumpIf, unlessJumped, from, follow, left}
+use Rattle.ladder_definitions.specs.Entries.{entriesFrom, rungsEntered, occurrences, timesEntered}
 use Rattle.ladder_definitions.specs.Kept.{Kept, inputKind, outputKind, inputWord, outputWord, frontWords, rearWords, rungWords, encode, putInput, putFront, putOutput, putRearAnd, putRearOr, kinds, decodeWords, oneRung, decodeRung, decodeFrom, decode}
 use Rattle.ladder_definitions.specs.Questions.{ladderOf, holdsLadder, question4, sizesInRange, question5, inputBelow, outputBelow, question6, newLabels, question7, outputLeads, question8, joinScratch, frontScratch, rearScratch, rungScratch, scratchInRange, question9, namedBelow, namedLeads, ladderQuestions, ladderAnswer}
 use Rattle.ladder_definitions.specs.LadderScan.{callLadderScan, scanned, refused, scanEnds as ladderScanEnds, scanQuestions as ladderScanQuestions}
@@ -106,7 +107,7 @@ start r = r .before ++ replicate scratchBytes 0
 
 -- room for a bench ladder and its list
 room : Buffers
-room = buffers (replicate 20 0) (replicate 3 0) (replicate 3 0) (replicate 3 0)
+room = buffers (replicate 20 0) (replicate 3 0) (replicate 3 0) (replicate 3 0) (replicate 3 0)
 
 variablesOf : Row → List ℕ → List ℕ
 variablesOf r bytes = take (length (r .before)) bytes
@@ -213,7 +214,7 @@ asSaid rows = map (λ r. asFar (run r) (r .outcome)) rows ≡ map (λ (r : Row).
 all-tables : asSaid table × asSaid latches × asSaid moves
 unfolding asSaid table listA outcomeA latches latchList latched moves stoppedA run asFar start room instructionWatchdog variablesOf byListScan byTranslate byLadderScan bytes
     all firstFailed ask askEach firstNo varsInRange question1 question2 question3 question4 question5 question6 question7 question8 question9 question10 question11 question12 question13 longEnough
-    valueAt value writtenAt turns write writeIf xor tableInRange laid lay search present startOf isStart longest rowOf asBuffers needs written writtenOver writtenWords writtenRecords zipWith flatMap
+    valueAt value writtenAt turns write writeIf xor tableInRange laid lay search present startOf isStart enter longest fieldsOf rowOf asBuffers needs written writtenOver writtenWords writtenRecords zipWith flatMap
     frontAll rearAll rungAll scanLadder scanFrom runRung runRear runOutput workFront workInput jumpIf unlessJumped from follow left
     inputKind inputVariable inputWord outputKind outputNames number outputWord frontWords rearWords rungWords encode putInput putFront putOutput putRearAnd putRearOr kinds decodeWords oneRung decodeRung decodeFrom decode
     ladderOf holdsLadder sizesInRange inputBelow namedBelow outputBelow newLabels namedLeads outputLeads joinScratch frontScratch rearScratch rungScratch scratchInRange ladderQuestions ladderAnswer callLadderScan ladderScanQuestions ladderScanEnds
@@ -234,13 +235,59 @@ latches-worked = all-tables .1
 moves-worked : asSaid moves
 moves-worked = all-tables .2
 
+-- ---- document 02, Req 04
+
+-- the variables before, a text, both watchdogs; how often the ladder scan enters each rung, and the fields after a scan of its list, each 7 before it
+record Entries : Type 0 where
+  before : List ℕ
+  text : List ℕ
+  rungWatchdog : ℕ
+  watchdog : ℕ
+  ladder : List ℕ
+  list : List ℕ
+
+entries : List Entries
+entries =
+    -- case A
+    record { before = 1 ∷ 0 ∷ 0 ∷ 0 ∷ 0 ∷ []; text = bytes "10:c0|c1&n2>o1|c3&j20\n20:n3>o4\n"; rungWatchdog = 2; watchdog = 20; ladder = 1 ∷ 1 ∷ []; list = 1 ∷ 1 ∷ [] }
+    -- a jump over a rung, which is not entered
+    ∷ record { before = 0 ∷ 0 ∷ []; text = bytes "0:n0>j5\n3:c0>o1\n5:c0>o1\n"; rungWatchdog = 9; watchdog = 20; ladder = 1 ∷ 0 ∷ 1 ∷ []; list = 1 ∷ 0 ∷ 1 ∷ [] }
+    -- the last rung is entered twice, the second time by its own jump
+    ∷ record { before = 0 ∷ 0 ∷ []; text = bytes "3:c0>o0\n7:n1>o1|j7\n"; rungWatchdog = 9; watchdog = 20; ladder = 1 ∷ 2 ∷ []; list = 1 ∷ 2 ∷ [] }
+    -- Stopped: the fields are set all the same
+    ∷ record { before = 0 ∷ []; text = bytes "0:n0>j0\n1:c0>o0\n"; rungWatchdog = 3; watchdog = 6; ladder = 3 ∷ 0 ∷ []; list = 3 ∷ 0 ∷ [] }
+    ∷ record { before = 0 ∷ []; text = bytes "0:n0>j0\n1:c0>o0\n"; rungWatchdog = 0; watchdog = 0; ladder = 0 ∷ 0 ∷ []; list = 0 ∷ 0 ∷ [] }
+    -- refused 12: they stay
+    ∷ record { before = 0 ∷ []; text = bytes "0:n0>j0\n1:c0>o0\n"; rungWatchdog = 1; watchdog = 16777216; ladder = 1 ∷ 0 ∷ []; list = 7 ∷ 7 ∷ [] }
+    ∷ []
+
+entered : Entries → List ℕ × List ℕ
+entered r =
+    let table = r .before ++ replicate scratchBytes 0 in
+    let vars = length (r .before) in
+    let gs = textLadder (r .text) in
+    let list = translate vars gs in (
+      timesEntered gs (r .rungWatchdog) (stateOf vars table),
+      callListScan vars (map instrWord (list .code)) (list .records) table (r .watchdog) .times (replicate (length gs) 7),
+    )
+
+-- And every field.
+entries-worked : map entered entries ≡ map (λ (r : Entries). (r .ladder, r .list)) entries
+unfolding entries entered bytes
+    all ask firstNo varsInRange question1 question10 question11 question12 valueAt value writtenAt turns write writeIf xor tableInRange laid lay search startOf isStart enter zipWith flatMap
+    runRung runRear runOutput workFront workInput jumpIf unlessJumped from follow left entriesFrom rungsEntered occurrences timesEntered number
+    mapP bind followed digitOf digitsFrom numeralOf chain termBy frontBy factorBy factorOf termOf frontOf opensFactor branchBy rearBy outputAt endBy endOf rearOf lineOf linesOf textOf textLadder
+    operand opOf operandNumber onlyNot ops instrWord decodeInstr decodeCode codeOf scanList scanMachine begin fresh step count does halted
+    operandInRange wordInRange recordsLaid listInRange listOf callListScan listScanQuestions listScanEnds F R join outputCode rungCode listRecords translate
+entries-worked = refl
+
 -- J, of so many contacts: 0:c0&c0& .. &c0>o0
 textJ : ℕ → List ℕ
 textJ contacts = bytes "0:c0" ++ flatMap (λ more. more) (replicate (contacts - 1) (bytes "&c0")) ++ bytes ">o0\n"
 
 -- room for 128 words and a record
 roomJ : Buffers
-roomJ = buffers (replicate 128 0) (replicate 1 0) (replicate 1 0) (replicate 1 0)
+roomJ = buffers (replicate 128 0) (replicate 1 0) (replicate 1 0) (replicate 1 0) (replicate 1 0)
 
 -- "J 64 contacts joined by & and a coil: 128 words, taken; 65: refused 5.", by Read
 J-worked : map (λ contacts. readText 1 (textJ contacts) roomJ .answer) (64 ∷ 65 ∷ []) ≡ kept 128 1 ∷ readRefused (record { number = 5; place = 0 }) ∷ []

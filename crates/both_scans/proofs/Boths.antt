@@ -3,9 +3,9 @@ use Prim.Native.Nat.{ℕ, _≤_}
 use native.Mathlib.Omega.{arith}
 use mathlib.Core.Path.{_≡_, refl, sym, ap, _∙_}
 use mathlib.Core.Option.{none, some}
-use mathlib.Core.List.{List, [], _∷_, map, append-nil}
-use lib.ListN.{length, take, drop-of-length-le}
-use lib.Seq.{take-all}
+use mathlib.Core.List.{List, [], _∷_, _++_, map, append-nil}
+use lib.ListN.{length, take, drop, drop-of-length-le, length-replicate}
+use lib.Seq.{take-all, drop-at}
 use Rattle.questions.specs.Questions.{Refusal, Answer, firstNo, question12, question13, mostRungWatchdog, mostInstructionWatchdog}
 use Rattle.questions.specs.Refusals.{refusalOf, verdictAnswer}
 use Rattle.questions.specs.Laws.Answers.{first-yes, later-yes, verdict-accepted, watchdog-in-range}
@@ -15,8 +15,8 @@ use Rattle.questions.specs.declared.Verdict.the-variants.{Accepted, Refused}
 use Rattle.table.specs.Halt.{Halt, Ended, Stopped}
 use Rattle.table.specs.State.{stateOf}
 use Rattle.table.specs.Questions.{question11}
-use Rattle.rungs.specs.Records.{RungRecord, rowOf, longest}
-use Rattle.rungs.specs.Buffers.{Buffers, needs, writtenOver, writtenWords, writtenRecords}
+use Rattle.rungs.specs.Records.{RungRecord, noneEntered, rowOf, longest}
+use Rattle.rungs.specs.Buffers.{Buffers, buffers, asBuffers, needs, written, writtenOver, writtenWords, writtenRecords}
 use Rattle.ladder_definitions.specs.Kept.{Kept}
 use Rattle.ladder_definitions.specs.Meaning.{scanLadder}
 use Rattle.ladder_definitions.specs.Questions.{ladderOf, ladderAnswer, mostRungWords}
@@ -33,10 +33,10 @@ use Rattle.list_definitions.specs.declared.ListScanned.the-variants.{Ended as L
 use Rattle.translation_definitions.specs.Translate.{translate, codeBound}
 use Rattle.translation_definitions.specs.TranslateKept.{translated, refused as translateRefused, translateKept, countsOf, countsIn, listBuffers, TranslateDone, translatedAnswer}
 use Rattle.translation_definitions.specs.Laws.Answers.{not-both, call-refused, call-written, refused-same, all-yes, counts-are, written-room}
-use Rattle.translation_definitions.specs.Laws.Calls.{ladder-call, list-call, words-out, records-out}
+use Rattle.translation_definitions.specs.Laws.Calls.{ladder-call, list-call, list-times, words-out, records-out}
 use Rattle.translation_definitions.specs.Laws.Legal.{watchdog-in-range as most-in-range}
 use Rattle.translation_definitions.specs.Laws.Boths.{copy-long, both-ends, both-left, both-refused, both-scanned, paired-legal}
-use Rattle.translation_definitions.specs.BothScans.{Lent, lends, bothQuestions, bothScans, pairedScans, haltOf, pairedWatchdog, endsIn, bothScannedAnswer, BothScansDone}
+use Rattle.translation_definitions.specs.BothScans.{Lent, lends, scannedBuffers, bothQuestions, bothScans, pairedScans, haltOf, pairedWatchdog, endsIn, bothScannedAnswer, BothScansDone}
 use Rattle.translation_definitions.specs.BothAgree.{BothPromise, PairedPromise}
 use Rattle.translation_definitions.specs.Theorems.{both-agree, paired-agree}
 use Rattle.translation_definitions.specs.declared.Counts.{Counts as CountsStruct}
@@ -88,10 +88,10 @@ module _ (vars : ℕ) (k : Kept) (t : List ℕ) (n : ℕ) where
 module _ (vars : ℕ) (k : Kept) (code : List ℕ) (records : List RungRecord) (counts : CountsStruct) (n : ℕ) (watchdog : ListWatchdog) {t₀ u₀ : List ℕ} (t u : List ℕ) (et : t ≡ t₀) (eu : u ≡ u₀) where
   pub scans-ran : (a : LadderScanned) (t′ : List ℕ) → LadderScanDone (callLadderScan vars k t n) a t′ → (x : LadderEnd) → x ≡ ladderEnd a
       → (m : ℕ) → m ≡ watchdogBy watchdog (haltOf (x .ended)) (x .counts .rungs) (counts .longest) n
-      → (b : ListScanned) (u′ : List ℕ) → ListScanDone (callListScan vars code records u m) b u′ → (y : ListEnd) → y ≡ listEnd b
+      → (b : ListScanned) (u′ v v′ : List ℕ) → ListScanDone (callListScan vars code records u m) b u′ v v′ → (y : ListEnd) → y ≡ listEnd b
       → ScansRun vars k code records counts n watchdog t₀ u₀
-      (record { counts = counts; «ladder_ended» = x .ended; ladder = x .counts; «list_ended» = y .ended; list = y .counts }) t′ u′
-  scans-ran a t′ d x ex m em b u′ e y ey =
+      (record { counts = counts; «ladder_ended» = x .ended; ladder = x .counts; «list_ended» = y .ended; list = y .counts }) t′ u′ v v′
+  scans-ran a t′ d x ex m em b u′ v v′ e y ey =
       record {
         ladder = a;
         ladder-done = rw (← et) d;
@@ -115,6 +115,7 @@ module _ (vars : ℕ) (k : Kept) (lent : Buffers) (r : Translated) (after : Buff
   written-answer = sym (done .answer) ∙ ap translatedAnswer e
 
   pub written-fits : (c .instructions ≤ length (lent .words)) × (c .rungs ≤ length (lent .labels)) × (c .rungs ≤ length (lent .offsets)) × (c .rungs ≤ length (lent .lengths))
+      × (c .rungs ≤ length (lent .times))
   written-fits = written-room vars k lent (countsIn c) written-answer
 
   counted : countsIn c ≡ countsOf (translate vars (ladderOf k))
@@ -215,9 +216,10 @@ module _ (vars : ℕ) (k : Kept) (table : List ℕ) (lent : Lent) (n : ℕ) (wat
               let kept = done .same-buffers ∙ refused-same vars k (lent .buffers) (refusalOf x) refuses in
               record { answer = rw b refl; same-lent = rw b (λ i. lends (lent .ladderTable) (lent .listTable) (kept i)) }
 
-      module _ (c : CountsStruct) (e : r ≡ WrittenCase c) (ends : EndsStruct) (t′ u′ : List ℕ)
-          (ran : ScansRun vars k (take (c .instructions) (after .words)) (rowOf (take (c .rungs) (after .labels)) (take (c .rungs) (after .offsets)) (take (c .rungs) (after .lengths)))
-          c n watchdog (copied table (lent .ladderTable)) (copied table (lent .listTable)) ends t′ u′) where
+      module _ (c : CountsStruct) (e : r ≡ WrittenCase c) (ends : EndsStruct) (t′ u′ f f′ : List ℕ)
+          (ran : ScansRun vars k (take (c .instructions) (after .words))
+          (rowOf (take (c .rungs) (after .labels)) (take (c .rungs) (after .offsets)) (take (c .rungs) (after .lengths)) (take (c .rungs) (after .times)))
+          c n watchdog (copied table (lent .ladderTable)) (copied table (lent .listTable)) ends t′ u′ f f′) where
         abbrev list : InstructionList
         list = translate vars (ladderOf k)
 
@@ -253,11 +255,11 @@ module _ (vars : ℕ) (k : Kept) (table : List ℕ) (lent : Lent) (n : ℕ) (wat
         unfolding writtenWords countsOf
         words-are = rw (wrote, ap (λ d. d .instructions) counts) (words-out list (lent .buffers))
 
-        records-are : rowOf (take (c .rungs) (after .labels)) (take (c .rungs) (after .offsets)) (take (c .rungs) (after .lengths)) ≡ list .records
+        records-are : rowOf (take (c .rungs) (after .labels)) (take (c .rungs) (after .offsets)) (take (c .rungs) (after .lengths)) (take (c .rungs) (after .times)) ≡ list .records
         unfolding writtenRecords countsOf
         records-are = rw (wrote, ap (λ d. d .rungs) counts) (records-out list (lent .buffers))
 
-        list-is : ListScanDone (listEnds (scanList list w (stateOf vars table))) (ran .list) u′
+        list-is : ListScanDone (listEnds (scanList list w (stateOf vars table))) (ran .list) u′ f f′
         list-is =
             let d = rw (copied-whole table (lent .listTable) (p .list-copy), words-are, records-are, same-watchdog watchdog) at (ran .list-done) in
             rw (← (list-call vars k table n (p .ladder) (p .legal) (p .rungs) w chosen-legal)) d
@@ -266,13 +268,34 @@ module _ (vars : ℕ) (k : Kept) (table : List ℕ) (lent : Lent) (n : ℕ) (wat
         unfolding listEnds
         list-halt = list-told (ran .list) _ _ (list-is .answer)
 
-        pub both-done : BothScansDone (bothScans vars k table lent n w) (BothCase ends) (lends t′ u′ after)
+        -- the times that the list scan set stand in the buffer before what stood there
+        timed : (times : List ℕ) → times ≡ f′ ++ drop (c .rungs) (after .times)
+            → buffers (after .words) (after .labels) (after .offsets) (after .lengths) times ≡ writtenOver (scannedBuffers list (scanList list w (stateOf vars table) .counts .times)) (lent .buffers)
+        unfolding writtenOver asBuffers written listEnds countsOf
+        timed times q =
+            let set : f′ ≡ scanList list w (stateOf vars table) .counts .times = list-is .same-times in
+            let many = length-replicate {A = ℕ} (length (list .records)) 0 in
+            let rungs : c .rungs ≡ length (list .records) = ap (λ d. d .rungs) counts in
+            let fields = list-times vars k table n (p .ladder) (p .legal) (p .rungs) w chosen-legal .0 in
+            let rest = drop-at (noneEntered (length (list .records))) (drop (length (noneEntered (length (list .records)))) (lent .buffers .times)) (c .rungs) (many ∙ sym rungs) in
+            let left : drop (c .rungs) (after .times) ≡ drop (length (scanList list w (stateOf vars table) .counts .times)) (lent .buffers .times)
+            = ap (λ b. drop (c .rungs) (b .times)) wrote ∙ rest ∙ ap (λ m. drop m (lent .buffers .times)) (many ∙ sym fields) in
+            λ i. record {
+              words = wrote i .words;
+              labels = wrote i .labels;
+              offsets = wrote i .offsets;
+              lengths = wrote i .lengths;
+              times = (q ∙ (λ j. set j ++ left j)) i;
+            }
+
+        pub both-done : (times : List ℕ) → times ≡ f′ ++ drop (c .rungs) (after .times)
+            → BothScansDone (bothScans vars k table lent n w) (BothCase ends) (lends t′ u′ (buffers (after .words) (after .labels) (after .offsets) (after .lengths) times))
         unfolding bothScannedAnswer endsIn both-ends both-left ladderEnds listEnds
-        both-done =
+        both-done times q =
             let b = both-scanned vars k table lent n w passed-all in
             record {
               answer = rw (b, ran .ends, ladder-halt .0, ladder-halt .1, list-halt .0, list-halt .1, counts) refl;
-              same-lent = rw b (λ i. lends (ladder-is .same-table i) (list-is .same-table i) (wrote i));
+              same-lent = rw b (λ i. lends (ladder-is .same-table i) (list-is .same-table i) (timed times q i));
             }
 
 -- ---- the two calls' promises

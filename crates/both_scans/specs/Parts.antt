@@ -57,14 +57,14 @@ listEnd (ListEnded c) = record { ended = true; counts = c }
 listEnd (ListStopped c) = record { ended = false; counts = c }
 listEnd (ListRefused r) = record { ended = false; counts = record { instructions = 0; rungs = 0; moved = 0 } }
 
--- both scans were called, the ladder's on the table t, the list's on u, and `r` has how they ended
+-- both scans were called, the ladder's on the table t, the list's on u with the times v, and `r` has how they ended
 pub record ScansRun (vars : ℕ) (k : Kept) (code : List ℕ) (records : List RungRecord) (counts : CountsStruct) (n : ℕ) (watchdog : ListWatchdog) (t u : List ℕ)
-    (r : EndsStruct) (t′ u′ : List ℕ) : Type 0 where
+    (r : EndsStruct) (t′ u′ v v′ : List ℕ) : Type 0 where
   pub ladder : LadderScanned
   pub ladder-done : LadderScanDone (callLadderScan vars k t n) ladder t′
   pub list : ListScanned
   pub list-done : ListScanDone
-      (callListScan vars code records u (watchdogBy watchdog (haltOf (ladderEnd ladder .ended)) (ladderEnd ladder .counts .rungs) (counts .longest) n)) list u′
+      (callListScan vars code records u (watchdogBy watchdog (haltOf (ladderEnd ladder .ended)) (ladderEnd ladder .counts .rungs) (counts .longest) n)) list u′ v v′
   pub ends : r ≡ record {
     counts = counts;
     «ladder_ended» = ladderEnd ladder .ended;

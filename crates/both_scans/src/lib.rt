@@ -1,6 +1,7 @@
 // Both scans of one table: what a fault book can cite. Document 01, demand 3. Every question is put before the first store.
 ghost use mathlib.Core.Path.{_≡_};
 ghost use Prim.Native.Nat.{_≤_};
+ghost use Rattle.ladder_definitions.specs.Kept.{keptOf};
 ghost use Rattle.questions.specs.Questions.{mostRungWatchdog};
 ghost use Rattle.questions.specs.Refusals.{verdictAnswer};
 ghost use Rattle.rungs.specs.Records.{rowOf};
@@ -62,6 +63,7 @@ fn both_answer(
     labels: &[u16],
     offsets: &[u32],
     lengths: &[u32],
+    times: &[u32],
     table: &[u8],
     ladder_bytes: usize,
     list_bytes: usize,
@@ -69,10 +71,10 @@ fn both_answer(
     instruction_watchdog: u32,
 ) -> Verdict
     ensures { λ r. ⌜ verdictAnswer r ≡ bothAsked vars
-        (record { words = now (words .entry); records = rowOf (now (labels .entry)) (now (offsets .entry)) (now (lengths .entry)) })
+        (keptOf (now (words .entry)) (now (labels .entry)) (now (offsets .entry)) (now (lengths .entry)) (now (times .entry)))
         (now (table .entry)) «ladder_bytes» «list_bytes» «rung_watchdog» «instruction_watchdog» ⌝ }
 {
-    match ladder::ladder_answer(vars, words, labels, offsets, lengths) {
+    match ladder::ladder_answer(vars, words, labels, offsets, lengths, times) {
         Verdict::Refused(refusal) => {
             return Verdict::Refused(refusal);
         }
@@ -172,6 +174,7 @@ fn scan_written(
     labels: &[u16],
     offsets: &[u32],
     lengths: &[u32],
+    times: &[u32],
     table: &[u8],
     ladder_copy: &mut [u8],
     list_copy: &mut [u8],
@@ -179,17 +182,19 @@ fn scan_written(
     code_labels: &[u16],
     code_offsets: &[u32],
     code_lengths: &[u32],
+    code_times: &mut [u32],
     counts: Counts,
     rung_watchdog: u32,
     watchdog: ListWatchdog,
 ) -> BothEnds
     requires { ⌜ (counts .longest ≤ codeBound mostRungWords) × («rung_watchdog» ≤ mostRungWatchdog) ⌝ }
     ensures { λ r. ⌜ ScansRun vars
-        (record { words = now (words .entry); records = rowOf (now (labels .entry)) (now (offsets .entry)) (now (lengths .entry)) })
-        (now (code .entry)) (rowOf (now («code_labels» .entry)) (now («code_offsets» .entry)) (now («code_lengths» .entry)))
+        (keptOf (now (words .entry)) (now (labels .entry)) (now (offsets .entry)) (now (lengths .entry)) (now (times .entry)))
+        (now (code .entry)) (rowOf (now («code_labels» .entry)) (now («code_offsets» .entry)) (now («code_lengths» .entry))
+        (now («code_times» .entry)))
         counts «rung_watchdog» watchdog
         (copied (now (table .entry)) (now («ladder_copy» .entry))) (copied (now (table .entry)) (now («list_copy» .entry))) r
-        (now («ladder_copy» .exit)) (now («list_copy» .exit)) ⌝ }
+        (now («ladder_copy» .exit)) (now («list_copy» .exit)) (now («code_times» .entry)) (now («code_times» .exit)) ⌝ }
 {
     copy_table(table, ladder_copy);
     copy_table(table, list_copy);
@@ -199,6 +204,7 @@ fn scan_written(
         labels,
         offsets,
         lengths,
+        times,
         ladder_copy,
         rung_watchdog,
     ));
@@ -208,6 +214,7 @@ fn scan_written(
         code_labels,
         code_offsets,
         code_lengths,
+        code_times,
         list_copy,
         list_watchdog(watchdog, ladder, counts.longest, rung_watchdog),
     ));
@@ -229,6 +236,7 @@ fn scan_both(
     labels: &[u16],
     offsets: &[u32],
     lengths: &[u32],
+    times: &[u32],
     table: &[u8],
     ladder_table: &mut [u8],
     list_table: &mut [u8],
@@ -236,19 +244,22 @@ fn scan_both(
     code_labels: &mut [u16],
     code_offsets: &mut [u32],
     code_lengths: &mut [u32],
+    code_times: &mut [u32],
     rung_watchdog: u32,
     watchdog: ListWatchdog,
 ) -> BothScanned
     ensures { λ r. ⌜ BothScansDone (bothScans vars
-        (record { words = now (words .entry); records = rowOf (now (labels .entry)) (now (offsets .entry)) (now (lengths .entry)) })
+        (keptOf (now (words .entry)) (now (labels .entry)) (now (offsets .entry)) (now (lengths .entry)) (now (times .entry)))
         (now (table .entry))
         (lends (now («ladder_table» .entry)) (now («list_table» .entry))
-        (buffers (now (code .entry)) (now («code_labels» .entry)) (now («code_offsets» .entry)) (now («code_lengths» .entry))))
+        (buffers (now (code .entry)) (now («code_labels» .entry)) (now («code_offsets» .entry)) (now («code_lengths» .entry))
+        (now («code_times» .entry))))
         «rung_watchdog» (chosenWatchdog watchdog vars
-        (record { words = now (words .entry); records = rowOf (now (labels .entry)) (now (offsets .entry)) (now (lengths .entry)) })
+        (keptOf (now (words .entry)) (now (labels .entry)) (now (offsets .entry)) (now (lengths .entry)) (now (times .entry)))
         (now (table .entry)) «rung_watchdog»)) r
         (lends (now («ladder_table» .exit)) (now («list_table» .exit))
-        (buffers (now (code .exit)) (now («code_labels» .exit)) (now («code_offsets» .exit)) (now («code_lengths» .exit)))) ⌝ }
+        (buffers (now (code .exit)) (now («code_labels» .exit)) (now («code_offsets» .exit)) (now («code_lengths» .exit))
+        (now («code_times» .exit)))) ⌝ }
 {
     match both_answer(
         vars,
@@ -256,6 +267,7 @@ fn scan_both(
         labels,
         offsets,
         lengths,
+        times,
         table,
         ladder_table.len(),
         list_table.len(),
@@ -273,10 +285,12 @@ fn scan_both(
         labels,
         offsets,
         lengths,
+        times,
         code,
         code_labels,
         code_offsets,
         code_lengths,
+        code_times,
     ) {
         Translated::Refused(refusal) => BothScanned::Refused(refusal),
         Translated::Written(counts) => {
@@ -288,6 +302,7 @@ fn scan_both(
                 labels,
                 offsets,
                 lengths,
+                times,
                 table,
                 ladder_table,
                 list_table,
@@ -295,6 +310,7 @@ fn scan_both(
                 &code_labels[..m],
                 &code_offsets[..m],
                 &code_lengths[..m],
+                &mut code_times[..m],
                 counts,
                 rung_watchdog,
                 watchdog,
@@ -310,6 +326,7 @@ pub fn both_scans(
     labels: &[u16],
     offsets: &[u32],
     lengths: &[u32],
+    times: &[u32],
     table: &[u8],
     ladder_table: &mut [u8],
     list_table: &mut [u8],
@@ -317,25 +334,30 @@ pub fn both_scans(
     code_labels: &mut [u16],
     code_offsets: &mut [u32],
     code_lengths: &mut [u32],
+    code_times: &mut [u32],
     rung_watchdog: u32,
     instruction_watchdog: u32,
 ) -> BothScanned
     ensures { λ r. ⌜ BothScansDone (bothScans vars
-        (record { words = now (words .entry); records = rowOf (now (labels .entry)) (now (offsets .entry)) (now (lengths .entry)) })
+        (keptOf (now (words .entry)) (now (labels .entry)) (now (offsets .entry)) (now (lengths .entry)) (now (times .entry)))
         (now (table .entry))
         (lends (now («ladder_table» .entry)) (now («list_table» .entry))
-        (buffers (now (code .entry)) (now («code_labels» .entry)) (now («code_offsets» .entry)) (now («code_lengths» .entry))))
+        (buffers (now (code .entry)) (now («code_labels» .entry)) (now («code_offsets» .entry)) (now («code_lengths» .entry))
+        (now («code_times» .entry))))
         «rung_watchdog» «instruction_watchdog») r
         (lends (now («ladder_table» .exit)) (now («list_table» .exit))
-        (buffers (now (code .exit)) (now («code_labels» .exit)) (now («code_offsets» .exit)) (now («code_lengths» .exit)))) ⌝ }
+        (buffers (now (code .exit)) (now («code_labels» .exit)) (now («code_offsets» .exit)) (now («code_lengths» .exit))
+        (now («code_times» .exit)))) ⌝ }
     ensures { λ r. ⌜ BothPromise vars
-        (record { words = now (words .entry); records = rowOf (now (labels .entry)) (now (offsets .entry)) (now (lengths .entry)) })
+        (keptOf (now (words .entry)) (now (labels .entry)) (now (offsets .entry)) (now (lengths .entry)) (now (times .entry)))
         (now (table .entry))
         (lends (now («ladder_table» .entry)) (now («list_table» .entry))
-        (buffers (now (code .entry)) (now («code_labels» .entry)) (now («code_offsets» .entry)) (now («code_lengths» .entry))))
+        (buffers (now (code .entry)) (now («code_labels» .entry)) (now («code_offsets» .entry)) (now («code_lengths» .entry))
+        (now («code_times» .entry))))
         «rung_watchdog» «instruction_watchdog» (bothScannedAnswer r)
         (lends (now («ladder_table» .exit)) (now («list_table» .exit))
-        (buffers (now (code .exit)) (now («code_labels» .exit)) (now («code_offsets» .exit)) (now («code_lengths» .exit)))) ⌝ }
+        (buffers (now (code .exit)) (now («code_labels» .exit)) (now («code_offsets» .exit)) (now («code_lengths» .exit))
+        (now («code_times» .exit)))) ⌝ }
 {
     scan_both(
         vars,
@@ -343,6 +365,7 @@ pub fn both_scans(
         labels,
         offsets,
         lengths,
+        times,
         table,
         ladder_table,
         list_table,
@@ -350,6 +373,7 @@ pub fn both_scans(
         code_labels,
         code_offsets,
         code_lengths,
+        code_times,
         rung_watchdog,
         ListWatchdog::Given(instruction_watchdog),
     )
@@ -363,6 +387,7 @@ pub fn paired_scans(
     labels: &[u16],
     offsets: &[u32],
     lengths: &[u32],
+    times: &[u32],
     table: &[u8],
     ladder_table: &mut [u8],
     list_table: &mut [u8],
@@ -370,24 +395,29 @@ pub fn paired_scans(
     code_labels: &mut [u16],
     code_offsets: &mut [u32],
     code_lengths: &mut [u32],
+    code_times: &mut [u32],
     rung_watchdog: u32,
 ) -> BothScanned
     ensures { λ r. ⌜ BothScansDone (pairedScans vars
-        (record { words = now (words .entry); records = rowOf (now (labels .entry)) (now (offsets .entry)) (now (lengths .entry)) })
+        (keptOf (now (words .entry)) (now (labels .entry)) (now (offsets .entry)) (now (lengths .entry)) (now (times .entry)))
         (now (table .entry))
         (lends (now («ladder_table» .entry)) (now («list_table» .entry))
-        (buffers (now (code .entry)) (now («code_labels» .entry)) (now («code_offsets» .entry)) (now («code_lengths» .entry))))
+        (buffers (now (code .entry)) (now («code_labels» .entry)) (now («code_offsets» .entry)) (now («code_lengths» .entry))
+        (now («code_times» .entry))))
         «rung_watchdog») r
         (lends (now («ladder_table» .exit)) (now («list_table» .exit))
-        (buffers (now (code .exit)) (now («code_labels» .exit)) (now («code_offsets» .exit)) (now («code_lengths» .exit)))) ⌝ }
+        (buffers (now (code .exit)) (now («code_labels» .exit)) (now («code_offsets» .exit)) (now («code_lengths» .exit))
+        (now («code_times» .exit)))) ⌝ }
     ensures { λ r. ⌜ PairedPromise vars
-        (record { words = now (words .entry); records = rowOf (now (labels .entry)) (now (offsets .entry)) (now (lengths .entry)) })
+        (keptOf (now (words .entry)) (now (labels .entry)) (now (offsets .entry)) (now (lengths .entry)) (now (times .entry)))
         (now (table .entry))
         (lends (now («ladder_table» .entry)) (now («list_table» .entry))
-        (buffers (now (code .entry)) (now («code_labels» .entry)) (now («code_offsets» .entry)) (now («code_lengths» .entry))))
+        (buffers (now (code .entry)) (now («code_labels» .entry)) (now («code_offsets» .entry)) (now («code_lengths» .entry))
+        (now («code_times» .entry))))
         «rung_watchdog» (bothScannedAnswer r)
         (lends (now («ladder_table» .exit)) (now («list_table» .exit))
-        (buffers (now (code .exit)) (now («code_labels» .exit)) (now («code_offsets» .exit)) (now («code_lengths» .exit)))) ⌝ }
+        (buffers (now (code .exit)) (now («code_labels» .exit)) (now («code_offsets» .exit)) (now («code_lengths» .exit))
+        (now («code_times» .exit)))) ⌝ }
 {
     scan_both(
         vars,
@@ -395,6 +425,7 @@ pub fn paired_scans(
         labels,
         offsets,
         lengths,
+        times,
         table,
         ladder_table,
         list_table,
@@ -402,6 +433,7 @@ pub fn paired_scans(
         code_labels,
         code_offsets,
         code_lengths,
+        code_times,
         rung_watchdog,
         ListWatchdog::Paired,
     )

@@ -18,14 +18,14 @@ use Rattle.rungs.specs.Records.{rowOf}
 use Rattle.rungs.specs.Laws.Rows.{row-labels, row-offsets, row-lengths}
 use Rattle.rungs.specs.Laws.Layout.{lay-lengths}
 use Rattle.ladder_definitions.specs.Tree.{Ladder, labels}
-use Rattle.ladder_definitions.specs.Kept.{Kept, rungWords, encode, decode}
+use Rattle.ladder_definitions.specs.Kept.{Kept, keptOf, rungWords, encode, decode}
 use Rattle.ladder_definitions.specs.Questions.{ladderOf, holdsLadder, question4, sizesInRange, question5, rungBelow, question6, newLabels, question7, rungLeads, question8, scratchInRange, question9, ladderQuestions, ladderAnswer}
 use Rattle.ladder_definitions.specs.Laws.Accepting.{encode-decode, holds}
 use Rattle.ladder_names.specs.Asking.{LadderIn, placeOf, SizesAsked, VariablesAsked, LabelsAsked, JumpsAsked}
 use Rattle.ladder_definitions.specs.Held.{LadderHeld}
 use Rattle.ladder_scratch.specs.Measuring.{ScratchAsked}
 use Rattle.ladder_walk.specs.Scanned.{Scanned}
-use Rattle.ladder_definitions.specs.Laws.Held.{keptOf, rows, even, held}
+use Rattle.ladder_definitions.specs.Laws.Held.{three-fields, rows, even, held}
 use Rattle.ladder_definitions.specs.LadderScan.{scanQuestions, callLadderScan, LadderScanDone}
 use Rattle.ladder_walk.specs.Laws.Scans.{scan-first, scan-taken, scan-scans}
 use Rattle.ladder_names.specs.declared.Found.{Found}
@@ -34,20 +34,20 @@ use Rattle.ladder_definitions.specs.declared.LadderScanned.{LadderScanned}
 
 -- ---- what question 4 took
 
-module _ (ws ls os ns : List ℕ) (gs : Ladder) (e : decode (keptOf ws ls os ns) ≡ some gs) (h : 1 ≤ length gs) where
+module _ (ws ls os ns ts : List ℕ) (gs : Ladder) (e : decode (keptOf ws ls os ns ts) ≡ some gs) (h : 1 ≤ length gs) where
   ladder-in : LadderIn ws ns gs
   unfolding encode
   ladder-in = record {
-    words = ap (λ k. k .words) (encode-decode (keptOf ws ls os ns) gs e .0);
-    lengths = sym (row-lengths ls os ns (even ws ls os ns gs e h)) ∙ ap (λ rs. map (λ r. r .length) rs) (rows ws ls os ns gs e h) ∙ lay-lengths (λ g. g .label) (λ g. length (rungWords g)) 0 gs;
-    fits = encode-decode (keptOf ws ls os ns) gs e .1;
+    words = ap (λ k. k .words) (encode-decode (keptOf ws ls os ns ts) gs e .0);
+    lengths = sym (row-lengths ls os ns (even ws ls os ns ts gs e h)) ∙ ap (λ rs. map (λ r. r .length) rs) (rows ws ls os ns ts gs e h) ∙ lay-lengths (λ g. g .label) (λ g. length (rungWords g)) 0 gs;
+    fits = encode-decode (keptOf ws ls os ns ts) gs e .1;
   }
 
 -- ---- the questions in order
 
-module _ (vars : ℕ) (ws ls os ns : List ℕ) where
+module _ (vars : ℕ) (ws ls os ns ts : List ℕ) where
   abbrev kept : Kept
-  kept = keptOf ws ls os ns
+  kept = keptOf ws ls os ns ts
 
   abbrev gs : Ladder
   gs = ladderOf kept
@@ -90,10 +90,10 @@ module _ (vars : ℕ) (ws ls os ns : List ℕ) where
     holding = holds kept (rw (p .yes4))
 
     inside : LadderIn ws ns gs
-    inside = ladder-in ws ls os ns gs (holding .0) (holding .1)
+    inside = ladder-in ws ls os ns ts gs (holding .0) (holding .1)
 
     stands : LadderHeld ws ls os gs
-    stands = held ws ls os ns gs (holding .0) (holding .1)
+    stands = held ws ls os ns ts gs (holding .0) (holding .1)
 
     pub refused5 : (r : Bool) → SizesAsked ws ns r → r ≡ false → verdictAnswer (Refused Sizes) ≡ ladderAnswer vars kept
     unfolding verdictAnswer refusalOf ladderAnswer ladderQuestions firstNo question1 question4 question5 ask
@@ -180,11 +180,12 @@ module _ (vars : ℕ) (k : Kept) (t : List ℕ) (w : ℕ) where
     unfolding verdictAnswer firstNo question11 question12 ask
     scan-accepted e f = rw (scan-first vars k t w, ok, e, f)
 
--- the scan of three number slices that the questions took, as the scan of their row
-pub scan-done : (vars : ℕ) (ws ls os ns t : List ℕ) (w : ℕ) (r : LadderScanned) (u : List ℕ) → scanQuestions vars (record { words = ws; records = rowOf ls os ns }) t w ≡ none
-    → Scanned vars ws ls os t w r u → LadderScanDone (callLadderScan vars (record { words = ws; records = rowOf ls os ns }) t w) r u
-scan-done vars ws ls os ns t w r u ok scanned =
-    let k = keptOf ws ls os ns in
+-- the scan of four number slices that the questions took, as the scan of their row
+pub scan-done : (vars : ℕ) (ws ls os ns ts t : List ℕ) (w : ℕ) (r : LadderScanned) (u : List ℕ) → scanQuestions vars (record { words = ws; records = rowOf ls os ns ts }) t w ≡ none
+    → Scanned vars ws ls os t w r u → LadderScanDone (callLadderScan vars (record { words = ws; records = rowOf ls os ns ts }) t w) r u
+scan-done vars ws ls os ns ts t w r u ok scanned =
+    let k = keptOf ws ls os ns ts in
     let a = scan-taken vars k t w ok in
-    let e = even ws ls os ns (ladderOf k) (a .0) (a .1 .some-rung) in
-    scan-scans vars k t w ok r u (rw (row-labels ls os ns e, row-offsets ls os ns e) scanned)
+    let e = even ws ls os ns ts (ladderOf k) (a .0) (a .1 .some-rung) in
+    let fields = three-fields ws ls os ns ts (ladderOf k) (a .0) (a .1 .some-rung) in
+    scan-scans vars k t w ok r u (rw (fields, row-labels ls os ns e, row-offsets ls os ns e) scanned)

@@ -1,8 +1,7 @@
 // The calls of the ladder side: questions 1 and 4 to 9, and Ladder scan. Document 01, "The kept ladder", "What a ladder does".
 ghost use mathlib.Core.Path.{_≡_};
 ghost use Rattle.questions.specs.Refusals.{verdictAnswer};
-ghost use Rattle.rungs.specs.Records.{rowOf};
-ghost use Rattle.ladder_definitions.specs.Kept.{Kept};
+ghost use Rattle.ladder_definitions.specs.Kept.{keptOf};
 ghost use Rattle.ladder_definitions.specs.Questions.{ladderAnswer};
 ghost use Rattle.ladder_definitions.specs.LadderScan.{scanQuestions, callLadderScan, LadderScanDone};
 pub use ladder_definitions::Counts;
@@ -19,14 +18,15 @@ pub fn ladder_answer(
     labels: &[u16],
     offsets: &[u32],
     lengths: &[u32],
+    times: &[u32],
 ) -> Verdict
     ensures { λ r. ⌜ verdictAnswer r ≡ ladderAnswer vars
-        (record { words = now (words .entry); records = rowOf (now (labels .entry)) (now (offsets .entry)) (now (lengths .entry)) }) ⌝ }
+        (keptOf (now (words .entry)) (now (labels .entry)) (now (offsets .entry)) (now (lengths .entry)) (now (times .entry))) ⌝ }
 {
     if !questions::vars_in_range(vars) {
         return Verdict::Refused(Refusal::Variables);
     }
-    if !ladder_kept::holds_ladder(words, labels, offsets, lengths) {
+    if !ladder_kept::holds_ladder(words, labels, offsets, lengths, times) {
         return Verdict::Refused(Refusal::Kept);
     }
     if !ladder_names::sizes_in_range(words, lengths) {
@@ -54,14 +54,15 @@ pub fn scan_questions(
     labels: &[u16],
     offsets: &[u32],
     lengths: &[u32],
+    times: &[u32],
     table: &[u8],
     watchdog: u32,
 ) -> Verdict
     ensures { λ r. ⌜ verdictAnswer r ≡ scanQuestions vars
-        (record { words = now (words .entry); records = rowOf (now (labels .entry)) (now (offsets .entry)) (now (lengths .entry)) })
+        (keptOf (now (words .entry)) (now (labels .entry)) (now (offsets .entry)) (now (lengths .entry)) (now (times .entry)))
         (now (table .entry)) watchdog ⌝ }
 {
-    match ladder_answer(vars, words, labels, offsets, lengths) {
+    match ladder_answer(vars, words, labels, offsets, lengths, times) {
         Verdict::Refused(refusal) => {
             return Verdict::Refused(refusal);
         }
@@ -83,14 +84,24 @@ pub fn ladder_scan(
     labels: &[u16],
     offsets: &[u32],
     lengths: &[u32],
+    times: &[u32],
     table: &mut [u8],
     watchdog: u32,
 ) -> LadderScanned
     ensures { λ r. ⌜ LadderScanDone (callLadderScan vars
-        (record { words = now (words .entry); records = rowOf (now (labels .entry)) (now (offsets .entry)) (now (lengths .entry)) })
+        (keptOf (now (words .entry)) (now (labels .entry)) (now (offsets .entry)) (now (lengths .entry)) (now (times .entry)))
         (now (table .entry)) watchdog) r (now (table .exit)) ⌝ }
 {
-    match scan_questions(vars, words, labels, offsets, lengths, table, watchdog) {
+    match scan_questions(
+        vars,
+        words,
+        labels,
+        offsets,
+        lengths,
+        times,
+        table,
+        watchdog,
+    ) {
         Verdict::Refused(refusal) => LadderScanned::Refused(refusal),
         Verdict::Accepted => ladder_walk::scan::run(vars, words, labels, offsets, table, watchdog),
     }

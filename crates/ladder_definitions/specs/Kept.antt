@@ -7,12 +7,16 @@ use mathlib.Core.List.{List, [], _∷_, _++_, flatMap}
 use lib.Dec.{eqb, leb}
 use lib.ListN.{length, take, drop, getD}
 use Rattle.rungs.specs.Words.{word, numberOf, operandOf, isOperand}
-use Rattle.rungs.specs.Records.{RungRecord, lay}
+use Rattle.rungs.specs.Records.{RungRecord, lay, rowOf}
 use Rattle.ladder_definitions.specs.Tree.{Input, contact, contactn, Front, input, frontAnd, frontOr, Output, coil, coiln, jump, jumpn, setCoil, resetCoil, Rear, output, rearAnd, rearOr, Rung, Ladder, Named, aVariable, aLabel, inputVariable, outputNames, number}
 
 pub record Kept : Type 0 where
   pub words : List ℕ
   pub records : List RungRecord
+
+-- the kept ladder in words and four number slices; of the times any value is taken
+abbrev pub keptOf : List ℕ → List ℕ → List ℕ → List ℕ → List ℕ → Kept
+keptOf words labels offsets lengths times = record { words = words; records = rowOf labels offsets lengths times }
 
 -- "Kinds: 1 contact, 2 negated contact, 3 front-and, 4 front-or, 5 coil, 6 negated coil, 7 jump, 8 negated jump, 9 rear-and, 10 rear-or.
 -- Operand: a variable for 1, 2, 5, 6; a label for 7, 8; 0 otherwise." 02, Req 01: "outputs s and r, kinds 11 and 12"; their operand is a variable.

@@ -7,4 +7,5 @@ pub mod Held
 pub mod Trees
 pub mod Calls
 pub mod Writes
+pub mod Entries
 pub mod Answers

@@ -24,6 +24,7 @@ use Rattle.rungs.specs.declared.Search.the-variants.{Found}
 use Rattle.ladder_definitions.specs.Tree.{Input, contact, contactn, Output, coil, coiln, jump, jumpn, setCoil, resetCoil, Rung, Ladder, labels, rungAll, outputNames}
 use Rattle.ladder_definitions.specs.Meaning.{jumped, from, follow, LadderResult, scanLadder}
 use Rattle.ladder_definitions.specs.Writes.{ladderWrites, mostRungWrites}
+use Rattle.ladder_definitions.specs.Entries.{rungsEntered}
 use Rattle.ladder_definitions.specs.Standing.{Stands}
 use Rattle.ladder_definitions.specs.Kept.{Kept, encode, decode, inputFits, outputFits, inputKind, outputKind, contactSort, outputSort, kindSorts, kindSort, variableName, nameSorts, nameSort, namedSort}
 use Rattle.ladder_definitions.specs.Questions.{question5, question6, rungBelow, ladderOf, ladderAnswer, Accepted}
@@ -34,6 +35,7 @@ use Rattle.ladder_definitions.specs.Laws.Calls.{call-alike, call-stays}
 use Rattle.ladder_definitions.specs.Laws.Answers.{asked, writes-tell, sum-few, rungs-few}
 use Rattle.ladder_definitions.specs.Laws.Accepting.{decode-encode, encode-decode, ladder-is, sized, accepted, accepting}
 use Rattle.ladder_definitions.specs.Laws.Writes.{ladder-makes, ladder-few}
+use Rattle.ladder_definitions.specs.Laws.Entries.{entries-many}
 
 -- words and records are those of a ladder, whose operands all have 16 bits
 pub record IsKept (k : Kept) (gs : Ladder) : Type 0 where
@@ -94,6 +96,10 @@ ended-exactly gs watchdog s k t = (ended-stands gs s watchdog k t, (λ h. stands
 -- A scan, Ended or Stopped, leaves the table with its writes made, first to last.
 pub ladder-replayed : (gs : Ladder) (watchdog : ℕ) (s : State) → scanLadder gs watchdog s .state .bytes ≡ replay (ladderWrites gs watchdog s) (s .bytes)
 ladder-replayed gs watchdog s = ap (λ t. t .bytes) (ladder-makes gs watchdog s) ∙ makes-bytes (ladderWrites gs watchdog s) s
+
+-- 02, Req 04: the entries of a scan, Ended or Stopped, are as many as the rungs entered.
+pub entries-counted : (gs : Ladder) (watchdog : ℕ) (s : State) → length (rungsEntered gs watchdog s) ≡ scanLadder gs watchdog s .rungs
+entries-counted gs watchdog s = entries-many gs watchdog s
 
 -- Where question 5 gets a "yes" it makes at most 64 writes for each rung entered.
 pub few-writes : (gs : Ladder) (watchdog : ℕ) (s : State) → question5 gs ≡ yes → length (ladderWrites gs watchdog s) ≤ mostRungWrites * scanLadder gs watchdog s .rungs

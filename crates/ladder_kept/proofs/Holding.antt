@@ -10,8 +10,8 @@ use lib.ListN.{length, drop, getD}
 use lib.Seq.{slice, slice-empty, slice-cons}
 use borrow.Author.Tests.{eq-eqb, ne-eqb, le-leb, lt-leb}
 use Rattle.rungs.specs.Words.{numberOf, operandOf}
-use Rattle.rungs.specs.Records.{RungRecord, rowOf}
-use Rattle.rungs.specs.Laws.Rows.{Even, row-length, row-at, row-uneven-first, row-uneven-second}
+use Rattle.rungs.specs.Records.{RungRecord, fieldsOf, rowOf}
+use Rattle.rungs.specs.Laws.Rows.{Even, row-length, row-at, row-uneven-first, row-uneven-second, row-fields, row-uneven}
 use Rattle.ladder_definitions.specs.Kept.{KindSort, contactSort, joinedSort, outputSort, rearAndSort, rearOrSort, noSort, kindSort, decodeFrom, decode}
 use Rattle.ladder_definitions.specs.Questions.{ladderOf, holdsLadder}
 use Rattle.ladder_kept.specs.Pending.{misplaced, pending, takeFront, splitFront, takeRear, frontRear, splitRear, pendingAfter, completes, pendingIn, WordTaken, holdsFrom}
@@ -165,7 +165,7 @@ module _ (ws : List ℕ) (from to f r i : ℕ) (inv : Counting ws from to f r i)
 -- ---- records, one after the other
 
 abbrev asked : (ws ls os ns : List ℕ) → Bool
-asked ws ls os ns = holdsLadder (record { words = ws; records = rowOf ls os ns })
+asked ws ls os ns = holdsLadder (record { words = ws; records = fieldsOf ls os ns })
 
 no-rungs : (ws : List ℕ) (rs : List RungRecord) → rs ≡ [] → false ≡ holdsLadder (record { words = ws; records = rs })
 unfolding holdsLadder ladderOf decode decodeFrom
@@ -176,10 +176,17 @@ no-rungs ws rs e = rw e (none-held ws)
     none-held (w ∷ ws) = refl
 
 pub uneven-first : (ws ls os ns : List ℕ) → (length ls ≡ length os → ⊥) → false ≡ asked ws ls os ns
-uneven-first ws ls os ns h = no-rungs ws (rowOf ls os ns) (row-uneven-first ls os ns h)
+uneven-first ws ls os ns h = no-rungs ws (fieldsOf ls os ns) (row-uneven-first ls os ns h)
 
 pub uneven-second : (ws ls os ns : List ℕ) → (length os ≡ length ns → ⊥) → false ≡ asked ws ls os ns
-uneven-second ws ls os ns h = no-rungs ws (rowOf ls os ns) (row-uneven-second ls os ns h)
+uneven-second ws ls os ns h = no-rungs ws (fieldsOf ls os ns) (row-uneven-second ls os ns h)
+
+-- and with the times
+pub uneven-times : (ws ls os ns ts : List ℕ) → (length ls ≡ length ts → ⊥) → false ≡ holdsLadder (record { words = ws; records = rowOf ls os ns ts })
+uneven-times ws ls os ns ts h = no-rungs ws (rowOf ls os ns ts) (row-uneven ls os ns ts h)
+
+pub with-times : (ws ls os ns ts : List ℕ) (r : Bool) → length ls ≡ length ts → r ≡ asked ws ls os ns → r ≡ holdsLadder (record { words = ws; records = rowOf ls os ns ts })
+with-times ws ls os ns ts r e q = rw (row-fields ls os ns ts e) q
 
 -- the loop's invariant: the records from i on and the words from `start` on hold rungs just when all do
 pub record Walking (ws : List ℕ) (rs : List RungRecord) (start i : ℕ) : Type 0 where
@@ -188,7 +195,7 @@ pub record Walking (ws : List ℕ) (rs : List RungRecord) (start i : ℕ) : Type
 
 module _ (ws ls os ns : List ℕ) (p : length ls ≡ length os) (q : length os ≡ length ns) where
   abbrev row : List RungRecord
-  row = rowOf ls os ns
+  row = fieldsOf ls os ns
 
   abbrev even : Even ls os ns
   even = record { first = p; second = q }

@@ -4,8 +4,8 @@ ghost use mathlib.Core.Path.{_≡_};
 ghost use Prim.Native.Nat.{_+_, _≤_, _<_, _/_, _%_, _^_};
 ghost use lib.ListN.{length};
 ghost use lib.Seq.{slice};
+ghost use Rattle.ladder_definitions.specs.Kept.{keptOf};
 ghost use Rattle.rungs.specs.Words.{operands};
-ghost use Rattle.rungs.specs.Records.{rowOf};
 ghost use Rattle.ladder_definitions.specs.Questions.{holdsLadder};
 ghost use Rattle.ladder_kept.specs.Pending.{completes, WordTaken};
 use ladder_kinds::KindSort;
@@ -130,11 +130,20 @@ pub fn holds_rung(words: &[u32], from: usize, to: usize) -> bool
     pending.rears == 0
 }
 
-// Question 4. No sum wraps: a record's length is compared with what is left of the words.
-pub fn holds_ladder(words: &[u32], labels: &[u16], offsets: &[u32], lengths: &[u32]) -> bool
+// Question 4. No sum wraps: a record's length is compared with what is left of the words. Of the times entered any value is taken.
+pub fn holds_ladder(
+    words: &[u32],
+    labels: &[u16],
+    offsets: &[u32],
+    lengths: &[u32],
+    times: &[u32],
+) -> bool
     ensures { λ r. ⌜ r ≡ holdsLadder
-        (record { words = now (words .entry); records = rowOf (now (labels .entry)) (now (offsets .entry)) (now (lengths .entry)) }) ⌝ }
+        (keptOf (now (words .entry)) (now (labels .entry)) (now (offsets .entry)) (now (lengths .entry)) (now (times .entry))) ⌝ }
 {
+    if labels.len() != times.len() {
+        return false;
+    }
     if labels.len() != offsets.len() {
         return false;
     }

@@ -6,13 +6,14 @@ use mathlib.Core.Path.{_≡_, refl, sym, ap, _∙_}
 use mathlib.Core.Bool.{Bool}
 use mathlib.Core.List.{List}
 use lib.ListN.{length, take}
-use Rattle.questions.specs.Questions.{firstNo}
+use Rattle.questions.specs.Questions.{Answer, firstNo}
 use Rattle.questions.specs.Refusals.{verdictAnswer}
 use Rattle.questions.specs.Laws.Answers.{verdict-refused, verdict-accepted}
 use Rattle.questions.specs.declared.Refusal.{Refusal}
 use Rattle.questions.specs.declared.Verdict.{Verdict}
 use Rattle.questions.specs.declared.Verdict.the-variants.{Accepted, Refused}
-use Rattle.rungs.specs.Records.{RungRecord, rowOf, mostRecords}
+use Rattle.rungs.specs.Records.{RungRecord, rowOf, fieldsOf, mostRecords}
+use Rattle.rungs.specs.Laws.Rows.{row-fields}
 use Rattle.rows.specs.Parts.{gathered}
 use Rattle.rows.specs.Laws.Gathered.{gathered-whole}
 use Rattle.rows.specs.declared.Rows.{Rows}
@@ -33,18 +34,22 @@ module _ (vars : ℕ) (ws : List ℕ) (rows : Rows) (long : Bool) (t : List ℕ)
         rw (scan-first vars (record { words = ws; records = rs }) t w, z);
   }
 
-  pub asked-short : rows .n ≤ mostRecords → (v : Verdict)
-      → verdictAnswer v ≡ scanQuestions vars (record { words = ws; records = rowOf (take (rows .n) (rows .labels)) (take (rows .n) (rows .offsets)) (take (rows .n) (rows .lengths)) }) t w
+  -- whatever the times are
+  pub asked-short : rows .n ≤ mostRecords → (v : Verdict) (ts : List ℕ) → length (take (rows .n) (rows .labels)) ≡ length ts
+      → verdictAnswer v ≡ scanQuestions vars (record { words = ws; records = rowOf (take (rows .n) (rows .labels)) (take (rows .n) (rows .offsets)) (take (rows .n) (rows .lengths)) ts }) t w
       → RowAsked vars ws rows long t w v
   unfolding gathered
-  asked-short h v a = record { same = λ rs e l. a ∙ ap (λ r. scanQuestions vars (record { words = ws; records = r }) t w) (whole rs e) }
+  asked-short h v ts many a = record { same = λ rs e l. a ∙ ap asks (row-fields _ _ _ ts many) ∙ ap asks (whole rs e) }
     where
-      whole : (rs : List RungRecord) → rows ≡ gathered rs → rowOf (take (rows .n) (rows .labels)) (take (rows .n) (rows .offsets)) (take (rows .n) (rows .lengths)) ≡ rs
+      asks : List RungRecord → Answer
+      asks rs = scanQuestions vars (record { words = ws; records = rs }) t w
+
+      whole : (rs : List RungRecord) → rows ≡ gathered rs → fieldsOf (take (rows .n) (rows .labels)) (take (rows .n) (rows .offsets)) (take (rows .n) (rows .lengths)) ≡ rs
       whole rs e =
           let n : rows .n ≡ length rs = ap (λ r. r .n) e in
           let k : rows .n ≡ rows .kept = n ∙ sym (min-eq-right (omega arith)) ∙ sym (ap (λ r. r .kept) e) in
-          ap (λ k. rowOf (take k (rows .labels)) (take k (rows .offsets)) (take k (rows .lengths))) k
-          ∙ ap (λ r. rowOf (take (r .kept) (r .labels)) (take (r .kept) (r .offsets)) (take (r .kept) (r .lengths))) e
+          ap (λ k. fieldsOf (take k (rows .labels)) (take k (rows .offsets)) (take k (rows .lengths))) k
+          ∙ ap (λ r. fieldsOf (take (r .kept) (r .labels)) (take (r .kept) (r .offsets)) (take (r .kept) (r .lengths))) e
           ∙ gathered-whole rs (omega arith)
 
   -- ---- the answer

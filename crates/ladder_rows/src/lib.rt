@@ -135,6 +135,8 @@ fn ask(vars: u32, words: &[u32], rows: Rows, long: bool, table: &mut [u8], watch
     let labels = rows.labels;
     let offsets = rows.offsets;
     let lengths = rows.lengths;
+    // 02, Req 04: "Any value is taken".
+    let times = [0u32; rungs::MOST_RECORDS];
     let m = rows.n;
     ladder::scan_questions(
         vars,
@@ -142,6 +144,7 @@ fn ask(vars: u32, words: &[u32], rows: Rows, long: bool, table: &mut [u8], watch
         &labels[..m],
         &offsets[..m],
         &lengths[..m],
+        &times[..m],
         table,
         watchdog,
     )

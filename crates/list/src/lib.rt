@@ -11,19 +11,23 @@ pub use list_definitions::Listed;
 use questions::Refusal;
 use questions::Verdict;
 
-// Questions 1 and 10, in order.
+// Questions 1 and 10, in order. Slices of unequal lengths are no row; of the times entered "any value is taken" (02, Req 04).
 pub fn list_answer(
     vars: u32,
     code: &[u32],
     labels: &[u16],
     offsets: &[u32],
     lengths: &[u32],
+    times: &[u32],
 ) -> Verdict
     ensures { λ r. ⌜ verdictAnswer r ≡ listAnswer vars (now (code .entry))
-        (rowOf (now (labels .entry)) (now (offsets .entry)) (now (lengths .entry))) ⌝ }
+        (rowOf (now (labels .entry)) (now (offsets .entry)) (now (lengths .entry)) (now (times .entry))) ⌝ }
 {
     if !questions::vars_in_range(vars) {
         return Verdict::Refused(Refusal::Variables);
+    }
+    if labels.len() != times.len() {
+        return Verdict::Refused(Refusal::List);
     }
     if !list_questions::list_in_range(vars, code, labels, offsets, lengths) {
         return Verdict::Refused(Refusal::List);
@@ -38,14 +42,15 @@ pub fn scan_questions(
     labels: &[u16],
     offsets: &[u32],
     lengths: &[u32],
+    times: &[u32],
     table: &[u8],
     watchdog: u32,
 ) -> Verdict
     ensures { λ r. ⌜ verdictAnswer r ≡ scanQuestions vars (now (code .entry))
-        (rowOf (now (labels .entry)) (now (offsets .entry)) (now (lengths .entry)))
+        (rowOf (now (labels .entry)) (now (offsets .entry)) (now (lengths .entry)) (now (times .entry)))
         (now (table .entry)) watchdog ⌝ }
 {
-    match list_answer(vars, code, labels, offsets, lengths) {
+    match list_answer(vars, code, labels, offsets, lengths, times) {
         Verdict::Refused(refusal) => {
             return Verdict::Refused(refusal);
         }
@@ -60,23 +65,24 @@ pub fn scan_questions(
     Verdict::Accepted
 }
 
-// List scan.
+// List scan. It sets the times entered, and a refusal "touches none" (02, Req 04).
 pub fn list_scan(
     vars: u32,
     code: &[u32],
     labels: &[u16],
     offsets: &[u32],
     lengths: &[u32],
+    times: &mut [u32],
     table: &mut [u8],
     watchdog: u32,
 ) -> ListScanned
     ensures { λ r. ⌜ ListScanDone (callListScan vars (now (code .entry))
-        (rowOf (now (labels .entry)) (now (offsets .entry)) (now (lengths .entry)))
-        (now (table .entry)) watchdog) r (now (table .exit)) ⌝ }
+        (rowOf (now (labels .entry)) (now (offsets .entry)) (now (lengths .entry)) (now (times .entry)))
+        (now (table .entry)) watchdog) r (now (table .exit)) (now (times .entry)) (now (times .exit)) ⌝ }
 {
-    match scan_questions(vars, code, labels, offsets, lengths, table, watchdog) {
+    match scan_questions(vars, code, labels, offsets, lengths, times, table, watchdog) {
         Verdict::Refused(refusal) => ListScanned::Refused(refusal),
-        Verdict::Accepted => list_machine::run(vars, code, offsets, table, watchdog),
+        Verdict::Accepted => list_machine::run(vars, code, offsets, times, table, watchdog),
     }
 }
 
@@ -87,13 +93,14 @@ pub fn listing(
     labels: &[u16],
     offsets: &[u32],
     lengths: &[u32],
+    times: &[u32],
     out: &mut [u8],
 ) -> Listed
     ensures { λ r. ⌜ ListingDone (listing fixedNames vars (now (code .entry))
-        (rowOf (now (labels .entry)) (now (offsets .entry)) (now (lengths .entry)))
+        (rowOf (now (labels .entry)) (now (offsets .entry)) (now (lengths .entry)) (now (times .entry)))
         (now (out .entry))) r (now (out .exit)) ⌝ }
 {
-    match list_answer(vars, code, labels, offsets, lengths) {
+    match list_answer(vars, code, labels, offsets, lengths, times) {
         Verdict::Refused(refusal) => {
             return Listed::Refused(refusal);
         }

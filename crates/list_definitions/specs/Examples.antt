@@ -1,7 +1,7 @@
 -- Worked lists: case A of document 01, and a list for each rule of "What a list does" that it leaves untried; and worked question 10. Assumes nothing.
 use mathlib.Core.Path.{_≡_, refl}
 use mathlib.Core.Option.{some}
-use mathlib.Core.List.{List, [], _∷_, _++_, map, flatMap}
+use mathlib.Core.List.{List, [], _∷_, _++_, map, flatMap, zipWith}
 use mathlib.Core.Bool.{true, false, xor}
 use Prim.Native.Nat.{ℕ}
 use lib.ListN.{replicate, length, take}
@@ -11,14 +11,14 @@ use Rattle.questions.specs.Questions.{Answer, yes, ask, varsInRange, question1,
 use Rattle.table.specs.State.{State, stateOf, scratchBytes, variables, valueAt, value, writtenAt, turns, write, writeIf}
 use Rattle.table.specs.Halt.{Halt, Ended, Stopped}
 use Rattle.table.specs.Writes.{Write, wrote, wroteIf, made, replay, changesByte, changesVariable, changes}
-use Rattle.rungs.specs.Records.{RungRecord, isStart, laid}
+use Rattle.rungs.specs.Records.{RungRecord, isStart, laid, enter}
 use Rattle.list_definitions.specs.Instruction.{Instr, LD, LDN, ST, STN, AND, ANDN, OR, ORN, XOR, XORN, NOT, JMP, JMPC, JMPCN, S, R, operand, opOf, operandNumber, instrWord, decodeInstr, ops, onlyNot}
 use Rattle.list_definitions.specs.Machine.{InstructionList, does, count, step, fresh, begin, halted, scanMachine, scanList}
 use Rattle.list_definitions.specs.Writes.{instrWrites, writesFrom, listWrites}
 use Rattle.list_definitions.specs.Listing.{fixedNames, trimmed, nameOf, operandText, instrLine, labelLine, rungLines, listingLines, ended, listingText}
 use Rattle.list_definitions.specs.Questions.{operandInRange, wordInRange, recordsLaid, listInRange, question10, listAnswer}
 
--- a list, its variables before, the instruction watchdog; how the scan halts, its counts and the variables after
+-- a list, its variables before, the instruction watchdog; how the scan halts, its counts, the times entered and the variables after
 record Row : Type 0 where
   list : InstructionList
   before : List ℕ
@@ -26,6 +26,7 @@ record Row : Type 0 where
   halt : Halt
   instructions : ℕ
   rungs : ℕ
+  times : List ℕ
   moved : ℕ
   after : List ℕ
 
@@ -44,10 +45,10 @@ listA = record {
 rows : List Row
 rows =
     -- case A, under a watchdog of just its 12 instructions, and of one less
-    record { list = listA; before = 1 ∷ 0 ∷ 0 ∷ 0 ∷ 0 ∷ []; watchdog = 12; halt = Ended; instructions = 12; rungs = 2; moved = 2; after = 1 ∷ 1 ∷ 0 ∷ 0 ∷ 1 ∷ [] }
-    ∷ record { list = listA; before = 1 ∷ 0 ∷ 0 ∷ 0 ∷ 0 ∷ []; watchdog = 11; halt = Stopped; instructions = 11; rungs = 2; moved = 1; after = 1 ∷ 1 ∷ 0 ∷ 0 ∷ 0 ∷ [] }
+    record { list = listA; before = 1 ∷ 0 ∷ 0 ∷ 0 ∷ 0 ∷ []; watchdog = 12; halt = Ended; instructions = 12; rungs = 2; times = 1 ∷ 1 ∷ []; moved = 2; after = 1 ∷ 1 ∷ 0 ∷ 0 ∷ 1 ∷ [] }
+    ∷ record { list = listA; before = 1 ∷ 0 ∷ 0 ∷ 0 ∷ 0 ∷ []; watchdog = 11; halt = Stopped; instructions = 11; rungs = 2; times = 1 ∷ 1 ∷ []; moved = 1; after = 1 ∷ 1 ∷ 0 ∷ 0 ∷ 0 ∷ [] }
     -- the accumulator starts false, and stores keep it
-    ∷ record { list = one (STN 0 ∷ ST 1 ∷ []); before = 0 ∷ 1 ∷ []; watchdog = 9; halt = Ended; instructions = 2; rungs = 1; moved = 2; after = 1 ∷ 0 ∷ [] }
+    ∷ record { list = one (STN 0 ∷ ST 1 ∷ []); before = 0 ∷ 1 ∷ []; watchdog = 9; halt = Ended; instructions = 2; rungs = 1; times = 1 ∷ []; moved = 2; after = 1 ∷ 0 ∷ [] }
     -- ORN, XOR, XORN, NOT, ANDN
     ∷ record {
       list = one (ORN 0 ∷ ST 1 ∷ XOR 2 ∷ ST 3 ∷ XORN 2 ∷ ST 4 ∷ NOT ∷ ST 5 ∷ ANDN 5 ∷ ST 6 ∷ []);
@@ -56,6 +57,7 @@ rows =
       halt = Ended;
       instructions = 10;
       rungs = 1;
+      times = 1 ∷ [];
       moved = 5;
       after = 0 ∷ 1 ∷ 1 ∷ 0 ∷ 0 ∷ 1 ∷ 0 ∷ [];
     }
@@ -67,11 +69,12 @@ rows =
       halt = Ended;
       instructions = 4;
       rungs = 2;
+      times = 1 ∷ 1 ∷ 0 ∷ [];
       moved = 1;
       after = 1 ∷ [];
     }
     -- a loop, stopped
-    ∷ record { list = record { code = LDN 0 ∷ JMPC 0 ∷ []; records = at 0 0 2 ∷ [] }; before = 0 ∷ []; watchdog = 7; halt = Stopped; instructions = 7; rungs = 4; moved = 0; after = 0 ∷ [] }
+    ∷ record { list = record { code = LDN 0 ∷ JMPC 0 ∷ []; records = at 0 0 2 ∷ [] }; before = 0 ∷ []; watchdog = 7; halt = Stopped; instructions = 7; rungs = 4; times = 4 ∷ []; moved = 0; after = 0 ∷ [] }
     -- 02, Req 01: S and R with the accumulator true and then false, which they keep
     ∷ record {
       list = one (LD 0 ∷ S 1 ∷ R 2 ∷ ST 3 ∷ NOT ∷ S 4 ∷ R 5 ∷ STN 6 ∷ []);
@@ -80,28 +83,30 @@ rows =
       halt = Ended;
       instructions = 8;
       rungs = 1;
+      times = 1 ∷ [];
       moved = 4;
       after = 1 ∷ 1 ∷ 0 ∷ 1 ∷ 0 ∷ 1 ∷ 1 ∷ [];
     }
     -- S without power over a variable that is true
-    ∷ record { list = one (LD 0 ∷ S 1 ∷ []); before = 0 ∷ 1 ∷ []; watchdog = 9; halt = Ended; instructions = 2; rungs = 1; moved = 0; after = 0 ∷ 1 ∷ [] }
+    ∷ record { list = one (LD 0 ∷ S 1 ∷ []); before = 0 ∷ 1 ∷ []; watchdog = 9; halt = Ended; instructions = 2; rungs = 1; times = 1 ∷ []; moved = 0; after = 0 ∷ 1 ∷ [] }
     -- of scratch too: t0 set, read, reset and read
-    ∷ record { list = one (LDN 0 ∷ S 3 ∷ LD 3 ∷ ST 1 ∷ R 3 ∷ LD 3 ∷ STN 2 ∷ []); before = 0 ∷ 0 ∷ 0 ∷ []; watchdog = 9; halt = Ended; instructions = 7; rungs = 1; moved = 2; after = 0 ∷ 1 ∷ 1 ∷ [] }
+    ∷ record { list = one (LDN 0 ∷ S 3 ∷ LD 3 ∷ ST 1 ∷ R 3 ∷ LD 3 ∷ STN 2 ∷ []); before = 0 ∷ 0 ∷ 0 ∷ []; watchdog = 9; halt = Ended; instructions = 7; rungs = 1; times = 1 ∷ []; moved = 2; after = 0 ∷ 1 ∷ 1 ∷ [] }
     -- 02, Req 02: v1 is turned over twice and ends as it began; the same value written again, and scratch t0, do not count
-    ∷ record { list = one (LDN 0 ∷ ST 1 ∷ ST 1 ∷ ST 2 ∷ STN 1 ∷ []); before = 0 ∷ 0 ∷ []; watchdog = 9; halt = Ended; instructions = 5; rungs = 1; moved = 2; after = 0 ∷ 0 ∷ [] }
+    ∷ record { list = one (LDN 0 ∷ ST 1 ∷ ST 1 ∷ ST 2 ∷ STN 1 ∷ []); before = 0 ∷ 0 ∷ []; watchdog = 9; halt = Ended; instructions = 5; rungs = 1; times = 1 ∷ []; moved = 2; after = 0 ∷ 0 ∷ [] }
     -- Stopped too, after one of the two; S writes the 1 that stands there
-    ∷ record { list = one (LDN 0 ∷ ST 1 ∷ S 1 ∷ STN 1 ∷ []); before = 0 ∷ 0 ∷ []; watchdog = 3; halt = Stopped; instructions = 3; rungs = 1; moved = 1; after = 0 ∷ 1 ∷ [] }
+    ∷ record { list = one (LDN 0 ∷ ST 1 ∷ S 1 ∷ STN 1 ∷ []); before = 0 ∷ 0 ∷ []; watchdog = 3; halt = Stopped; instructions = 3; rungs = 1; times = 1 ∷ []; moved = 1; after = 0 ∷ 1 ∷ [] }
     ∷ []
 
 record Outcome : Type 0 where
   halt : Halt
   instructions : ℕ
   rungs : ℕ
+  times : List ℕ
   moved : ℕ
   variables : List ℕ
 
 expected : Row → Outcome
-expected r = record { halt = r .halt; instructions = r .instructions; rungs = r .rungs; moved = r .moved; variables = r .after }
+expected r = record { halt = r .halt; instructions = r .instructions; rungs = r .rungs; times = r .times; moved = r .moved; variables = r .after }
 
 -- scratch is 0
 start : Row → State
@@ -110,10 +115,10 @@ start r = stateOf (length (r .before)) (r .before ++ replicate scratchBytes 0)
 outcome : Row → Outcome
 outcome r =
     let x = scanList (r .list) (r .watchdog) (start r) in
-    record { halt = x .halt; instructions = x .counts .instructions; rungs = x .counts .rungs; moved = x .state .moved; variables = variables (x .state) }
+    record { halt = x .halt; instructions = x .counts .instructions; rungs = x .counts .rungs; times = x .counts .times; moved = x .state .moved; variables = variables (x .state) }
 
 lists-scanned : map outcome rows ≡ map expected rows
-unfolding rows start outcome expected scanList scanMachine begin fresh step count does halted isStart valueAt value writtenAt turns write writeIf variables xor
+unfolding rows start outcome expected scanList scanMachine begin fresh step count enter zipWith does halted isStart valueAt value writtenAt turns write writeIf variables xor
 lists-scanned = refl
 
 -- a list's writes in the order in which they are made

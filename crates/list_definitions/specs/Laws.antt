@@ -5,4 +5,5 @@ pub mod Refusing
 pub mod Watchdog
 pub mod Words
 pub mod Writes
+pub mod Times
 pub mod Answers

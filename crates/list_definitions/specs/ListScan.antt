@@ -1,4 +1,5 @@
--- The call List scan: its answer and the table afterwards, for all inputs. Document 01, "What a list does", "Questions before work". Assumes nothing.
+-- The call List scan: its answer, the table and the times entered afterwards, for all inputs. Document 01, "What a list does", "Questions before work"; 02,
+-- Req 04. Assumes nothing.
 use Prim.Native.Nat.{ℕ}
 use mathlib.Core.Path.{_≡_}
 use mathlib.Core.Option.{none, some}
@@ -32,26 +33,29 @@ pub data ListScanAnswer : Type 0 where
   scanned : Halt → ListCounts → ListScanAnswer
   refused : Refusal → ListScanAnswer
 
+-- answer and table; and the times entered afterwards, from those that stood there before
 pub record ListScanCall : Type 0 where
   pub answer : ListScanAnswer
   pub table : List ℕ
+  pub times : List ℕ → List ℕ
 
 -- the list that instruction words and records hold
 unfoldable pub listOf : List ℕ → List RungRecord → InstructionList
 listOf words rs = record { code = codeOf words; records = rs }
 
+-- 02, Req 04: a list scan, Stopped ones included, "sets every field for that scan alone"
 unfoldable pub scanEnds : ListResult → ListScanCall
-scanEnds x = record { answer = scanned (x .halt) (countsOf x); table = x .state .bytes }
+scanEnds x = record { answer = scanned (x .halt) (countsOf x); table = x .state .bytes; times = λ before. x .counts .times }
 
 -- questions 1, 10, 11 and 12 in order
 unfoldable pub scanQuestions : ℕ → List ℕ → List RungRecord → List ℕ → ℕ → Answer
 scanQuestions vars words rs table watchdog =
     firstNo (question1 vars ∷ question10 vars words rs ∷ question11 (stateOf vars table) ∷ question12 mostInstructionWatchdog watchdog ∷ [])
 
--- a refusal leaves the table, and else the list is scanned
+-- a refusal leaves the table, "touches none" of the times entered, and else the list is scanned
 unfoldable pub callListScan : ℕ → List ℕ → List RungRecord → List ℕ → ℕ → ListScanCall
 callListScan vars words rs table watchdog = elim (scanQuestions vars words rs table watchdog) [
-  | some refusal ↦ record { answer = refused refusal; table = table }
+  | some refusal ↦ record { answer = refused refusal; table = table; times = λ before. before }
   | none ↦ scanEnds (scanList (listOf words rs) watchdog (stateOf vars table))
 ]
 
@@ -65,7 +69,8 @@ listScannedAnswer (EndedCase c) = scanned Ended (countsIn c)
 listScannedAnswer (StoppedCase c) = scanned Stopped (countsIn c)
 listScannedAnswer (RefusedCase refusal) = refused (refusalOf refusal)
 
--- the promise of list_scan: answer and table are those of the definition
-pub record ListScanDone (call : ListScanCall) (r : ListScanned) (table : List ℕ) : Type 0 where
+-- the promise of list_scan: answer, table and times entered are those of the definition
+pub record ListScanDone (call : ListScanCall) (r : ListScanned) (table before after : List ℕ) : Type 0 where
   pub answer : listScannedAnswer r ≡ call .answer
   pub same-table : table ≡ call .table
+  pub same-times : after ≡ call .times before

@@ -4,11 +4,11 @@ use Prim.Native.Nat.{ℕ, zero, suc, _+_}
 use mathlib.Core.Bool.{Bool, true, false, not, cond, xor, _&&_, _||_}
 use mathlib.Core.Option.{none, some}
 use mathlib.Core.List.{List}
-use lib.ListN.{getElem?}
+use lib.ListN.{length, getElem?}
 use Rattle.questions.specs.Tests.{bit}
 use Rattle.table.specs.State.{State, value, write, writeIf}
 use Rattle.table.specs.Halt.{Halt, Ended, Stopped}
-use Rattle.rungs.specs.Records.{RungRecord, isStart}
+use Rattle.rungs.specs.Records.{RungRecord, isStart, enter, noneEntered}
 use Rattle.list_definitions.specs.Instruction.{Instr, LD, LDN, ST, STN, AND, ANDN, OR, ORN, XOR, XORN, NOT, JMP, JMPC, JMPCN, S, R}
 
 -- a list: its instructions and its rung records
@@ -46,10 +46,12 @@ does (JMPCN j) v e pc = effect v e (cond v (pc + 1) j)
 does (S x) v e pc = effect v (writeIf v e x true) (pc + 1)
 does (R x) v e pc = effect v (writeIf v e x false) (pc + 1)
 
--- "Both carry the instructions carried out and the rungs entered, that is, how many of them stood at a record's offset."
+-- "Both carry the instructions carried out and the rungs entered, that is, how many of them stood at a record's offset." 02, Req 04: "the times entered", of
+-- each record, in the order of the row
 pub record Counts : Type 0 where
   pub instructions : ℕ
   pub rungs : ℕ
+  pub times : List ℕ
 
 -- "Accumulator, index and both counts are one record that each instruction changes."
 pub record Machine : Type 0 where
@@ -59,7 +61,7 @@ pub record Machine : Type 0 where
 
 -- the counts after an instruction at index i
 unfoldable pub count : List RungRecord → ℕ → Counts → Counts
-count rs i c = record { instructions = c .instructions + 1; rungs = c .rungs + bit (isStart rs i) }
+count rs i c = record { instructions = c .instructions + 1; rungs = c .rungs + bit (isStart rs i); times = enter rs i (c .times) }
 
 -- the machine and the state after the instruction i, which stands at the machine's index
 unfoldable pub step : List RungRecord → Instr → Machine → State → Machine × State
@@ -85,9 +87,9 @@ scanMachine l (suc n) m s = elim (getElem? (l .code) (m .index)) [
   | some i ↦ let next = step (l .records) i m s in scanMachine l n (next .0) (next .1)
 ]
 
--- the counts before the first instruction
+-- the counts before the first instruction; 02, Req 04: the times are "for that scan alone"
 unfoldable pub fresh : List RungRecord → Counts
-fresh rs = record { instructions = 0; rungs = 0 }
+fresh rs = record { instructions = 0; rungs = 0; times = noneEntered (length rs) }
 
 -- the accumulator "starts false"; a scan begins at index 0
 unfoldable pub begin : InstructionList → Machine

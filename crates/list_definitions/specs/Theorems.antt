@@ -8,7 +8,7 @@ use mathlib.Core.List.{List, map}
 use lib.Dec.{T}
 use lib.ListN.{length}
 use Rattle.questions.specs.Tests.{all}
-use Rattle.questions.specs.Questions.{mostInstructionWatchdog}
+use Rattle.questions.specs.Questions.{Refusal, mostInstructionWatchdog}
 use Rattle.questions.specs.Laws.Answers.{watchdog-in-range}
 use Rattle.table.specs.State.{State, stateOf}
 use Rattle.table.specs.Halt.{Halt, Ended, Stopped}
@@ -17,16 +17,18 @@ use Rattle.table.specs.Writes.{replay, changes, WritesTell}
 use Rattle.table.specs.Laws.Legal.{legal-table}
 use Rattle.table.specs.Laws.Replaying.{makes-bytes}
 use Rattle.table.specs.Laws.Changes.{makes-moved}
-use Rattle.rungs.specs.Records.{RungRecord}
+use Rattle.rungs.specs.Records.{RungRecord, sum}
 use Rattle.list_definitions.specs.Instruction.{Instr, instrWord, instrFits, decodeInstr, decodeCode}
 use Rattle.list_definitions.specs.Machine.{InstructionList, Counts, scanList}
-use Rattle.list_definitions.specs.ListScan.{ListCounts, scanned, listOf, callListScan}
+use Rattle.list_definitions.specs.Questions.{recordsLaid}
+use Rattle.list_definitions.specs.ListScan.{ListCounts, scanned, refused, listOf, callListScan}
 use Rattle.list_definitions.specs.Writes.{listWrites}
 use Rattle.list_definitions.specs.Standing.{StandsAt}
 use Rattle.list_definitions.specs.Laws.Decoding.{decode-instr, instr-decoded, decode-code, code-decoded}
 use Rattle.list_definitions.specs.Laws.Watchdog.{stopped-stands, stands-stopped, ended-stands, stands-ended, list-within}
 use Rattle.list_definitions.specs.Laws.Writes.{list-makes, list-few}
-use Rattle.list_definitions.specs.Laws.Answers.{asked, writes-tell, sum-few, instructions-few}
+use Rattle.list_definitions.specs.Laws.Times.{each-time, times-sum}
+use Rattle.list_definitions.specs.Laws.Answers.{asked, writes-tell, sum-few, instructions-few, times-tell, times-left}
 
 -- A word is decoded to an instruction exactly when it is the word of that instruction, whose operand has 16 bits.
 pub instruction-exactly : (w : ℕ) (i : Instr) → (decodeInstr w ≡ some i) ↔ ((w ≡ instrWord i) × T (instrFits i))
@@ -82,3 +84,21 @@ call-sum-fits vars words records table watchdog halt counts e =
     let carried = instructions-few vars words records table watchdog halt counts e in
     let most = watchdog-in-range mostInstructionWatchdog watchdog (asked vars words records table watchdog halt counts e .watchdog) in
     record { an-instruction = few; a-scan = omega arith; fits = omega arith }
+
+-- 02, Req 04: "The fields add up to the rungs entered, for every list and every watchdog." There is a field for each record. A list is one whose records
+-- question 10 takes.
+pub times-add-up : (l : InstructionList) (watchdog : ℕ) (s : State) → T (recordsLaid (length (l .code)) (l .records))
+    → (length (scanList l watchdog s .counts .times) ≡ length (l .records)) × (sum (scanList l watchdog s .counts .times) ≡ scanList l watchdog s .counts .rungs)
+times-add-up l watchdog s laid = (each-time l laid watchdog s, times-sum l laid watchdog s)
+
+-- The same of the call, wherever it is not refused, Ended or Stopped, and whatever the fields held before.
+pub call-times-add-up : (vars : ℕ) (words : List ℕ) (records : List RungRecord) (table : List ℕ) (watchdog : ℕ) (halt : Halt) (counts : ListCounts)
+    → callListScan vars words records table watchdog .answer ≡ scanned halt counts → (before : List ℕ)
+    → (length (callListScan vars words records table watchdog .times before) ≡ length records)
+    × (sum (callListScan vars words records table watchdog .times before) ≡ counts .rungs)
+call-times-add-up vars words records table watchdog halt counts e before = times-tell vars words records table watchdog halt counts e before
+
+-- "and a refused one touches none".
+pub call-times-left : (vars : ℕ) (words : List ℕ) (records : List RungRecord) (table : List ℕ) (watchdog : ℕ) (r : Refusal)
+    → callListScan vars words records table watchdog .answer ≡ refused r → (before : List ℕ) → callListScan vars words records table watchdog .times before ≡ before
+call-times-left vars words records table watchdog r e before = times-left vars words records table watchdog r e before

@@ -79,7 +79,7 @@ module _ (vars w entered : ℕ) (m : MachineStruct) (t : List ℕ) (effect : Eff
       → Stepped vars w entered m t (record { accumulator = effect .accumulator; index = effect .index; counts = counted }) u
   unfolding step count machineOf machineCounts
   stepped d = record {
-    same = λ i e rs starts. rw (d .same i e (m .index) refl, ← starts);
+    same = λ i e rs starts times. rw (d .same i e (m .index) refl, ← starts);
     carried = refl;
     rungs = refl;
     moved = d .few;

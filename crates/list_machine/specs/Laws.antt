@@ -2,3 +2,4 @@
 pub mod Runs
 pub mod Scans
 pub mod Seeks
+pub mod Entries

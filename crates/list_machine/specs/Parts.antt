@@ -5,10 +5,10 @@ use mathlib.Core.Bool.{Bool, true, false, not, _&&_}
 use mathlib.Core.Option.{some}
 use mathlib.Core.List.{List, [], _∷_}
 use lib.Dec.{eqb, leb, ltb}
-use lib.ListN.{length, getD}
+use lib.ListN.{length, getD, set}
 use Rattle.questions.specs.Tests.{bit}
 use Rattle.table.specs.State.{stateWith, stateOf}
-use Rattle.rungs.specs.Records.{RungRecord, offsets, isStart}
+use Rattle.rungs.specs.Records.{RungRecord, offsets, isStart, enter}
 use Rattle.list_definitions.specs.Instruction.{Instr, decodeInstr, decodeCode}
 use Rattle.list_definitions.specs.Machine.{InstructionList, Counts, Machine, does, step, scanList}
 use Rattle.list_definitions.specs.ListScan.{scanEnds, ListScanDone}
@@ -25,16 +25,16 @@ pub record Did (vars word : ℕ) (v : Bool) (straight : ℕ) (t : List ℕ) (mov
       → does i v (stateWith vars t moved) pc ≡ record { accumulator = r .accumulator; state = stateWith vars u (r .moved); index = r .index }
   pub few : r .moved ≤ moved + 1
 
--- "both counts" of a machine
-unfoldable pub machineCounts : CountsStruct → Counts
-machineCounts c = record { instructions = c .instructions; rungs = c .rungs }
+-- "both counts" of a machine, and the times entered, which stand beside it
+unfoldable pub machineCounts : CountsStruct → List ℕ → Counts
+machineCounts c times = record { instructions = c .instructions; rungs = c .rungs; times = times }
 
-unfoldable pub machineOf : MachineStruct → Machine
-machineOf m = record { accumulator = m .accumulator; index = m .index; counts = machineCounts (m .counts) }
+unfoldable pub machineOf : MachineStruct → List ℕ → Machine
+machineOf m times = record { accumulator = m .accumulator; index = m .index; counts = machineCounts (m .counts) times }
 
 pub record Stepped (vars word entered : ℕ) (m : MachineStruct) (t : List ℕ) (r : MachineStruct) (u : List ℕ) : Type 0 where
-  pub same : (i : Instr) → decodeInstr word ≡ some i → (rs : List RungRecord) → entered ≡ bit (isStart rs (m .index))
-      → step rs i (machineOf m) (stateWith vars t (m .counts .moved)) ≡ (machineOf r, stateWith vars u (r .counts .moved))
+  pub same : (i : Instr) → decodeInstr word ≡ some i → (rs : List RungRecord) → entered ≡ bit (isStart rs (m .index)) → (times : List ℕ)
+      → step rs i (machineOf m times) (stateWith vars t (m .counts .moved)) ≡ (machineOf r (enter rs (m .index) times), stateWith vars u (r .counts .moved))
   pub carried : r .counts .instructions ≡ m .counts .instructions + 1
   pub rungs : r .counts .rungs ≡ m .counts .rungs + entered
   pub moved : r .counts .moved ≤ m .counts .moved + 1
@@ -42,6 +42,10 @@ pub record Stepped (vars word entered : ℕ) (m : MachineStruct) (t : List ℕ) 
 -- 1 where the record `next` begins at the index, and else 0
 unfoldable pub startsHere : List ℕ → ℕ → ℕ → ℕ
 startsHere os next index = bit (ltb next (length os) && eqb (getD os next 0) index)
+
+-- the times entered with `entered` more for the record `next`
+unfoldable pub counted : List ℕ → ℕ → ℕ → List ℕ
+counted times next entered = set times next (getD times next 0 + entered)
 
 -- offsets that ascend from `least` on
 unfoldable pub ascending : ℕ → List ℕ → Type 0
@@ -79,6 +83,6 @@ unfoldable pub haltedAt : ℕ → MachineStruct → ListScanned
 haltedAt end m = elim (leb end (m .index)) [ true ↦ EndedCase (m .counts) | false ↦ StoppedCase (m .counts) ]
 
 -- a list's words and offsets are scanned as the list
-pub record Ran (vars : ℕ) (ws os t : List ℕ) (watchdog : ℕ) (r : ListScanned) (u : List ℕ) : Type 0 where
+pub record Ran (vars : ℕ) (ws os before t : List ℕ) (watchdog : ℕ) (r : ListScanned) (after u : List ℕ) : Type 0 where
   pub same : (l : InstructionList) → decodeCode ws ≡ some (l .code) → offsets (l .records) ≡ os → ascending 0 os
-      → ListScanDone (scanEnds (scanList l watchdog (stateOf vars t))) r u
+      → ListScanDone (scanEnds (scanList l watchdog (stateOf vars t))) r u before after

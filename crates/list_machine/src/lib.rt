@@ -1,11 +1,13 @@
 // One scan of a list. "Stood at a record's offset" is never a search on straight runs: `next` is the first record that does not
 // begin before the index, so the instruction stands at an offset just when it is that record's; a jump finds it anew, by halving.
+// 02, Req 04: where it does, that record's times entered get one more.
 ghost use mathlib.Core.Path.{_≡_};
 ghost use mathlib.Core.Bool.{cond};
-ghost use Prim.Native.Nat.{_+_, _<_, _^_};
+ghost use Prim.Native.Nat.{_+_, _≤_, _<_, _^_};
 ghost use lib.ListN.{length, getD};
+ghost use Rattle.rungs.specs.Records.{noneEntered};
 ghost use Rattle.list_machine.specs.Parts.{Did, Stepped, Ran, Sought, Followed};
-ghost use Rattle.list_machine.specs.Parts.{firstMachine, firstPlace, startsHere, runsOn, haltedAt};
+ghost use Rattle.list_machine.specs.Parts.{firstMachine, firstPlace, startsHere, counted, runsOn, haltedAt};
 use list_definitions::Counts;
 use list_definitions::ListScanned;
 
@@ -126,7 +128,7 @@ fn stepped(vars: u32, m: Machine, code: &[u32], entered: u32, table: &mut [u8]) 
 }
 
 // One instruction changes the machine: it is taken out, stepped and put back.
-pub fn step(vars: u32, m: &mut Machine, code: &[u32], entered: u32, table: &mut [u8])
+fn step(vars: u32, m: &mut Machine, code: &[u32], entered: u32, table: &mut [u8])
     requires { ⌜ (now m .index < length (now code)) × (now m .counts .instructions + 1 < 2 ^ 32)
         × (now m .counts .rungs + entered < 2 ^ 32) × (now m .counts .moved + 1 < 2 ^ 32) ⌝ }
     ensures { λ _. ⌜ Stepped vars (getD (now (code .entry)) (now (m .entry) .index) 0) entered (now (m .entry)) (now (table .entry))
@@ -185,8 +187,20 @@ fn follow(offsets: &[u32], place: Place, index: usize) -> Place
     }
 }
 
+// 02, Req 04: one more time entered for the record that begins at the place, if one does.
+fn count_entry(times: &mut [u32], place: Place)
+    requires { ⌜ (place .next + place .entered ≤ length (now times))
+        × (getD (now times) (place .next) 0 + place .entered < 2 ^ 32) ⌝ }
+    ensures { λ _. ⌜ now (times .exit) ≡ counted (now (times .entry)) (place .next) (place .entered) ⌝ }
+{
+    if place.entered != 0 {
+        let record = place.next;
+        times[record] += place.entered;
+    }
+}
+
 // The machine before the first instruction.
-pub fn first_machine() -> Machine
+fn first_machine() -> Machine
     ensures { λ r. ⌜ r ≡ firstMachine ⌝ }
 {
     Machine {
@@ -201,7 +215,7 @@ pub fn first_machine() -> Machine
 }
 
 // Whether there is an instruction to carry out: the machine is before the end, and the watchdog has not come.
-pub fn runs_on(m: Machine, end: usize, watchdog: u32) -> bool
+fn runs_on(m: Machine, end: usize, watchdog: u32) -> bool
     ensures { λ r. ⌜ r ≡ runsOn end watchdog m ⌝ }
 {
     if end <= m.index {
@@ -212,7 +226,7 @@ pub fn runs_on(m: Machine, end: usize, watchdog: u32) -> bool
 }
 
 // The answer of a machine that does not run on: at the end, Ended, and else Stopped.
-pub fn halted_at(m: Machine, end: usize) -> ListScanned
+fn halted_at(m: Machine, end: usize) -> ListScanned
     ensures { λ r. ⌜ r ≡ haltedAt end m ⌝ }
 {
     let counts = m.counts;
@@ -233,15 +247,42 @@ fn first_place(offsets: &[u32]) -> Place
     }
 }
 
-// A scan with a watchdog. Each instruction changes the machine, which is lent to `step`.
-pub fn run(vars: u32, code: &[u32], offsets: &[u32], table: &mut [u8], watchdog: u32) -> ListScanned
-    ensures { λ r. ⌜ Ran vars (now (code .entry)) (now (offsets .entry)) (now (table .entry)) watchdog r (now (table .exit)) ⌝ }
+// A scan with a watchdog, from times entered that are all 0. Each instruction changes the machine, which is lent to `step`.
+fn scan(
+    vars: u32,
+    code: &[u32],
+    offsets: &[u32],
+    times: &mut [u32],
+    table: &mut [u8],
+    watchdog: u32,
+) -> ListScanned
+    requires { ⌜ (length (now times) ≡ length (now offsets)) × (now times ≡ noneEntered (length (now times))) ⌝ }
+    ensures { λ r. ⌜ Ran vars (now (code .entry)) (now (offsets .entry)) (now (times .entry)) (now (table .entry)) watchdog
+        r (now (times .exit)) (now (table .exit)) ⌝ }
 {
     let mut m = first_machine();
     let mut place = first_place(offsets);
     while runs_on(m, code.len(), watchdog) {
+        count_entry(times, place);
         step(vars, &mut m, code, place.entered, table);
         place = follow(offsets, place, m.index);
     }
     halted_at(m, code.len())
+}
+
+// A scan with a watchdog. 02, Req 04: it "sets every field for that scan alone", so each begins at 0.
+pub fn run(
+    vars: u32,
+    code: &[u32],
+    offsets: &[u32],
+    times: &mut [u32],
+    table: &mut [u8],
+    watchdog: u32,
+) -> ListScanned
+    requires { ⌜ length (now times) ≡ length (now offsets) ⌝ }
+    ensures { λ r. ⌜ Ran vars (now (code .entry)) (now (offsets .entry)) (now (times .entry)) (now (table .entry)) watchdog
+        r (now (times .exit)) (now (table .exit)) ⌝ }
+{
+    rungs::put_zeros(times, times.len());
+    scan(vars, code, offsets, times, table, watchdog)
 }

@@ -7,7 +7,7 @@ use native.Mathlib.Omega.{arith}
 use lib.Dec.{T, ltb}
 use lib.ListN.{length, getD}
 use Rattle.questions.specs.Tests.{all}
-use Rattle.rungs.specs.Records.{laid, rowOf, mostRecords}
+use Rattle.rungs.specs.Records.{laid, fieldsOf, mostRecords}
 use Rattle.rungs.specs.Laws.Rows.{Even, row-even, row-length}
 use Rattle.list_definitions.specs.Instruction.{decodeCode, codeOf}
 use Rattle.list_definitions.specs.Questions.{mostInstructions, listInRange}
@@ -19,15 +19,15 @@ pub record ListAccepted (vars : ℕ) (ws ls os ns : List ℕ) : Type 0 where
   pub records-most : length ls ≤ mostRecords
   pub even : Even ls os ns
   pub lengths : length ns ≡ length ls
-  pub lies : T (laid 0 (length ws) (rowOf ls os ns))
-  pub some-length : T (all (λ r. ltb 0 (r .length)) (rowOf ls os ns))
+  pub lies : T (laid 0 (length ws) (fieldsOf ls os ns))
+  pub some-length : T (all (λ r. ltb 0 (r .length)) (fieldsOf ls os ns))
   pub decodes : (i : ℕ) → i < length ws → Decodes (getD ws i 0)
   pub held : decodeCode ws ≡ some (codeOf ws)
   pub printed : codeOf ws ≡ map instrOf ws
 
-pub list-accepted : (vars : ℕ) (ws ls os ns : List ℕ) → T (listInRange vars ws (rowOf ls os ns)) → ListAccepted vars ws ls os ns
+pub list-accepted : (vars : ℕ) (ws ls os ns : List ℕ) → T (listInRange vars ws (fieldsOf ls os ns)) → ListAccepted vars ws ls os ns
 list-accepted vars ws ls os ns h =
-    let a = list-in-range vars ws (rowOf ls os ns) h in
+    let a = list-in-range vars ws (fieldsOf ls os ns) h in
     let e = row-even ls os ns (a .some-record) in
     let l = row-length ls os ns e in
     let most = a .records-most in

@@ -17,7 +17,7 @@ use Rattle.questions.specs.Bytes.{byte, bytes, decimal}
 use Rattle.questions.specs.Tests.{all}
 use Rattle.questions.specs.Laws.Tests.{all-head, all-tail}
 use Rattle.rungs.specs.Words.{operands, numberOf, operandOf}
-use Rattle.rungs.specs.Records.{RungRecord, laid, rowOf}
+use Rattle.rungs.specs.Records.{RungRecord, laid, fieldsOf}
 use Rattle.list_definitions.specs.Instruction.{Instr, LD, LDN, ST, STN, AND, ANDN, OR, ORN, XOR, XORN, NOT, JMP, JMPC, JMPCN, S, R, Operand, tableIndex, noOperand, instructionIndex, operand, operandFits, instrFits, opOf, operandNumber, instrWord, onlyNot, ops, decodeInstr, codeOf, OperandSort, tableSort, nothingSort, instructionSort, noSort, sortOf, operandSort}
 use Rattle.list_definitions.specs.Laws.Decoding.{instr-decoded}
 use Rattle.list_definitions.specs.Questions.{listInRange}
@@ -256,18 +256,18 @@ laid-most start end (r ∷ rs) h = omega (arith, laid-most (start + r .length) e
 -- records of which the first k are printed
 pub record Listing (vars : ℕ) (ws ls os ns l x : List ℕ) (m start k : ℕ) : Type 0 where
   pub can : ListAccepted vars ws ls os ns
-  pub left : Left l 0 (rungsText vars ws (rowOf ls os ns)) x m (rungsText vars ws (drop k (rowOf ls os ns)))
-  pub lies : T (laid start (length ws) (drop k (rowOf ls os ns)))
+  pub left : Left l 0 (rungsText vars ws (fieldsOf ls os ns)) x m (rungsText vars ws (drop k (fieldsOf ls os ns)))
+  pub lies : T (laid start (length ws) (drop k (fieldsOf ls os ns)))
   pub within : start ≤ length ws
   pub room : m ≤ 8 * k + 14 * start
   pub passed : k ≤ length ls
 
-pub listing-start : (vars : ℕ) (ws ls os ns l : List ℕ) → T (listInRange vars ws (rowOf ls os ns)) → Listing vars ws ls os ns l l 0 0 0
+pub listing-start : (vars : ℕ) (ws ls os ns l : List ℕ) → T (listInRange vars ws (fieldsOf ls os ns)) → Listing vars ws ls os ns l l 0 0 0
 listing-start vars ws ls os ns l h =
     let p = list-accepted vars ws ls os ns h in
     record {
       can = p;
-      left = all-left l 0 (rungsText vars ws (rowOf ls os ns));
+      left = all-left l 0 (rungsText vars ws (fieldsOf ls os ns));
       lies = p .lies;
       within = omega arith;
       room = omega arith;
@@ -279,11 +279,11 @@ unfolding ended labelLine
 label-long n h = let d = decimal-long n h in simp length-append (omega arith)
 
 module _ {vars : ℕ} {ws ls os ns l x : List ℕ} {m start k : ℕ} (h : Listing vars ws ls os ns l x m start k) (lt : k < length ls) where
-  next-lies : (getD os k 0 ≡ start) × T (laid (start + getD ns k 0) (length ws) (drop (suc k) (rowOf ls os ns)))
-  next-lies = laid-next start (length ws) (record { label = getD ls k 0; offset = getD os k 0; length = getD ns k 0 }) (drop (suc k) (rowOf ls os ns)) (rw (row-at ls os ns (h .can .even) k lt) at (h .lies))
+  next-lies : (getD os k 0 ≡ start) × T (laid (start + getD ns k 0) (length ws) (drop (suc k) (fieldsOf ls os ns)))
+  next-lies = laid-next start (length ws) (record { label = getD ls k 0; offset = getD os k 0; length = getD ns k 0 }) (drop (suc k) (fieldsOf ls os ns)) (rw (row-at ls os ns (h .can .even) k lt) at (h .lies))
 
   pub next-within : start + getD ns k 0 ≤ length ws
-  next-within = laid-most (start + getD ns k 0) (length ws) (drop (suc k) (rowOf ls os ns)) (next-lies .1)
+  next-within = laid-most (start + getD ns k 0) (length ws) (drop (suc k) (fieldsOf ls os ns)) (next-lies .1)
 
   module _ {n : ℕ} {y : List ℕ} (p : Put x m (ended (labelLine (getD ls k 0))) n y) (small : getD ls k 0 < operands) where
     pub next-ready : RungReady vars ws start (start + getD ns k 0) n
@@ -304,7 +304,7 @@ module _ {vars : ℕ} {ws ls os ns l x : List ℕ} {m start k : ℕ} (h : Listin
         let s = label-long (getD ls k 0) small in
         let t = words-long vars (slice start (start + getD ns k 0) ws) in
         let u = length-slice start (start + getD ns k 0) ws w in
-        let e : rungsText vars ws (drop k (rowOf ls os ns)) ≡ ended (labelLine (getD ls k 0)) ++ wordLines vars (slice start (start + getD ns k 0) ws) ++ rungsText vars ws (drop (suc k) (rowOf ls os ns)) = rw (row-at ls os ns (h .can .even) k lt, next-lies .0) in
+        let e : rungsText vars ws (drop k (fieldsOf ls os ns)) ≡ ended (labelLine (getD ls k 0)) ++ wordLines vars (slice start (start + getD ns k 0) ws) ++ rungsText vars ws (drop (suc k) (fieldsOf ls os ns)) = rw (row-at ls os ns (h .can .even) k lt, next-lies .0) in
         record {
           can = h .can;
           left = rw add-one (left-more (h .left) e (put-then p q));
@@ -314,7 +314,7 @@ module _ {vars : ℕ} {ws ls os ns l x : List ℕ} {m start k : ℕ} (h : Listin
           passed = omega arith;
         }
 
-pub listing-end : {vars : ℕ} {ws ls os ns l x : List ℕ} {m start k : ℕ} → Listing vars ws ls os ns l x m start k → length ls ≤ k → Put l 0 (listingText fixedNames vars (listOf ws (rowOf ls os ns))) m x
+pub listing-end : {vars : ℕ} {ws ls os ns l x : List ℕ} {m start k : ℕ} → Listing vars ws ls os ns l x m start k → length ls ≤ k → Put l 0 (listingText fixedNames vars (listOf ws (fieldsOf ls os ns))) m x
 unfolding rungsText
 listing-end {vars} {ws} {ls} {os} {ns} {l} {x} {m} {start} {k} h le =
-    put-as (listing-text vars ws (rowOf ls os ns) (h .can .printed)) (left-none (h .left) (rw (drop-of-length-le (rowOf ls os ns) {i = k} (omega (arith, row-length ls os ns (h .can .even))))))
+    put-as (listing-text vars ws (fieldsOf ls os ns) (h .can .printed)) (left-none (h .left) (rw (drop-of-length-le (fieldsOf ls os ns) {i = k} (omega (arith, row-length ls os ns (h .can .even))))))

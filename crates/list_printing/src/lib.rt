@@ -7,7 +7,7 @@ ghost use lib.ListN.{length};
 ghost use lib.Seq.{slice};
 ghost use Rattle.questions.specs.Bytes.{byte, decimal};
 ghost use Rattle.rungs.specs.Words.{operands};
-ghost use Rattle.rungs.specs.Records.{rowOf};
+ghost use Rattle.rungs.specs.Records.{fieldsOf};
 ghost use Rattle.list_definitions.specs.Questions.{listInRange};
 ghost use Rattle.list_definitions.specs.ListScan.{listOf};
 ghost use Rattle.list_definitions.specs.Listing.{fixedNames, nameOf, labelLine, ended, listingText};
@@ -128,10 +128,10 @@ pub fn put_list(
     lengths: &[u32],
     out: &mut [u8],
 ) -> usize
-    requires { ⌜ T (listInRange vars (now code) (rowOf (now labels) (now offsets) (now lengths))) ⌝ }
+    requires { ⌜ T (listInRange vars (now code) (fieldsOf (now labels) (now offsets) (now lengths))) ⌝ }
     ensures { λ r. ⌜ Put (now (out .entry)) 0
         (listingText fixedNames vars (listOf (now (code .entry))
-        (rowOf (now (labels .entry)) (now (offsets .entry)) (now (lengths .entry)))))
+        (fieldsOf (now (labels .entry)) (now (offsets .entry)) (now (lengths .entry)))))
         r (now (out .exit)) ⌝ }
 {
     let mut end: usize = 0;

@@ -11,7 +11,7 @@ use lib.Seq.{drop-cons}
 use borrow.Author.Tests.{eq-eqb, ne-eqb, le-leb, lt-leb, lt-ltb, le-ltb}
 use Rattle.questions.specs.Tests.{all}
 use Rattle.table.specs.State.{tableSize}
-use Rattle.rungs.specs.Records.{RungRecord, laid, rowOf, mostRecords}
+use Rattle.rungs.specs.Records.{RungRecord, laid, fieldsOf, mostRecords}
 use Rattle.rungs.specs.Laws.Rows.{Even, row-nil, row-cons, row-induction, row-length, row-uneven-first, row-uneven-second}
 use Rattle.list_definitions.specs.Questions.{wordInRange, mostInstructions, recordsLaid, listInRange}
 use Rattle.list_questions.specs.Parts.{laidPairs}
@@ -54,7 +54,7 @@ shuffle false b c d = refl
 
 -- records of even slices are laid as the slices are
 LaidAlike : ℕ → List ℕ → List ℕ → List ℕ → Type 0
-LaidAlike end ls os ns = (start : ℕ) → (laid start end (rowOf ls os ns) && all (λ r. ltb 0 (r .length)) (rowOf ls os ns)) ≡ laidPairs start end os ns
+LaidAlike end ls os ns = (start : ℕ) → (laid start end (fieldsOf ls os ns) && all (λ r. ltb 0 (r .length)) (fieldsOf ls os ns)) ≡ laidPairs start end os ns
 
 nil-laid : (end : ℕ) → LaidAlike end [] [] []
 unfolding LaidAlike laid all laidPairs
@@ -63,57 +63,57 @@ nil-laid end start = rw row-nil (and-true (eqb start end))
 cons-laid : (end l o n : ℕ) (ls os ns : List ℕ) → Even (l ∷ ls) (o ∷ os) (n ∷ ns) → Even ls os ns → LaidAlike end ls os ns → LaidAlike end (l ∷ ls) (o ∷ os) (n ∷ ns)
 unfolding LaidAlike laid all laidPairs
 cons-laid end l o n ls os ns e t ih start =
-    let rest = all (λ (r : RungRecord). ltb 0 (r .length)) (rowOf ls os ns) in
-    rw (row-cons l o n ls os ns e) (shuffle (eqb o start) (laid (start + n) end (rowOf ls os ns)) (ltb 0 n) rest
+    let rest = all (λ (r : RungRecord). ltb 0 (r .length)) (fieldsOf ls os ns) in
+    rw (row-cons l o n ls os ns e) (shuffle (eqb o start) (laid (start + n) end (fieldsOf ls os ns)) (ltb 0 n) rest
     ∙ ap (λ b. eqb o start && (ltb 0 n && b)) (ih (start + n)))
 
-pub row-laid : (end : ℕ) (ls os ns : List ℕ) → Even ls os ns → recordsLaid end (rowOf ls os ns) ≡ laidPairs 0 end os ns
+pub row-laid : (end : ℕ) (ls os ns : List ℕ) → Even ls os ns → recordsLaid end (fieldsOf ls os ns) ≡ laidPairs 0 end os ns
 unfolding recordsLaid LaidAlike
 row-laid end ls os ns e = row-induction (LaidAlike end) (nil-laid end) (cons-laid end) ls os ns e 0
 
 -- ---- question 10, test by test
 
 module _ (vars : ℕ) (ws ls os ns : List ℕ) where
-  pub no-code : length ws < 1 → false ≡ listInRange vars ws (rowOf ls os ns)
+  pub no-code : length ws < 1 → false ≡ listInRange vars ws (fieldsOf ls os ns)
   unfolding listInRange
   no-code h = rw (lt-leb 1 (length ws) h)
 
-  pub much-code : mostInstructions < length ws → false ≡ listInRange vars ws (rowOf ls os ns)
+  pub much-code : mostInstructions < length ws → false ≡ listInRange vars ws (fieldsOf ls os ns)
   unfolding listInRange
   much-code h = rw (lt-leb (length ws) mostInstructions h, and-false (leb 1 (length ws)))
 
-  no-row : rowOf ls os ns ≡ [] → false ≡ listInRange vars ws (rowOf ls os ns)
+  no-row : fieldsOf ls os ns ≡ [] → false ≡ listInRange vars ws (fieldsOf ls os ns)
   unfolding listInRange
   no-row e = rw e (sym (and-false (leb 1 (length ws) && leb (length ws) mostInstructions)))
 
-  pub uneven-first : (length ls ≡ length os → ⊥) → false ≡ listInRange vars ws (rowOf ls os ns)
+  pub uneven-first : (length ls ≡ length os → ⊥) → false ≡ listInRange vars ws (fieldsOf ls os ns)
   uneven-first h = no-row (row-uneven-first ls os ns h)
 
-  pub uneven-second : (length os ≡ length ns → ⊥) → false ≡ listInRange vars ws (rowOf ls os ns)
+  pub uneven-second : (length os ≡ length ns → ⊥) → false ≡ listInRange vars ws (fieldsOf ls os ns)
   uneven-second h = no-row (row-uneven-second ls os ns h)
 
   module _ (p : length ls ≡ length os) (q : length os ≡ length ns) where
     abbrev even : Even ls os ns
     even = record { first = p; second = q }
 
-    pub no-records : length ls < 1 → false ≡ listInRange vars ws (rowOf ls os ns)
-    no-records h = no-row (empty (rowOf ls os ns) (row-length ls os ns even))
+    pub no-records : length ls < 1 → false ≡ listInRange vars ws (fieldsOf ls os ns)
+    no-records h = no-row (empty (fieldsOf ls os ns) (row-length ls os ns even))
       where
         empty : (rs : List RungRecord) → length rs ≡ length ls → rs ≡ []
         empty [] e = refl
         empty (r ∷ rs) e = absurd (omega arith)
 
-    pub many-records : mostRecords < length ls → false ≡ listInRange vars ws (rowOf ls os ns)
+    pub many-records : mostRecords < length ls → false ≡ listInRange vars ws (fieldsOf ls os ns)
     unfolding listInRange
     many-records h = rw (row-length ls os ns even, lt-leb (length ls) mostRecords h, and-false (leb 1 (length ls)))
         (sym (and-false (leb 1 (length ws) && leb (length ws) mostInstructions)))
 
-    pub not-laid : laidPairs 0 (length ws) os ns ≡ false → false ≡ listInRange vars ws (rowOf ls os ns)
+    pub not-laid : laidPairs 0 (length ws) os ns ≡ false → false ≡ listInRange vars ws (fieldsOf ls os ns)
     unfolding listInRange
-    not-laid h = rw (row-laid (length ws) ls os ns even, h, and-false (leb 1 (length (rowOf ls os ns)) && leb (length (rowOf ls os ns)) mostRecords))
+    not-laid h = rw (row-laid (length ws) ls os ns even, h, and-false (leb 1 (length (fieldsOf ls os ns)) && leb (length (fieldsOf ls os ns)) mostRecords))
         (sym (and-false (leb 1 (length ws) && leb (length ws) mostInstructions)))
 
     pub all-words : 1 ≤ length ws → length ws ≤ mostInstructions → 1 ≤ length ls → length ls ≤ mostRecords → laidPairs 0 (length ws) os ns ≡ true
-        → all (wordInRange (tableSize vars) (length ws)) ws ≡ listInRange vars ws (rowOf ls os ns)
+        → all (wordInRange (tableSize vars) (length ws)) ws ≡ listInRange vars ws (fieldsOf ls os ns)
     unfolding listInRange
     all-words a b c d h = rw (row-laid (length ws) ls os ns even, h, row-length ls os ns even, le-leb 1 (length ws) a, le-leb (length ws) mostInstructions b, le-leb 1 (length ls) c, le-leb (length ls) mostRecords d)

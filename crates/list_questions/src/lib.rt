@@ -2,7 +2,7 @@
 ghost use mathlib.Core.Path.{_≡_};
 ghost use lib.ListN.{length};
 ghost use Rattle.questions.specs.Tests.{all};
-ghost use Rattle.rungs.specs.Records.{rowOf};
+ghost use Rattle.rungs.specs.Records.{fieldsOf};
 ghost use Rattle.list_definitions.specs.Questions.{wordInRange, listInRange};
 ghost use Rattle.list_questions.specs.Parts.{laidPairs};
 use list_ops::OperandSort;
@@ -68,7 +68,7 @@ pub fn list_in_range(
     lengths: &[u32],
 ) -> bool
     ensures { λ r. ⌜ r ≡ listInRange vars (now (code .entry))
-        (rowOf (now (labels .entry)) (now (offsets .entry)) (now (lengths .entry))) ⌝ }
+        (fieldsOf (now (labels .entry)) (now (offsets .entry)) (now (lengths .entry))) ⌝ }
 {
     if code.len() < 1 {
         return false;

@@ -1,33 +1,36 @@
--- Laws of the questions, put to a copy of a row's fields: what they say of the row. Assumes nothing.
+-- Laws of List scan and Listing done on a copy of a row's fields: what they say of the row. Assumes nothing.
 use Prim.Native.Nat.{ℕ, _≤_, _<_}
 use native.Mathlib.Omega.{arith}
-use mathlib.Core.Path.{_≡_, refl, sym, ap, _∙_}
+use mathlib.Core.Path.{_≡_, refl, sym, ap, subst, _∙_}
 use mathlib.Core.Bool.{true, false, _&&_, and-false}
-use mathlib.Core.List.{List}
+use mathlib.Core.List.{List, [], _∷_, _++_}
 use lib.Dec.{leb}
 use lib.ListN.{length, take}
+use lib.Seq.{length-take-le, take-at}
 use borrow.Author.Tests.{lt-leb}
+use denote.Enum.Declared.{tagOf}
+use types.Run.{OneOf, miss}
 use Rattle.questions.specs.Questions.{ask, firstNo, varsInRange, question1}
-use Rattle.questions.specs.Refusals.{refusalOf, verdictAnswer}
-use Rattle.questions.specs.Laws.Answers.{verdict-refused, verdict-accepted}
+use Rattle.questions.specs.Refusals.{refusalOf}
 use Rattle.questions.specs.declared.Refusal.{Refusal}
 use Rattle.questions.specs.declared.Refusal.the-variants.{Variables, List as ListCase}
-use Rattle.questions.specs.declared.Verdict.{Verdict}
-use Rattle.questions.specs.declared.Verdict.the-variants.{Accepted, Refused}
-use Rattle.rungs.specs.Records.{RungRecord, rowOf, mostRecords}
-use Rattle.rows.specs.Parts.{gathered}
+use Rattle.rungs.specs.Records.{RungRecord, fieldsOf, rowOf, mostRecords}
+use Rattle.rungs.specs.Laws.Rows.{row-fields}
+use Rattle.rows.specs.Parts.{gathered, timesPut}
 use Rattle.rows.specs.Laws.Gathered.{gathered-whole}
+use Rattle.rows.specs.Laws.Written.{times-put-all}
 use Rattle.rows.specs.declared.Rows.{Rows}
 use Rattle.list_definitions.specs.Questions.{mostInstructions, listInRange, question10, listAnswer}
-use Rattle.list_definitions.specs.ListScan.{scanQuestions, callListScan, ListScanDone}
+use Rattle.list_definitions.specs.ListScan.{ListScanCall, scanEnds, callListScan, listScannedAnswer, ListScanDone}
 use Rattle.list_definitions.specs.Listing.{fixedNames, listing, ListingDone}
-use Rattle.list_machine.specs.Laws.Scans.{scan-refuses, scan-in-range, scan-scans, first-starts}
-use Rattle.list_machine.specs.Laws.Seeks.{laid-ascend}
-use Rattle.list_definitions.specs.Laws.Refusing.{scan-asked-list, listing-refused}
+use Rattle.list_definitions.specs.Laws.Answers.{asked, times-left}
+use Rattle.list_definitions.specs.Laws.Refusing.{scan-asked-list, listing-refused, scan-refuses}
 use Rattle.list_definitions.specs.declared.Listed.{Listed}
 use Rattle.list_definitions.specs.declared.Listed.the-variants.{Refused as RefusedListing}
 use Rattle.list_definitions.specs.declared.ListScanned.{ListScanned}
-use Rattle.list_rows.specs.Parts.{LongRefused, RowAsked, RowReady, RowRan, RowListed}
+use Rattle.list_definitions.specs.declared.ListScanned.the-variants.{Ended, Stopped, Refused as RefusedScan}
+use Rattle.list_definitions.proofs.ListScanned.{the-type}
+use Rattle.list_rows.specs.Parts.{LongRefused, FieldsScanned, RowListed}
 
 -- ---- a row of more than 256 records
 
@@ -45,7 +48,7 @@ long-list vars e = record { same = λ ws rs h. rw (e, long-row vars ws rs h) }
 
 -- ---- a copy of a row's fields
 
-n-lent : (rows : Rows) (rs : List RungRecord) → rows ≡ gathered rs → rows .n ≡ length rs
+pub n-lent : (rows : Rows) (rs : List RungRecord) → rows ≡ gathered rs → rows .n ≡ length rs
 unfolding gathered
 n-lent rows rs e = ap (λ r. r .n) e
 
@@ -54,50 +57,89 @@ unfolding gathered
 kept-few rs h = omega arith
 
 whole : (rs : List RungRecord) → length rs ≤ mostRecords
-    → rowOf (take (gathered rs .n) (gathered rs .labels)) (take (gathered rs .n) (gathered rs .offsets)) (take (gathered rs .n) (gathered rs .lengths)) ≡ rs
+    → fieldsOf (take (gathered rs .n) (gathered rs .labels)) (take (gathered rs .n) (gathered rs .offsets)) (take (gathered rs .n) (gathered rs .lengths)) ≡ rs
 whole rs h = rw (kept-few rs h) at (gathered-whole rs h)
 
-pub rows-whole : (rows : Rows) (rs : List RungRecord) → rows ≡ gathered rs → rows .n ≤ mostRecords
-    → rowOf (take (rows .n) (rows .labels)) (take (rows .n) (rows .offsets)) (take (rows .n) (rows .lengths)) ≡ rs
+rows-whole : (rows : Rows) (rs : List RungRecord) → rows ≡ gathered rs → rows .n ≤ mostRecords
+    → fieldsOf (take (rows .n) (rows .labels)) (take (rows .n) (rows .offsets)) (take (rows .n) (rows .lengths)) ≡ rs
 rows-whole rows rs e h =
     let l = n-lent rows rs e in
-    ap (λ r. rowOf (take (r .n) (r .labels)) (take (r .n) (r .offsets)) (take (r .n) (r .lengths))) e ∙ whole rs (omega arith)
+    ap (λ r. fieldsOf (take (r .n) (r .labels)) (take (r .n) (r .offsets)) (take (r .n) (r .lengths))) e ∙ whole rs (omega arith)
+
+-- the slices that go to a call on number slices: as many fields as the row has records, with as many times zs
+module _ (rows : Rows) (h : rows .n ≤ mostRecords) (inside : rows .n ≤ length (rows .labels)) (zs : List ℕ) (many : length zs ≡ rows .n) where
+  abbrev copied : List RungRecord
+  copied = rowOf (take (rows .n) (rows .labels)) (take (rows .n) (rows .offsets)) (take (rows .n) (rows .lengths)) zs
+
+  copied-row : (rs : List RungRecord) → rows ≡ gathered rs → copied ≡ rs
+  copied-row rs e = row-fields _ _ _ zs (length-take-le (rows .n) (rows .labels) inside ∙ sym many) ∙ rows-whole rows rs e h
 
 -- ---- List scan
 
+-- the places of Ended and Stopped in the enum
+abbrev ran : List ℕ
+ran = 0 ∷ 1 ∷ []
+
+-- a scan that isn't refused "sets every field for that scan alone", whatever stood there
+any-times : (vars : ℕ) (ws : List ℕ) (rs : List RungRecord) (t : List ℕ) (w : ℕ) (r : ListScanned) → OneOf ran (tagOf the-type r) → callListScan vars ws rs t w .answer ≡ listScannedAnswer r
+    → (before other : List ℕ) → callListScan vars ws rs t w .times before ≡ callListScan vars ws rs t w .times other
+unfolding listScannedAnswer scanEnds
+any-times vars ws rs t w r among e before other = go r among e
+  where
+    same : {x : ListScanCall} → callListScan vars ws rs t w ≡ x → x .times before ≡ x .times other → callListScan vars ws rs t w .times before ≡ callListScan vars ws rs t w .times other
+    same q k = rw q k
+
+    go : (x : ListScanned) → OneOf ran (tagOf the-type x) → callListScan vars ws rs t w .answer ≡ listScannedAnswer x → callListScan vars ws rs t w .times before ≡ callListScan vars ws rs t w .times other
+    go (Ended c) a q = same (asked vars ws rs t w _ _ q .call) refl
+    go (Stopped c) a q = same (asked vars ws rs t w _ _ q .call) refl
+    go (RefusedScan x) a q = absurd (miss ran 2 tt a)
+
+-- as many times stored as the row has records
+all-put : (n : ℕ) (zs rest ts : List ℕ) → length zs ≡ n → length ts ≡ n → timesPut n (zs ++ rest) ts ≡ zs
+all-put n zs rest ts e f = subst (λ (m : ℕ). timesPut m (zs ++ rest) ts ≡ zs) f (times-put-all (zs ++ rest) ts ∙ take-at zs rest (length ts) (e ∙ sym f))
+
 module _ (vars : ℕ) (ws : List ℕ) (rows : Rows) (t : List ℕ) (w : ℕ) where
-  pub asked-long : (x : Refusal) → mostRecords < rows .n → LongRefused vars x → RowAsked vars ws rows t w (Refused x)
-  unfolding verdictAnswer
-  asked-long x h r = record {
-    same = λ rs e.
+  -- more records than are copied
+  pub scanned-long : (x : Refusal) (times : List ℕ) → mostRecords < rows .n → LongRefused vars x → FieldsScanned vars ws rows t w (record { answer = RefusedScan x; times = times; kept = 0 }) t
+  unfolding timesPut
+  scanned-long x times h r = record {
+    same = λ rs e ts n.
         let l = n-lent rows rs e in
-        sym (scan-asked-list vars ws rs t w (refusalOf x) (r .same ws rs (omega arith)));
+        scan-refuses vars ws rs t w x ts (scan-asked-list vars ws rs t w (refusalOf x) (r .same ws rs (omega arith)));
+    few = omega arith;
+    within = omega arith;
   }
 
-  pub asked-row : (v : Verdict) → rows .n ≤ mostRecords
-      → verdictAnswer v ≡ scanQuestions vars ws (rowOf (take (rows .n) (rows .labels)) (take (rows .n) (rows .offsets)) (take (rows .n) (rows .lengths))) t w
-      → RowAsked vars ws rows t w v
-  asked-row v h a = record { same = λ rs e. a ∙ ap (λ x. scanQuestions vars ws x t w) (rows-whole rows rs e h) }
+  -- all of them are copied; what stood after the times set is any list
+  module _ (h : rows .n ≤ mostRecords) (inside : rows .n ≤ length (rows .labels)) (zs : List ℕ) (many : length zs ≡ rows .n) (r : ListScanned) (t′ zs′ rest : List ℕ)
+      (done : ListScanDone (callListScan vars ws (copied rows h inside zs many) t w) r t′ zs zs′) where
+    on-row : (rs : List RungRecord) → rows ≡ gathered rs → ListScanDone (callListScan vars ws rs t w) r t′ zs zs′
+    on-row rs e = subst (λ (l : List RungRecord). ListScanDone (callListScan vars ws l t w) r t′ zs zs′) (copied-row rows h inside zs many rs e) done
 
-  module _ (v : Verdict) (asked : RowAsked vars ws rows t w v) (rs : List RungRecord) (e : rows ≡ gathered rs) where
-    pub row-ready : RowReady v rs
-    row-ready = record {
-      ascends = λ q. let a = scan-in-range vars ws rs t w (verdict-accepted (asked .same rs e) q) in laid-ascend 0 (length ws) rs (a .lies) (a .some-length);
-      first-starts = λ q. first-starts vars ws rs t w (verdict-accepted (asked .same rs e) q) .1;
+    pub scanned-refused : (x : Refusal) → r ≡ RefusedScan x → FieldsScanned vars ws rows t w (record { answer = r; times = zs′ ++ rest; kept = 0 }) t′
+    unfolding timesPut listScannedAnswer
+    scanned-refused x is = record {
+      same = λ rs e ts n.
+          let d = on-row rs e in
+          record { answer = d .answer; same-table = d .same-table; same-times = sym (times-left vars ws rs t w (refusalOf x) (sym (d .answer) ∙ ap listScannedAnswer is) ts) };
+      few = omega arith;
+      within = omega arith;
     }
 
-    pub row-done : (r : ListScanned) (u : List ℕ) → RowRan vars v ws rs t w r u → ListScanDone (callListScan vars ws rs t w) r u
-    row-done r u ran = go v refl
-      where
-        go : (x : Verdict) → v ≡ x → ListScanDone (callListScan vars ws rs t w) r u
-        go Accepted q = scan-scans vars ws rs t w r u (verdict-accepted (asked .same rs e) q) (ran .ran q)
-        go (Refused x) q =
-            let p = ran .refused x q in
-            rw (p .0, p .1) (scan-refuses vars ws rs t w x (verdict-refused x (asked .same rs e) q))
-
-    -- the questions left the table as it was
-    pub row-scanned : (kept : List ℕ) → kept ≡ t → (r : ListScanned) (u : List ℕ) → RowRan vars v ws rs kept w r u → ListScanDone (callListScan vars ws rs t w) r u
-    row-scanned kept k r u ran = row-done r u (rw k at ran)
+    pub scanned-set : OneOf ran (tagOf the-type r) → length zs′ ≡ length zs
+        → FieldsScanned vars ws rows t w (record { answer = r; times = zs′ ++ rest; kept = rows .n }) t′
+    scanned-set is same-length = record {
+      same = λ rs e ts n.
+          let d = on-row rs e in
+          record {
+            answer = d .answer;
+            same-table = d .same-table;
+            same-times = all-put (rows .n) zs′ rest ts (same-length ∙ many) (n ∙ sym (n-lent rows rs e)) ∙ d .same-times
+                ∙ any-times vars ws rs t w r is (sym (d .answer)) zs ts;
+          };
+      few = h;
+      within = omega arith;
+    }
 
 -- ---- Listing
 
@@ -109,7 +151,6 @@ module _ (vars : ℕ) (ws : List ℕ) (rows : Rows) (out : List ℕ) where
         listing-refused vars ws rs out x (r .same ws rs (omega arith));
   }
 
-  pub listed-row : (r : Listed) (after : List ℕ) → rows .n ≤ mostRecords
-      → ListingDone (listing fixedNames vars ws (rowOf (take (rows .n) (rows .labels)) (take (rows .n) (rows .offsets)) (take (rows .n) (rows .lengths))) out) r after
-      → RowListed vars ws rows out r after
-  listed-row r after h d = record { same = λ rs e. rw (rows-whole rows rs e h) at d }
+  pub listed-row : (r : Listed) (after : List ℕ) (h : rows .n ≤ mostRecords) (inside : rows .n ≤ length (rows .labels)) (zs : List ℕ) (many : length zs ≡ rows .n)
+      → ListingDone (listing fixedNames vars ws (copied rows h inside zs many) out) r after → RowListed vars ws rows out r after
+  listed-row r after h inside zs many d = record { same = λ rs e. rw (copied-row rows h inside zs many rs e) at d }

@@ -7,7 +7,7 @@ use Rattle.questions.specs.Bytes.{bytes, decimal, digits}
 use Rattle.questions.specs.Questions.{ask, askEach, firstNo, varsInRange, question1, question2, question12, longEnough, question13}
 use Rattle.table.specs.State.{valueAt, value, writtenAt, turns, write}
 use Rattle.table.specs.Questions.{tableInRange, question11}
-use Rattle.rungs.specs.Records.{laid, lay, search, present, startOf, isStart, longest, rowOf}
+use Rattle.rungs.specs.Records.{laid, lay, search, present, startOf, isStart, enter, longest, fieldsOf, rowOf}
 use Rattle.rungs.specs.Buffers.{asBuffers, needs, written, writtenOver, writtenWords, writtenRecords}
 use Rattle.ladder_definitions.specs.Tree.{frontAll, rearAll, rungAll, inputVariable, outputNames, number}
 use Rattle.ladder_definitions.specs.Meaning.{scanLadder, scanFrom, runRung, runRear, runOutput, workFront, workInput, jumpIf, unlessJumped, from, follow, left}
@@ -27,13 +27,13 @@ use Rattle.translation_definitions.specs.BothScans.{copyQuestion, bothQuestions
 use Rattle.program_definitions.specs.Lines.{firstLine, textAfter, lineNumber, isBinaryDigit, tableOf}
 use Rattle.program_definitions.specs.Outcome.{outputOf}
 use Rattle.program_definitions.specs.Printout.{countLine, listPrinted, keptPrinted, textPrinted, outcome, output}
-use Rattle.program_definitions.specs.Scanout.{endWord, scanCountLines, endLines, changedLine, changedLines, sameBytes, alikeIf, verdict, verdictLine, reportLines, keptScanned, textScanned, outcome as scanOutcome, output as scanOutput}
+use Rattle.program_definitions.specs.Scanout.{endWord, scanCountLines, endLines, enteredLine, enteredLines, changedLine, changedLines, sameBytes, alikeIf, verdict, verdictLine, reportOf, reportLines, keptScanned, textScanned, outcome as scanOutcome, output as scanOutput}
 
 pub A-printed : output (bytes "5\n10:c0|c1&n2>o1|c3&j20\n20:n3>o4\n")
     ≡ bytes "L10:\nLD v0\nST t0\nLD v1\nANDN v2\nOR t0\nST t0\nST v1\nLD t0\nAND v3\nJMPC @10\nL20:\nLDN v3\nST v4\nrungs 2 instructions 12 longest 10\n"
 unfolding output outcome textPrinted keptPrinted listPrinted countLine outputOf firstLine textAfter lineNumber bytes decimal digits
     all firstFailed ask askEach firstNo varsInRange question1 question2 question3 question4 question5 question6 question7 question8 question9 question10 question13 longEnough
-    laid lay search present startOf longest rowOf asBuffers needs written writtenOver writtenWords writtenRecords zipWith flatMap
+    laid lay search present startOf longest fieldsOf rowOf asBuffers needs written writtenOver writtenWords writtenRecords zipWith flatMap
     frontAll rearAll rungAll inputKind inputVariable inputWord outputKind outputNames number outputWord frontWords rearWords rungWords encode putInput putFront putOutput putRearAnd putRearOr
     kinds decodeWords oneRung decodeRung decodeFrom decode ladderOf holdsLadder sizesInRange inputBelow outputBelow newLabels outputLeads joinScratch frontScratch rearScratch rungScratch
     scratchInRange namedBelow namedLeads ladderQuestions ladderAnswer
@@ -44,13 +44,13 @@ A-printed = refl
 
 -- case A with v0 true and a rung watchdog of 2, as README shows it
 pub A-scanned : scanOutput (bytes "5\n2\n10000\n10:c0|c1&n2>o1|c3&j20\n20:n3>o4\n")
-    ≡ bytes "scan ladder list\nend Ended Ended\nrungs 2 2\ninstructions - 12\nmoved 2 2\nv1 0>1 0>1\nv4 0>1 0>1\nalike\n"
-unfolding scanOutput scanOutcome textScanned keptScanned reportLines endLines scanCountLines endWord changedLines changedLine verdict alikeIf sameBytes verdictLine
+    ≡ bytes "scan ladder list\nend Ended Ended\nrungs 2 2\ninstructions - 12\nmoved 2 2\nL10 - 1\nL20 - 1\nv1 0>1 0>1\nv4 0>1 0>1\nalike\n"
+unfolding scanOutput scanOutcome textScanned keptScanned reportLines reportOf endLines scanCountLines endWord enteredLines enteredLine changedLines changedLine verdict alikeIf sameBytes verdictLine
     outputOf firstLine textAfter lineNumber isBinaryDigit tableOf bytes decimal digits copyQuestion bothQuestions bothScans instructionWatchdog pairedWatchdog
-    question11 question12 tableInRange valueAt value writtenAt turns write xor isStart
+    question11 question12 tableInRange valueAt value writtenAt turns write xor isStart enter
     scanLadder scanFrom runRung runRear runOutput workFront workInput jumpIf unlessJumped from follow left scanList scanMachine begin fresh step count does halted
     all firstFailed ask askEach firstNo varsInRange question1 question2 question3 question4 question5 question6 question7 question8 question9 question10 question13 longEnough
-    laid lay search present startOf longest rowOf asBuffers needs written writtenOver writtenWords writtenRecords zipWith flatMap
+    laid lay search present startOf longest fieldsOf rowOf asBuffers needs written writtenOver writtenWords writtenRecords zipWith flatMap
     frontAll rearAll rungAll inputKind inputVariable inputWord outputKind outputNames number outputWord frontWords rearWords rungWords encode putInput putFront putOutput putRearAnd putRearOr
     kinds decodeWords oneRung decodeRung decodeFrom decode ladderOf holdsLadder sizesInRange inputBelow outputBelow newLabels outputLeads joinScratch frontScratch rearScratch rungScratch
     scratchInRange namedBelow namedLeads ladderQuestions ladderAnswer

@@ -8,11 +8,12 @@ use Rattle.questions.specs.Bytes.{bytes, decimal, digits}
 use Rattle.questions.specs.Tests.{all}
 use Rattle.table.specs.Halt.{Halt, Ended, Stopped}
 use Rattle.text_grammar.specs.Reader.{digitOf, digitsFrom, numeralOf}
-use Rattle.translation_definitions.specs.BothScans.{BothEnds}
+use Rattle.rungs.specs.Buffers.{buffers}
+use Rattle.translation_definitions.specs.BothScans.{BothEnds, lends}
 use Prim.Native.Nat.{ℕ}
 use Rattle.program_definitions.specs.Lines.{lineNumber, watchdogOf, isBinaryDigit, tableOf}
 use Rattle.program_definitions.specs.Refusals.{refusalLine, explanations, explanation, lineEndsText, errorLines}
-use Rattle.program_definitions.specs.Scanout.{endWord, scanCountLines, endLines, changedLine, changedLines, sameBytes, alike, bothStopped, notAlike, alikeIf, verdict, verdictLine, reportLines}
+use Rattle.program_definitions.specs.Scanout.{endWord, scanCountLines, endLines, enteredLine, enteredLines, changedLine, changedLines, sameBytes, alike, bothStopped, notAlike, alikeIf, verdict, verdictLine, reportOf, reportLines}
 
 pub watchdogs-worked :
     (watchdogOf (bytes "2") ≡ 2) × (watchdogOf (bytes "65535") ≡ 65535) × (watchdogOf (bytes "65536") ≡ 65536) × (watchdogOf (bytes "02") ≡ 65536) × (watchdogOf [] ≡ 65536)
@@ -52,13 +53,14 @@ unfolding ends verdict alikeIf sameBytes
 verdicts-worked = (refl, refl, refl, refl, refl, refl)
 
 -- README's report
-pub report-worked : reportLines 5 (1 ∷ 0 ∷ 0 ∷ 0 ∷ 0 ∷ []) (ends Ended 2 2 Ended 2 2) (1 ∷ 1 ∷ 0 ∷ 0 ∷ 1 ∷ []) (1 ∷ 1 ∷ 0 ∷ 0 ∷ 1 ∷ [])
-    ≡ bytes "scan ladder list\nend Ended Ended\nrungs 2 2\ninstructions - 12\nmoved 2 2\nv1 0>1 0>1\nv4 0>1 0>1\nalike\n"
-unfolding ends reportLines endLines scanCountLines endWord changedLines changedLine verdict alikeIf sameBytes verdictLine decimal digits bytes
+pub report-worked : reportLines 5 (1 ∷ 0 ∷ 0 ∷ 0 ∷ 0 ∷ []) (ends Ended 2 2 Ended 2 2)
+    (lends (1 ∷ 1 ∷ 0 ∷ 0 ∷ 1 ∷ []) (1 ∷ 1 ∷ 0 ∷ 0 ∷ 1 ∷ []) (buffers [] (10 ∷ 20 ∷ 0 ∷ []) [] [] (1 ∷ 1 ∷ 0 ∷ [])))
+    ≡ bytes "scan ladder list\nend Ended Ended\nrungs 2 2\ninstructions - 12\nmoved 2 2\nL10 - 1\nL20 - 1\nv1 0>1 0>1\nv4 0>1 0>1\nalike\n"
+unfolding ends reportLines reportOf endLines scanCountLines endWord enteredLines enteredLine changedLines changedLine verdict alikeIf sameBytes verdictLine decimal digits bytes
 report-worked = refl
 
--- two scans that stopped, with other sums and variables
-pub stopped-worked : reportLines 2 (1 ∷ 0 ∷ []) (ends Stopped 1 1 Stopped 1 0) (1 ∷ 1 ∷ []) (1 ∷ 0 ∷ [])
-    ≡ bytes "scan ladder list\nend Stopped Stopped\nrungs 1 1\ninstructions - 12\nmoved 1 0\nv1 0>1 0>0\nboth stopped\n"
-unfolding ends reportLines endLines scanCountLines endWord changedLines changedLine verdict verdictLine decimal digits bytes
+-- two scans that stopped, with other sums and variables, and a rung that was not entered
+pub stopped-worked : reportLines 2 (1 ∷ 0 ∷ []) (ends Stopped 1 1 Stopped 1 0) (lends (1 ∷ 1 ∷ []) (1 ∷ 0 ∷ []) (buffers [] (10 ∷ 20 ∷ []) [] [] (0 ∷ 1 ∷ [])))
+    ≡ bytes "scan ladder list\nend Stopped Stopped\nrungs 1 1\ninstructions - 12\nmoved 1 0\nL20 - 1\nv1 0>1 0>0\nboth stopped\n"
+unfolding ends reportLines reportOf endLines scanCountLines endWord enteredLines enteredLine changedLines changedLine verdict verdictLine decimal digits bytes
 stopped-worked = refl

@@ -21,7 +21,7 @@ countLine c =
 
 -- "Its other buffers have the largest size allowed."
 abbrev pub blank : ℕ → ℕ → Buffers
-blank words rungs = buffers (replicate words 0) (replicate rungs 0) (replicate rungs 0) (replicate rungs 0)
+blank words rungs = buffers (replicate words 0) (replicate rungs 0) (replicate rungs 0) (replicate rungs 0) (replicate rungs 0)
 
 -- "lends Listing 65,536 bytes"
 abbrev pub mostListing : ℕ

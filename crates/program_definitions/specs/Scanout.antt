@@ -34,6 +34,16 @@ unfoldable pub endLines : BothEnds → List ℕ
 endLines e =
     bytes "scan ladder list\nend " ++ (endWord (e .ladderHalt) ++ (bytes " " ++ (endWord (e .listHalt) ++ (bytes "\n" ++ scanCountLines (e .ladder) (e .list)))))
 
+-- 02, Req 04, "the times entered": a rung's label and how often the list scan entered it. The ladder scan counts no times; in its place stands "-".
+unfoldable pub enteredLine : ℕ → ℕ → List ℕ
+enteredLine label times = bytes "L" ++ (decimal label ++ (bytes " - " ++ (decimal times ++ bytes "\n")))
+
+-- "which rungs a scan went through": a line for each rung that was entered, in the order of the row
+unfoldable pub enteredLines : List ℕ → List ℕ → List ℕ
+enteredLines [] ns = []
+enteredLines (l ∷ ls) [] = []
+enteredLines (l ∷ ls) (n ∷ ns) = elim (eqb n 0) [ true ↦ [] | false ↦ enteredLine l n ] ++ enteredLines ls ns
+
 -- a variable's value before and after in the ladder's table, and before and after in the list's
 unfoldable pub changedLine : ℕ → ℕ → ℕ → ℕ → List ℕ
 changedLine v b l t =
@@ -76,12 +86,18 @@ verdictLine alike = bytes "alike\n"
 verdictLine bothStopped = bytes "both stopped\n"
 verdictLine notAlike = bytes "not alike\n"
 
--- the report, from the table before and the two tables after
-unfoldable pub reportLines : ℕ → List ℕ → BothEnds → List ℕ → List ℕ → List ℕ
-reportLines vars table e ladderTable listTable =
-    endLines e ++ (changedLines 0 (take vars table) (take vars ladderTable) (take vars listTable) ++ verdictLine (verdict e (take vars ladderTable) (take vars listTable)))
+-- the report, from the table before, the labels and times entered of the list's rungs, and the two tables after
+unfoldable pub reportOf : ℕ → List ℕ → BothEnds → List ℕ → List ℕ → List ℕ → List ℕ → List ℕ
+reportOf vars table e labels times ladderTable listTable =
+    endLines e ++ (enteredLines labels times
+    ++ (changedLines 0 (take vars table) (take vars ladderTable) (take vars listTable) ++ verdictLine (verdict e (take vars ladderTable) (take vars listTable))))
 
--- lines of 64 bytes at most, one for each variable and 512 besides: the buffer that the program writes from
+-- the same, from all that both scans left
+unfoldable pub reportLines : ℕ → List ℕ → BothEnds → Lent → List ℕ
+reportLines vars table e after =
+    reportOf vars table e (take (e .counts .rungs) (after .buffers .labels)) (take (e .counts .rungs) (after .buffers .times)) (after .ladderTable) (after .listTable)
+
+-- lines of 64 bytes at most, one for each variable and 512 besides, of which 256 for rungs: the buffer that the program writes from
 abbrev pub mostReport : ℕ
 mostReport = 64 * (mostVariables + 512)
 
@@ -93,7 +109,7 @@ lentFor table = lends table table (blank mostInstructions mostRecords)
 unfoldable pub keptScanned : ℕ → Kept → List ℕ → ℕ → Outcome
 keptScanned vars k table n =
     let c = pairedScans vars k table (lentFor table) n in
-    elim (c .answer) [ scansRefused refusal ↦ refused refusal | both e ↦ printed (reportLines vars table e (c .lent .ladderTable) (c .lent .listTable)) ]
+    elim (c .answer) [ scansRefused refusal ↦ refused refusal | both e ↦ printed (reportLines vars table e (c .lent)) ]
 
 -- V, a rung watchdog, a table and a text
 unfoldable pub textScanned : ℕ → ℕ → List ℕ → List ℕ → Outcome

@@ -15,7 +15,7 @@ use Rattle.questions.specs.Refusals.{refusalOf}
 use Rattle.questions.specs.declared.Refusal.{Refusal as RefusalCase}
 use Rattle.rungs.specs.Records.{RungRecord, rowOf}
 use Rattle.rungs.specs.Buffers.{Buffers, writtenWords, writtenRecords}
-use Rattle.ladder_definitions.specs.Kept.{Kept}
+use Rattle.ladder_definitions.specs.Kept.{Kept, keptOf}
 use Rattle.list_definitions.specs.Questions.{question10}
 use Rattle.list_definitions.specs.ListScan.{listOf}
 use Rattle.list_definitions.specs.Listing.{ListingAnswer, written, listing, listingText, fixedNames, ListingDone, refused as listingRefused, listedAnswer}
@@ -131,7 +131,7 @@ module _ (vars : ℕ) (k : Kept) {r : Translated} {after : Buffers} (done : Tran
 
     pub kept-listed : (l : List ℕ) (p : Printed) (y : List ℕ)
         → Done (listPrinted vars (take (c .instructions) (after .words))
-        (rowOf (take (c .rungs) (after .labels)) (take (c .rungs) (after .offsets)) (take (c .rungs) (after .lengths))) (countsIn c)) l p y
+        (rowOf (take (c .rungs) (after .labels)) (take (c .rungs) (after .offsets)) (take (c .rungs) (after .lengths)) (take (c .rungs) (after .times))) (countsIn c)) l p y
         → Done (keptPrinted vars k) l p y
     unfolding keptPrinted writtenWords writtenRecords
     kept-listed l p y d = rw (kept-answer, keptPrinted, ← (done .same-buffers)) d
@@ -159,10 +159,7 @@ module _ (vars : ℕ) (s : List ℕ) {r : TextRead} {after : Buffers} (done : Re
         (room-of (c .words) 8192 0 (h .0), room-of (c .rungs) 256 0 (h .1))
 
     pub read-kept : (l : List ℕ) (p : Printed) (y : List ℕ)
-        → Done (keptPrinted vars (record {
-          words = take (c .words) (after .words);
-          records = rowOf (take (c .rungs) (after .labels)) (take (c .rungs) (after .offsets)) (take (c .rungs) (after .lengths));
-        })) l p y
+        → Done (keptPrinted vars (keptOf (take (c .words) (after .words)) (take (c .rungs) (after .labels)) (take (c .rungs) (after .offsets)) (take (c .rungs) (after .lengths)) (take (c .rungs) (after .times)))) l p y
         → Done (textPrinted vars s) l p y
     unfolding textPrinted writtenKept writtenWords writtenRecords
     read-kept l p y d = rw (read-answer, textPrinted, ← (done .same-buffers)) d

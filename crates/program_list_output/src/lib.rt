@@ -2,6 +2,7 @@
 ghost use Prim.Native.Nat.{_≤_};
 ghost use Rattle.rungs.specs.Records.{rowOf};
 ghost use Rattle.printing.specs.Put.{Put};
+ghost use Rattle.ladder_definitions.specs.Kept.{keptOf};
 ghost use Rattle.translation_definitions.specs.TranslateKept.{countsIn};
 ghost use Rattle.program_definitions.specs.Outcome.{Done};
 ghost use Rattle.program_definitions.specs.Printout.{countLine, listPrinted, keptPrinted, textPrinted, outcome};
@@ -42,15 +43,16 @@ fn print_list(
     labels: &[u16],
     offsets: &[u32],
     lengths: &[u32],
+    times: &[u32],
     counts: Counts,
     out: &mut [u8],
 ) -> Printed
     ensures { λ r. ⌜ Done (listPrinted vars (now (code .entry))
-        (rowOf (now (labels .entry)) (now (offsets .entry)) (now (lengths .entry))) (countsIn counts))
+        (rowOf (now (labels .entry)) (now (offsets .entry)) (now (lengths .entry)) (now (times .entry))) (countsIn counts))
         (now (out .entry)) r (now (out .exit)) ⌝ }
 {
     let mut listing = [0u8; MOST_LISTING];
-    match list::listing(vars, code, labels, offsets, lengths, &mut listing) {
+    match list::listing(vars, code, labels, offsets, lengths, times, &mut listing) {
         Listed::Refused(refusal) => Printed::Refused(refusal),
         Listed::Written(n) => {
             let end = printing::put_text(out, 0, &listing[..n]);
@@ -66,26 +68,30 @@ fn print_kept(
     labels: &[u16],
     offsets: &[u32],
     lengths: &[u32],
+    times: &[u32],
     out: &mut [u8],
 ) -> Printed
     ensures { λ r. ⌜ Done (keptPrinted vars
-        (record { words = now (words .entry); records = rowOf (now (labels .entry)) (now (offsets .entry)) (now (lengths .entry)) }))
+        (keptOf (now (words .entry)) (now (labels .entry)) (now (offsets .entry)) (now (lengths .entry)) (now (times .entry))))
         (now (out .entry)) r (now (out .exit)) ⌝ }
 {
     let mut code = [0u32; MOST_INSTRUCTIONS];
     let mut code_labels = [0u16; MOST_RECORDS];
     let mut code_offsets = [0u32; MOST_RECORDS];
     let mut code_lengths = [0u32; MOST_RECORDS];
+    let mut code_times = [0u32; MOST_RECORDS];
     match translation::translate(
         vars,
         words,
         labels,
         offsets,
         lengths,
+        times,
         &mut code,
         &mut code_labels,
         &mut code_offsets,
         &mut code_lengths,
+        &mut code_times,
     ) {
         Translated::Refused(refusal) => Printed::Refused(refusal),
         Translated::Written(counts) => {
@@ -97,6 +103,7 @@ fn print_kept(
                 &code_labels[..m],
                 &code_offsets[..m],
                 &code_lengths[..m],
+                &code_times[..m],
                 counts,
                 out,
             )
@@ -112,6 +119,7 @@ pub fn print(vars: u32, text: &[u8], out: &mut [u8]) -> Printed
     let mut labels = [0u16; MOST_RECORDS];
     let mut offsets = [0u32; MOST_RECORDS];
     let mut lengths = [0u32; MOST_RECORDS];
+    let mut times = [0u32; MOST_RECORDS];
     match text::read(
         vars,
         text,
@@ -119,6 +127,7 @@ pub fn print(vars: u32, text: &[u8], out: &mut [u8]) -> Printed
         &mut labels,
         &mut offsets,
         &mut lengths,
+        &mut times,
     ) {
         TextRead::Refused(refusal) => Printed::Refused(refusal),
         TextRead::Kept(counts) => {
@@ -130,6 +139,7 @@ pub fn print(vars: u32, text: &[u8], out: &mut [u8]) -> Printed
                 &labels[..m],
                 &offsets[..m],
                 &lengths[..m],
+                &times[..m],
                 out,
             )
         }

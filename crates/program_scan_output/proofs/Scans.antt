@@ -5,7 +5,7 @@ use native.Mathlib.Omega.{arith}
 use mathlib.Core.Path.{_≡_, refl, sym, ap, _∙_}
 use mathlib.Core.Bool.{Bool, true, false}
 use mathlib.Core.Option.{none, some}
-use mathlib.Core.List.{List, _∷_, _++_}
+use mathlib.Core.List.{List, _∷_, _++_, map}
 use lib.Dec.{eqb, leb}
 use lib.ListN.{length, take, drop, replicate, length-append, length-replicate}
 use lib.Seq.{length-take-le, take-at}
@@ -16,26 +16,30 @@ use Rattle.questions.specs.declared.Refusal.{Refusal as RefusalCase}
 use Rattle.questions.specs.Laws.Answers.{first-yes, vars-in-range}
 use Rattle.table.specs.State.{stateOf}
 use Rattle.table.specs.Questions.{question11, tableInRange}
-use Rattle.rungs.specs.Records.{rowOf}
+use Rattle.rungs.specs.Records.{noneEntered}
 use Rattle.rungs.specs.Buffers.{Buffers, writtenWords, writtenRecords}
-use Rattle.ladder_definitions.specs.Kept.{Kept}
-use Rattle.ladder_definitions.specs.Questions.{ladderAnswer}
+use Rattle.rungs.specs.Laws.Filling.{labels-count, roomy}
+use Rattle.ladder_definitions.specs.Kept.{Kept, keptOf}
+use Rattle.ladder_definitions.specs.Questions.{ladderOf, ladderAnswer}
 use Rattle.ladder_definitions.specs.Laws.Accepting.{accepted}
 use Rattle.text_definitions.specs.Laws.Reads.{written-room as kept-room-of}
 use Rattle.text_definitions.specs.Read.{readText, kept, writtenKept, textReadAnswer, ReadDone, refused as readRefused}
 use Rattle.text_definitions.specs.declared.TextRead.{TextRead}
 use Rattle.text_definitions.specs.declared.Counts.{Counts as KeptStruct}
 use Rattle.text_definitions.specs.declared.TextRead.the-variants.{Kept as KeptCase, Refused as ReadRefusedCase}
+use Rattle.list_definitions.specs.Instruction.{instrWord}
+use Rattle.translation_definitions.specs.Translate.{translate}
+use Rattle.translation_definitions.specs.TranslateKept.{countsOf, listBuffers}
 use Rattle.translation_definitions.specs.BothScans.{Lent, lends, BothEnds, BothAnswer, both, refused as bothRefused}
 use Rattle.translation_definitions.specs.BothScans.{bothQuestions, pairedWatchdog, pairedScans, endsIn, bothScannedAnswer, BothScansDone}
-use Rattle.translation_definitions.specs.Laws.Boths.{not-refused, laterQuestions, ladder-before, both-ends, both-left, both-refused, both-scanned}
+use Rattle.translation_definitions.specs.Laws.Boths.{not-refused, laterQuestions, ladder-before, both-ends, both-left, both-refused, both-scanned, both-given}
 use Rattle.translation_definitions.specs.declared.BothEnds.{BothEnds as EndsStruct}
 use Rattle.translation_definitions.specs.declared.BothScanned.{BothScanned}
 use Rattle.translation_definitions.specs.declared.BothScanned.the-variants.{Scanned, Refused}
 use Rattle.program_definitions.specs.Laws.Outcomes.{room-of}
 use Rattle.program_definitions.specs.Outcome.{printed, refused}
 use Rattle.program_definitions.specs.Printout.{blank}
-use Rattle.program_definitions.specs.Scanout.{lentFor, reportLines, keptScanned, textScanned}
+use Rattle.program_definitions.specs.Scanout.{lentFor, reportOf, reportLines, keptScanned, textScanned}
 
 -- ---- Read
 
@@ -56,10 +60,7 @@ module _ (vars : ℕ) (text : List ℕ) {r : TextRead} {after : Buffers} (done :
         let q : readText vars text (blank 8192 256) .answer ≡ readRefused (refusalOf x) = sym (done .answer) ∙ ap textReadAnswer e in
         rw (q, textScanned) refl
 
-    pub read-kept : (c : KeptStruct) → r ≡ KeptCase c → textScanned vars w table text ≡ keptScanned vars (record {
-      words = take (c .words) (after .words);
-      records = rowOf (take (c .rungs) (after .labels)) (take (c .rungs) (after .offsets)) (take (c .rungs) (after .lengths));
-    }) table w
+    pub read-kept : (c : KeptStruct) → r ≡ KeptCase c → textScanned vars w table text ≡ keptScanned vars (keptOf (take (c .words) (after .words)) (take (c .rungs) (after .labels)) (take (c .rungs) (after .offsets)) (take (c .rungs) (after .lengths)) (take (c .rungs) (after .times))) table w
     unfolding textScanned writtenKept writtenWords writtenRecords
     read-kept c e = rw (read-answer c e, textScanned, ← (done .same-buffers)) refl
 
@@ -156,12 +157,30 @@ module _ (vars : ℕ) (k : Kept) (table : List ℕ) (n : ℕ) (u v : List ℕ) (
           let p = first-yes (ladderAnswer vars k) _ (sym (ladder-before vars k table lent n w) ∙ all-yes) in
           vars-in-range vars (accepted vars k p .1 .range) .1
 
+      abbrev m : ℕ
+      m = e .counts .rungs
+
+      ends-same : endsIn e ≡ both-ends vars k table lent n w
+      ends-same = same-ends (sym answered ∙ ap (λ c. c .answer) (both-scanned vars k table lent n w all-yes))
+
+      rungs-same : m ≡ both-ends vars k table lent n w .counts .rungs
+      unfolding endsIn
+      rungs-same = ap (λ (d : BothEnds). d .counts .rungs) ends-same
+
+      -- the list's records have room
+      pub scans-room : m ≤ 256
+      unfolding both-ends countsOf
+      scans-room =
+          let list = translate vars (ladderOf k) in
+          let given = both-given vars k table lent n w (endsIn e) answered .0 in
+          let room = roomy (listBuffers list) (blank 16384 256) (given .given .room) .labels in
+          let many = labels-count (map instrWord (list .code)) (list .records) (noneEntered (length (list .records))) in
+          omega (arith, room, many, rungs-same, length-replicate {A = ℕ} 256 0)
+
       pub scans-reported : (x y : List ℕ) → x ≡ after .ladderTable → y ≡ after .listTable
-          → keptScanned vars k table n ≡ printed (reportLines vars table (endsIn e) x y)
-      unfolding keptScanned both-ends both-left
+          → keptScanned vars k table n ≡ printed (reportOf vars table (endsIn e) (take m (after .buffers .labels)) (take m (after .buffers .times)) x y)
+      unfolding keptScanned reportLines both-ends both-left
       scans-reported x y p o =
-          let is = both-scanned vars k table lent n w all-yes in
-          let d = same-ends (sym answered ∙ ap (λ c. c .answer) is) in
-          let l = done .same-lent ∙ ap (λ c. c .lent) is in
+          let l = done .same-lent ∙ ap (λ c. c .lent) (both-scanned vars k table lent n w all-yes) in
           let theirs = both-scanned vars k table (lentFor table) n w (sym asked-same ∙ all-yes) in
-          rw (theirs, keptScanned, theirs, p, o, d, l) refl
+          rw (theirs, keptScanned, theirs, p, o, ends-same, rungs-same, l) refl

@@ -3,7 +3,7 @@ ghost use mathlib.Core.Path.{_≡_};
 ghost use Prim.Native.Nat.{min};
 ghost use Rattle.questions.specs.Questions.{mostVariables};
 ghost use Rattle.table.specs.State.{tableSize};
-ghost use Rattle.rungs.specs.Records.{rowOf};
+ghost use Rattle.ladder_definitions.specs.Kept.{keptOf};
 ghost use Rattle.program_definitions.specs.Outcome.{Done};
 ghost use Rattle.program_definitions.specs.Scanout.{keptScanned, textScanned, outcome};
 use both_scans::paired_scans;
@@ -18,7 +18,7 @@ use rungs::MOST_RECORDS;
 use text_definitions::TextRead;
 use translation_definitions::BothScanned;
 
-// A report fits here: lines of 64 bytes at most, one for each variable and 512 besides.
+// A report fits here: lines of 64 bytes at most, one for each variable and 512 besides, of which 256 for rungs.
 pub const MOST_REPORT: usize = 64 * (MOST_VARIABLES as usize + 512);
 
 // How many bytes a copy of the table is lent: as many as it has. A table that is too long for any V is refused 11, its copies being
@@ -39,12 +39,13 @@ fn report_kept(
     labels: &[u16],
     offsets: &[u32],
     lengths: &[u32],
+    times: &[u32],
     table: &[u8],
     watchdog: u32,
     out: &mut [u8],
 ) -> Printed
     ensures { λ r. ⌜ Done (keptScanned vars
-        (record { words = now (words .entry); records = rowOf (now (labels .entry)) (now (offsets .entry)) (now (lengths .entry)) })
+        (keptOf (now (words .entry)) (now (labels .entry)) (now (offsets .entry)) (now (lengths .entry)) (now (times .entry)))
         (now (table .entry)) watchdog) (now (out .entry)) r (now (out .exit)) ⌝ }
 {
     let mut ladder_table = [0u8; MOST_TABLE];
@@ -53,6 +54,7 @@ fn report_kept(
     let mut code_labels = [0u16; MOST_RECORDS];
     let mut code_offsets = [0u32; MOST_RECORDS];
     let mut code_lengths = [0u32; MOST_RECORDS];
+    let mut code_times = [0u32; MOST_RECORDS];
     let n = copy_bytes(table.len());
     match paired_scans(
         vars,
@@ -60,6 +62,7 @@ fn report_kept(
         labels,
         offsets,
         lengths,
+        times,
         table,
         &mut ladder_table[..n],
         &mut list_table[..n],
@@ -67,11 +70,22 @@ fn report_kept(
         &mut code_labels,
         &mut code_offsets,
         &mut code_lengths,
+        &mut code_times,
         watchdog,
     ) {
         BothScanned::Refused(refusal) => Printed::Refused(refusal),
         BothScanned::Scanned(ends) => {
-            let bytes = put_report(out, vars, ends, table, &ladder_table[..n], &list_table[..n]);
+            let m = ends.counts.rungs;
+            let bytes = put_report(
+                out,
+                vars,
+                ends,
+                table,
+                &ladder_table[..n],
+                &list_table[..n],
+                &code_labels[..m],
+                &code_times[..m],
+            );
             Printed::Placed(bytes)
         }
     }
@@ -86,6 +100,7 @@ pub fn report(vars: u32, watchdog: u32, table: &[u8], text: &[u8], out: &mut [u8
     let mut labels = [0u16; MOST_RECORDS];
     let mut offsets = [0u32; MOST_RECORDS];
     let mut lengths = [0u32; MOST_RECORDS];
+    let mut times = [0u32; MOST_RECORDS];
     match text::read(
         vars,
         text,
@@ -93,6 +108,7 @@ pub fn report(vars: u32, watchdog: u32, table: &[u8], text: &[u8], out: &mut [u8
         &mut labels,
         &mut offsets,
         &mut lengths,
+        &mut times,
     ) {
         TextRead::Refused(refusal) => Printed::Refused(refusal),
         TextRead::Kept(counts) => {
@@ -104,6 +120,7 @@ pub fn report(vars: u32, watchdog: u32, table: &[u8], text: &[u8], out: &mut [u8
                 &labels[..m],
                 &offsets[..m],
                 &lengths[..m],
+                &times[..m],
                 table,
                 watchdog,
                 out,

@@ -1,3 +1,4 @@
 -- Laws that the proofs of functions cite.
 pub mod Printing
+pub mod Rungs
 pub mod Verdicts

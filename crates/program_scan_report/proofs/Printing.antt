@@ -200,7 +200,7 @@ length-take-most (suc n) [] = omega arith
 length-take-most (suc n) (x ∷ xs) = omega (arith, length-take-most n xs)
 
 pub changed-reach : {l : List ℕ} {i r : ℕ} {x : List ℕ} (n : ℕ) (bs ls ts : List ℕ) → Put l i (changedLines 0 (take n bs) (take n ls) (take n ts)) r x
-    → n ≤ 1024 → i ≤ 1000 → Small bs → Small ls → Small ts → r ≤ 100000
+    → n ≤ 1024 → i ≤ 10000 → Small bs → Small ls → Small ts → r ≤ 100000
 changed-reach n bs ls ts p few from hb hl ht =
     let most = length-take-most n bs in
     let long = lines-long 0 (take n bs) (take n ls) (take n ts) (omega arith) (small-take n bs hb) (small-take n ls hl) (small-take n ts ht) in

@@ -1,12 +1,13 @@
 // The report of ladder-scan: both scans of a ladder and its list side by side. README, "ladder-scan".
 ghost use mathlib.Core.Path.{_≡_};
 ghost use Prim.Native.Nat.{_≤_};
-ghost use lib.ListN.{take};
+ghost use lib.ListN.{length, take};
 ghost use Rattle.questions.specs.Questions.{mostVariables};
+ghost use Rattle.ladder_definitions.specs.Questions.{mostRungs};
 ghost use Rattle.printing.specs.Put.{Put};
 ghost use Rattle.translation_definitions.specs.BothScans.{haltOf, endsIn};
-ghost use Rattle.program_definitions.specs.Scanout.{endWord, scanCountLines, endLines, changedLine, changedLines};
-ghost use Rattle.program_definitions.specs.Scanout.{sameBytes, verdict, verdictLine, reportLines};
+ghost use Rattle.program_definitions.specs.Scanout.{endWord, scanCountLines, endLines, enteredLine, enteredLines};
+ghost use Rattle.program_definitions.specs.Scanout.{changedLine, changedLines, sameBytes, verdict, verdictLine, reportOf};
 ghost use Rattle.program_scan_report.specs.Parts.{verdictIn};
 use translation_definitions::BothEnds;
 
@@ -57,6 +58,37 @@ fn put_ends(out: &mut [u8], ends: BothEnds) -> usize
     put_counts(out, line, ends)
 }
 
+// The line of a rung: its label, and the times that the list scan entered it (02, Req 04).
+fn put_entered(out: &mut [u8], at: usize, label: u16, times: u32) -> usize
+    requires { ⌜ at ≤ 10000 ⌝ }
+    ensures { λ r. ⌜ Put (now (out .entry)) at (enteredLine label times) r (now (out .exit)) ⌝ }
+{
+    let name = printing::put_text(out, at, b"L");
+    let number = printing::put_number(out, name, label as usize);
+    let none = printing::put_text(out, number, b" - ");
+    let entered = printing::put_number(out, none, times as usize);
+    printing::put_text(out, entered, b"\n")
+}
+
+// The lines of the rungs that were entered.
+fn put_rungs(out: &mut [u8], from: usize, labels: &[u16], times: &[u32]) -> usize
+    requires { ⌜ (from ≤ 1000) × (length (now labels) ≤ mostRungs) ⌝ }
+    ensures { λ r. ⌜ Put (now (out .entry)) from (enteredLines (now (labels .entry)) (now (times .entry))) r (now (out .exit)) ⌝ }
+{
+    let mut end = from;
+    let mut i: usize = 0;
+    while i < labels.len() {
+        if times.len() <= i {
+            return end;
+        }
+        if times[i] != 0 {
+            end = put_entered(out, end, labels[i], times[i]);
+        }
+        i += 1;
+    }
+    end
+}
+
 // The line of a variable: its value before and after, in both.
 fn put_changed(
     out: &mut [u8],
@@ -91,7 +123,7 @@ fn put_variables(
     ladder: &[u8],
     list: &[u8],
 ) -> usize
-    requires { ⌜ (from ≤ 1000) × (vars ≤ mostVariables) ⌝ }
+    requires { ⌜ (from ≤ 10000) × (vars ≤ mostVariables) ⌝ }
     ensures { λ r. ⌜ Put (now (out .entry)) from
         (changedLines 0 (take vars (now (before .entry))) (take vars (now (ladder .entry))) (take vars (now (list .entry)))) r
         (now (out .exit)) ⌝ }
@@ -170,7 +202,8 @@ fn put_verdict(out: &mut [u8], at: usize, verdict: Verdict) -> usize
     }
 }
 
-// The whole report: how the scans ended, the variables that changed, and the verdict. `before` is the table before both scans.
+// The whole report: how the scans ended, the rungs that were entered, the variables that changed, and the verdict. `before` is the
+// table before both scans; labels and times are those of the list's rungs.
 pub fn put_report(
     out: &mut [u8],
     vars: u32,
@@ -178,13 +211,17 @@ pub fn put_report(
     before: &[u8],
     ladder_left: &[u8],
     list_left: &[u8],
+    labels: &[u16],
+    times: &[u32],
 ) -> usize
-    requires { ⌜ vars ≤ mostVariables ⌝ }
+    requires { ⌜ (vars ≤ mostVariables) × (length (now labels) ≤ mostRungs) ⌝ }
     ensures { λ r. ⌜ Put (now (out .entry)) 0
-        (reportLines vars (now (before .entry)) (endsIn ends) (now («ladder_left» .entry)) (now («list_left» .entry))) r
+        (reportOf vars (now (before .entry)) (endsIn ends) (now (labels .entry)) (now (times .entry))
+        (now («ladder_left» .entry)) (now («list_left» .entry))) r
         (now (out .exit)) ⌝ }
 {
     let head = put_ends(out, ends);
-    let changed = put_variables(out, head, vars, before, ladder_left, list_left);
+    let rungs = put_rungs(out, head, labels, times);
+    let changed = put_variables(out, rungs, vars, before, ladder_left, list_left);
     put_verdict(out, changed, verdict_of(vars, ends, ladder_left, list_left))
 }

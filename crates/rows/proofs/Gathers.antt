@@ -7,9 +7,9 @@ use mathlib.Core.List.{List, [], _∷_, _++_, map}
 use lib.ListN.{length, getD, set, take, drop, replicate, length-take, length-replicate, length-map, List·getD-map}
 use Rattle.rungs.specs.Records.{RungRecord, mostRecords}
 use Rattle.rows.specs.declared.Rung.{Rung}
-use Rattle.rows.specs.Rows.{recordOf, recordsOf, noRecord}
+use Rattle.rows.specs.Rows.{recordOf, recordsOf, noRecord, rungAt}
 use Rattle.rows.specs.Parts.{overZeros, gathered, rowsOf}
-use Rattle.rows.specs.Laws.Records.{rungAt, records-length, records-at}
+use Rattle.rows.specs.Laws.Records.{records-length, records-at}
 
 abbrev pub zeros : List ℕ
 zeros = replicate mostRecords 0

@@ -4,4 +4,5 @@ pub mod Gathers
 pub mod Arrays
 pub mod Loans
 pub mod Scatters
+pub mod Times
 pub mod Fields

@@ -6,14 +6,18 @@ use mathlib.Core.Path.{_≡_, refl, ap, sym, _∙_}
 use mathlib.Core.List.{List, [], _∷_, _++_, map}
 use lib.ListN.{length, getD, set, take, drop, length-map, List·getD-map}
 use lib.Seq.{drop-cons, length-front, length-take-le}
-use Rattle.rungs.specs.Records.{RungRecord, rowOf, mostRecords}
+use Rattle.rungs.specs.Records.{RungRecord, fieldsOf, mostRecords, noneEntered}
+use Rattle.rungs.specs.Buffers.{written}
 use Rattle.rungs.specs.Laws.Rows.{Even, row-length, row-at}
 use Rattle.rows.specs.declared.Rung.{Rung}
 use Rattle.rows.specs.declared.Rows.{Rows}
-use Rattle.rows.specs.Rows.{recordsOf, noRecord}
+use Rattle.rows.specs.Rows.{recordsOf, timesOf, noRecord, noRung}
 use Rattle.rows.specs.Parts.{scattered, rungIn}
-use Rattle.rows.specs.Laws.Records.{rungOf, noRung}
 use Rattle.rows.proofs.Gathers.{laid-more}
+
+-- the struct of a record, never entered
+abbrev rungOf : RungRecord → Rung
+rungOf r = record { label = r .label; offset = r .offset; length = r .length; times = 0 }
 
 -- arrays as long as their type says
 pub record Full (rows : Rows) : Type 0 where
@@ -22,7 +26,7 @@ pub record Full (rows : Rows) : Type 0 where
   pub lengths : length (rows .lengths) ≡ mostRecords
 
 abbrev recordsIn : Rows → List RungRecord
-recordsIn rows = rowOf (rows .labels) (rows .offsets) (rows .lengths)
+recordsIn rows = fieldsOf (rows .labels) (rows .offsets) (rows .lengths)
 
 -- the row once i records are stored
 unfoldable pub scatteredTo : ℕ → Rows → List Rung → List Rung
@@ -37,6 +41,13 @@ records-laid zero rs row h k = refl
 records-laid (suc n) [] row h k = absurd (omega arith)
 records-laid (suc n) (r ∷ rs) [] h k = absurd (omega arith)
 records-laid (suc n) (r ∷ rs) (s ∷ row) h k = ap (λ (l : List RungRecord). r ∷ l) (records-laid n rs row (omega arith) (omega arith))
+
+times-laid : (n : ℕ) (rs : List RungRecord) (row : List Rung) → n ≤ length rs → n ≤ length row → timesOf (take n (map rungOf rs) ++ drop n row) ≡ written (noneEntered n) (timesOf row)
+unfolding written
+times-laid zero rs row h k = refl
+times-laid (suc n) [] row h k = absurd (omega arith)
+times-laid (suc n) (r ∷ rs) [] h k = absurd (omega arith)
+times-laid (suc n) (r ∷ rs) (s ∷ row) h k = ap (λ (l : List ℕ). 0 ∷ l) (times-laid n rs row (omega arith) (omega arith))
 
 module _ (rows : Rows) (full : Full rows) where
   even : Even (rows .labels) (rows .offsets) (rows .lengths)
@@ -73,3 +84,7 @@ module _ (rows : Rows) (full : Full rows) where
   pub scattered-all : (n : ℕ) (row : List Rung) → n ≤ mostRecords → n ≤ length row → recordsOf (scatteredTo n rows row) ≡ scattered n rows (recordsOf row)
   unfolding scatteredTo scattered
   scattered-all n row h k = let p = records-in in records-laid n (recordsIn rows) row (omega (arith, p)) k
+
+  pub scattered-times : (n : ℕ) (row : List Rung) → n ≤ mostRecords → n ≤ length row → timesOf (scatteredTo n rows row) ≡ written (noneEntered n) (timesOf row)
+  unfolding scatteredTo
+  scattered-times n row h k = let p = records-in in times-laid n (recordsIn rows) row (omega (arith, p)) k

@@ -12,9 +12,9 @@ use Rattle.rungs.specs.Records.{RungRecord, labels, search, lookUp}
 use Rattle.rungs.specs.Laws.Search.{search-within, search-before, search-at, look-found, look-missing}
 use Rattle.rungs.specs.declared.Search.the-variants.{Found, Missing}
 use Rattle.rows.specs.declared.Rung.{Rung}
-use Rattle.rows.specs.Rows.{recordOf, recordsOf}
+use Rattle.rows.specs.Rows.{recordOf, recordsOf, rungAt}
 use Rattle.rows.specs.Parts.{nextFound, searchTold}
-use Rattle.rows.specs.Laws.Records.{rungAt, labels-at, labels-length}
+use Rattle.rows.specs.Laws.Records.{labels-at, labels-length}
 
 -- ---- what the tests tell
 

@@ -4,7 +4,7 @@ use mathlib.Core.Bool.{true, false}
 use mathlib.Core.List.{List, _++_, map}
 use lib.Dec.{eqb, ltb}
 use lib.ListN.{length, getD, take, drop, replicate}
-use Rattle.rungs.specs.Records.{RungRecord, mostRecords, labels, offsets, rowOf}
+use Rattle.rungs.specs.Records.{RungRecord, mostRecords, labels, offsets, fieldsOf}
 use Rattle.rungs.specs.declared.Search.{Search}
 use Rattle.rungs.specs.declared.Search.the-variants.{Found, Missing}
 use Rattle.rows.specs.declared.Rung.{Rung}
@@ -21,8 +21,9 @@ searchTold found looked n = elim (ltb found n) [ true ↦ Found found looked | f
 abbrev pub rowsOf : List ℕ → List ℕ → List ℕ → ℕ → ℕ → Rows
 rowsOf ls os ns n k = record { labels = ls; offsets = os; lengths = ns; n = n; kept = k }
 
+-- 02, Req 04: "calls that write records put 0"
 abbrev pub rungIn : List ℕ → List ℕ → List ℕ → ℕ → Rung
-rungIn labels offsets lengths i = record { label = getD labels i 0; offset = getD offsets i 0; length = getD lengths i 0 }
+rungIn labels offsets lengths i = record { label = getD labels i 0; offset = getD offsets i 0; length = getD lengths i 0; times = 0 }
 
 -- ---- a row taken apart
 
@@ -42,4 +43,8 @@ gathered rs =
 
 -- and put together again: the first n of its records from the start; the rest stays
 unfoldable pub scattered : ℕ → Rows → List RungRecord → List RungRecord
-scattered n rows rs = take n (rowOf (rows .labels) (rows .offsets) (rows .lengths)) ++ drop n rs
+scattered n rows rs = take n (fieldsOf (rows .labels) (rows .offsets) (rows .lengths)) ++ drop n rs
+
+-- the times of the first n records stored; the rest stays
+unfoldable pub timesPut : ℕ → List ℕ → List ℕ → List ℕ
+timesPut n times old = take n times ++ drop n old

@@ -1,11 +1,13 @@
 // Rung records in one lent row. Document 01: "Rung records lie side by side in one lent row: label (16 bits), offset and length (32 bits
-// each)." The contracts speak of a row's records as those of the other crates do (rungs, Records).
+// each)." 02, Req 04: "The rung record gets a fourth field of 32 bits, the times entered." The contracts speak of a row's records as those
+// of the other crates do (rungs, Records), and of its times as a row of numbers beside them.
 ghost use mathlib.Core.Path.{_≡_};
 ghost use Prim.Native.Nat.{_<_, _≤_, min};
-ghost use lib.ListN.{length, set};
-ghost use Rattle.rungs.specs.Records.{labels, lookUp, mostRecords};
-ghost use Rattle.rows.specs.Rows.{recordOf, recordsOf, recordAt};
-ghost use Rattle.rows.specs.Parts.{gathered, scattered, nextFound, rowsOf, rungIn, searchTold};
+ghost use lib.ListN.{length, getD, set};
+ghost use Rattle.rungs.specs.Records.{labels, lookUp, mostRecords, noneEntered};
+ghost use Rattle.rungs.specs.Buffers.{written};
+ghost use Rattle.rows.specs.Rows.{recordOf, recordsOf, rungAt, timesOf};
+ghost use Rattle.rows.specs.Parts.{gathered, scattered, nextFound, rowsOf, rungIn, searchTold, timesPut};
 use rungs::MOST_RECORDS;
 use rungs::Search;
 
@@ -13,9 +15,11 @@ pub struct Rung {
     pub label: u16,
     pub offset: u32,
     pub length: u32,
+    pub times: u32,
 }
 
-// The fields of a row's first records, no more than question 5 and question 10 take: `n` were lent, `kept` of them stand here.
+// The fields of a row's first records, no more than question 5 and question 10 take: `n` were lent, `kept` of them stand here. Times are
+// not gathered (02, Req 04: "Any value is taken").
 pub struct Rows {
     pub labels: [u16; MOST_RECORDS],
     pub offsets: [u32; MOST_RECORDS],
@@ -27,7 +31,7 @@ pub struct Rows {
 // The record at a place, from 0.
 pub fn rung_at(row: &[Rung], i: usize) -> Rung
     requires { ⌜ i < length (now row) ⌝ }
-    ensures { λ r. ⌜ recordOf r ≡ recordAt (recordsOf (now (row .entry))) i ⌝ }
+    ensures { λ r. ⌜ r ≡ rungAt (now (row .entry)) i ⌝ }
 {
     row[i]
 }
@@ -129,7 +133,7 @@ pub fn gather(row: &[Rung]) -> Rows
     rows_of(labels, offsets, lengths, row.len(), kept)
 }
 
-// The record at a place of the arrays.
+// The record at a place of the arrays, never entered (02, Req 04: "calls that write records put 0").
 fn rung_in(
     labels: &[u16; MOST_RECORDS],
     offsets: &[u32; MOST_RECORDS],
@@ -143,13 +147,15 @@ fn rung_in(
         label: labels[i],
         offset: offsets[i],
         length: lengths[i],
+        times: 0,
     }
 }
 
 // The first `n` records of the arrays, from the start of the row; the rest stays.
 pub fn scatter(row: &mut [Rung], rows: Rows, n: usize)
     requires { ⌜ (n ≤ mostRecords) × (n ≤ length (now row)) ⌝ }
-    ensures { λ _. ⌜ recordsOf (now (row .exit)) ≡ scattered n rows (recordsOf (now (row .entry))) ⌝ }
+    ensures { λ _. ⌜ (recordsOf (now (row .exit)) ≡ scattered n rows (recordsOf (now (row .entry))))
+        × (timesOf (now (row .exit)) ≡ written (noneEntered n) (timesOf (now (row .entry)))) ⌝ }
 {
     let labels = rows.labels;
     let offsets = rows.offsets;
@@ -161,6 +167,29 @@ pub fn scatter(row: &mut [Rung], rows: Rows, n: usize)
     let mut i = 0;
     while i < n {
         row[i] = rung_in(labels_lent, offsets_lent, lengths_lent, i);
+        i += 1;
+    }
+}
+
+// The time at a place of the array.
+fn time_in(times: &[u32; MOST_RECORDS], i: usize) -> u32
+    requires { ⌜ i < mostRecords ⌝ }
+    ensures { λ r. ⌜ r ≡ getD (now (times .entry)) i 0 ⌝ }
+{
+    times[i]
+}
+
+// The times of the first `n` records, each stored in place; the rest of each record and of the row stays.
+pub fn put_times(row: &mut [Rung], times: [u32; MOST_RECORDS], n: usize)
+    requires { ⌜ (n ≤ mostRecords) × (n ≤ length (now row)) ⌝ }
+    ensures { λ _. ⌜ (recordsOf (now (row .exit)) ≡ recordsOf (now (row .entry)))
+        × (timesOf (now (row .exit)) ≡ timesPut n times (timesOf (now (row .entry)))) ⌝ }
+{
+    // Lent once: a turn copies no array.
+    let times_lent = &times;
+    let mut i = 0;
+    while i < n {
+        row[i].times = time_in(times_lent, i);
         i += 1;
     }
 }

@@ -1,3 +1,4 @@
 -- Laws that the proofs of functions cite, in this crate and in those above it.
 pub mod Searches
+pub mod Zeros
 pub mod Again

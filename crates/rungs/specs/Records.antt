@@ -3,11 +3,13 @@ use Prim.Native.Nat.{ℕ, suc, _+_, max}
 use mathlib.Core.Bool.{Bool, true, false, _&&_, _||_}
 use mathlib.Core.List.{List, [], _∷_, map, zipWith}
 use lib.Dec.{eqb, ltb}
-use lib.ListN.{length, getD}
+use lib.ListN.{length, getD, replicate}
+use Rattle.questions.specs.Tests.{bit}
 use Rattle.rungs.specs.declared.Search.{Search}
 use Rattle.rungs.specs.declared.Search.the-variants.{Found, Missing}
 
--- "Rung records lie side by side in one lent row: label (16 bits), offset and length (32 bits each)."
+-- "Rung records lie side by side in one lent row: label (16 bits), offset and length (32 bits each)." 02, Req 04: "The rung record gets a fourth field of
+-- 32 bits, the times entered. Any value is taken": the fourth fields stand in a row of numbers of their own, beside the records; no question looks at them.
 pub record RungRecord : Type 0 where
   pub label : ℕ
   pub offset : ℕ
@@ -63,14 +65,32 @@ unfoldable pub isStart : List RungRecord → ℕ → Bool
 isStart [] i = false
 isStart (r ∷ rs) i = eqb (r .offset) i || isStart rs i
 
+-- 02, Req 04, "the times entered": those after an instruction at index i, which enters the rung whose record begins there, from those before it
+unfoldable pub enter : List RungRecord → ℕ → List ℕ → List ℕ
+enter rs i times = zipWith (λ (r : RungRecord) (n : ℕ). n + bit (eqb (r .offset) i)) rs times
+
+-- of some rungs, none entered
+abbrev pub noneEntered : ℕ → List ℕ
+noneEntered rungs = replicate rungs 0
+
+-- "add up"
+unfoldable pub sum : List ℕ → ℕ
+sum [] = 0
+sum (n ∷ ns) = n + sum ns
+
 -- "L, the longest rung's length in instructions"
 unfoldable pub longest : List RungRecord → ℕ
 longest [] = 0
 longest (r ∷ rs) = max (r .length) (longest rs)
 
--- Three number slices as one row of records. Slices of unequal lengths are no row: questions 4 and 10 say "no" to an empty one.
-unfoldable pub rowOf : List ℕ → List ℕ → List ℕ → List RungRecord
-rowOf ls os ns = elim (eqb (length ls) (length os) && eqb (length os) (length ns)) [
+-- Labels, offsets and lengths as records; none where they are not equally many.
+unfoldable pub fieldsOf : List ℕ → List ℕ → List ℕ → List RungRecord
+fieldsOf ls os ns = elim (eqb (length ls) (length os) && eqb (length os) (length ns)) [
   | true ↦ zipWith (λ (make : ℕ → RungRecord) n. make n) (zipWith (λ l o n. record { label = l; offset = o; length = n }) ls os) ns
   | false ↦ []
 ]
+
+-- Four number slices as one row of records. Slices of unequal lengths are no row: questions 4 and 10 say "no" to an empty one. 02, Req 04, "Any value is
+-- taken": of the times it is only looked at how many they are.
+unfoldable pub rowOf : List ℕ → List ℕ → List ℕ → List ℕ → List RungRecord
+rowOf ls os ns times = elim (eqb (length ls) (length times)) [ true ↦ fieldsOf ls os ns | false ↦ [] ]

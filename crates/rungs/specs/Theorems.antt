@@ -1,4 +1,5 @@
--- What is proved of the search for a label, a theorem to a sentence; the proofs are in Laws.Search. Document 02, Req 03. Assumes nothing.
+-- What is proved of the search for a label, a theorem to a sentence; the proofs are in Laws.Search. Document 02, Req 03; and of the times entered, Req 04.
+-- Assumes nothing.
 use Prim.Native.Nat.{ℕ, _+_, _<_}
 use mathlib.Core.Path.{_≡_}
 use mathlib.Core.Logic.{_↔_}
@@ -6,7 +7,7 @@ use mathlib.Core.Option.{some}
 use mathlib.Core.List.{List}
 use lib.Dec.{T}
 use lib.ListN.{length, getElem?, take}
-use Rattle.rungs.specs.Records.{search, present, lookedAt, lookUp}
+use Rattle.rungs.specs.Records.{search, present, lookedAt, lookUp, rowOf}
 use Rattle.rungs.specs.Laws.Search.{looked-first, told-found, found-told, told-missing, missing-told, place-found, present-found, found-is-present}
 use Rattle.rungs.specs.declared.Search.the-variants.{Found, Missing}
 
@@ -38,10 +39,15 @@ missing-exactly l ls looked = (
 pub looked-from-first : (l : ℕ) (ls : List ℕ) → lookedAt l ls ≡ take (length (lookedAt l ls)) ls
 looked-from-first l ls = looked-first l ls
 
--- Question 8 says "yes" of a jump's label exactly when the search finds it.
+-- A label is present, by which question 8 is defined, exactly when the search finds it.
 pub present-exactly : (l : ℕ) (ls : List ℕ) → T (present l ls) ↔ ((place : ℕ) × (looked : ℕ) × (lookUp l ls ≡ Found place looked))
 present-exactly l ls = (present-found l ls, (λ h. found-is-present l ls (h .0) (h .1) (h .2)))
 
 -- The place found is the one that the definitions of the calls go by: a taken jump's rung, and where it begins in the list.
 pub same-place : (l : ℕ) (ls : List ℕ) (place looked : ℕ) → lookUp l ls ≡ Found place looked → search l ls ≡ place
 same-place l ls place looked e = place-found l ls place looked e
+
+-- 02, Req 04: "Any value is taken": the row that the calls are asked about is the same whatever the times are.
+pub any-times : (ls os ns ts us : List ℕ) → length ts ≡ length us → rowOf ls os ns ts ≡ rowOf ls os ns us
+unfolding rowOf
+any-times ls os ns ts us e = rw (e, rowOf)

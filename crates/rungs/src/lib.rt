@@ -2,7 +2,8 @@
 // nothing, and nothing is written.
 ghost use mathlib.Core.Path.{_≡_};
 ghost use Prim.Native.Nat.{max};
-ghost use lib.ListN.{getD, set};
+ghost use lib.ListN.{getD, set, replicate};
+ghost use lib.Seq.{sets};
 ghost use Rattle.rungs.specs.Records.{lookUp};
 ghost use Rattle.rungs.specs.Parts.{placeOf};
 
@@ -41,6 +42,17 @@ pub fn put_label(labels: &mut [u16], at: usize, label: u16)
 {
     if at < labels.len() {
         labels[at] = label;
+    }
+}
+
+// Zeros from the start, so many.
+pub fn put_zeros(words: &mut [u32], count: usize)
+    ensures { λ _. ⌜ now (words .exit) ≡ sets (now (words .entry)) 0 (replicate count 0) ⌝ }
+{
+    let mut put: usize = 0;
+    while put < count {
+        put_word(words, put, 0);
+        put += 1;
     }
 }
 

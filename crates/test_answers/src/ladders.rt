@@ -1,6 +1,4 @@
 // Ladder scan (kind 3).
-ghost use Prim.Native.Nat.{_≤_};
-ghost use lib.ListN.{length};
 use ladder_definitions::Counts;
 use ladder_definitions::LadderScanned;
 use test_requests::State;
@@ -29,31 +27,28 @@ fn put_scanned(room: &mut [u8], placed: usize, answer: LadderScanned) -> usize {
 fn answer_scan(
     room: &mut [u8],
     placed: usize,
-    lent: Lent,
+    vars: u32,
     words: &[u32],
     labels: &[u16],
     offsets: &[u32],
     lengths: &[u32],
+    times: &[u32],
     given: &[u8],
     table: &mut [u8],
     watchdog: u32,
     turns: u32,
-) -> usize
-    requires { ⌜ (lent .words ≤ length (now words)) × (lent .records ≤ length (now labels))
-        × (lent .records ≤ length (now offsets)) × (lent .records ≤ length (now lengths)) ⌝ }
-{
-    let n = lent.words;
-    let m = lent.records;
+) -> usize {
     let mut answer = LadderScanned::Stopped(Counts { rungs: 0, moved: 0 });
     let mut left = turns;
     while 0 < left {
         test_requests::copy_bytes(given, table);
         answer = ladder::ladder_scan(
-            lent.vars,
-            &words[..n],
-            &labels[..m],
-            &offsets[..m],
-            &lengths[..m],
+            vars,
+            words,
+            labels,
+            offsets,
+            lengths,
+            times,
             table,
             watchdog,
         );
@@ -62,6 +57,47 @@ fn answer_scan(
     let ended = put_scanned(room, placed, answer);
     let shown = output::put_bytes(room, ended, table, table.len());
     output::put_byte(room, shown, b'\n')
+}
+
+// Ladder scan of a ladder that was read, from its table on.
+fn scan_lent(
+    chunk: &mut [u8],
+    room: &mut [u8],
+    placed: usize,
+    lent: Lent,
+    words: &[u32],
+    labels: &[u16],
+    offsets: &[u32],
+    lengths: &[u32],
+    times: &[u32],
+    turns: u32,
+) -> State {
+    let mut given = [0u8; 1100];
+    let mut table = [0u8; 1100];
+    let filled = input::read_table(chunk, lent.input, &mut given);
+    let input = input::more(chunk, filled.input);
+    if !input::is_line_end(input) {
+        return test_requests::refuse(placed);
+    }
+    let t = filled.count;
+    let answered = answer_scan(
+        room,
+        placed,
+        lent.vars,
+        words,
+        labels,
+        offsets,
+        lengths,
+        times,
+        &given[..t],
+        &mut table[..t],
+        input.value,
+        turns,
+    );
+    State {
+        input,
+        placed: answered,
+    }
 }
 
 // Ladder scan, from the number after its kind on.
@@ -76,8 +112,7 @@ pub fn scan_request(
     let mut labels = [0u16; 400];
     let mut offsets = [0u32; 400];
     let mut lengths = [0u32; 400];
-    let mut given = [0u8; 1100];
-    let mut table = [0u8; 1100];
+    let mut times = [0u32; 400];
     let lent = input::read_lent(
         chunk,
         begun,
@@ -85,28 +120,20 @@ pub fn scan_request(
         &mut labels,
         &mut offsets,
         &mut lengths,
+        &mut times,
     );
-    let filled = input::read_table(chunk, lent.input, &mut given);
-    let input = input::more(chunk, filled.input);
-    if !input::is_line_end(input) {
-        return test_requests::refuse(placed);
-    }
-    let t = filled.count;
-    let answered = answer_scan(
+    let n = lent.words;
+    let m = lent.records;
+    scan_lent(
+        chunk,
         room,
         placed,
         lent,
-        &words,
-        &labels,
-        &offsets,
-        &lengths,
-        &given[..t],
-        &mut table[..t],
-        input.value,
+        &words[..n],
+        &labels[..m],
+        &offsets[..m],
+        &lengths[..m],
+        &times[..m],
         turns,
-    );
-    State {
-        input,
-        placed: answered,
-    }
+    )
 }

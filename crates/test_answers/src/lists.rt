@@ -1,6 +1,5 @@
 // List scan (kind 4) and Listing (kind 5).
 ghost use mathlib.Core.Path.{_≡_};
-ghost use Prim.Native.Nat.{_≤_};
 ghost use lib.ListN.{length};
 use list_definitions::Counts;
 use list_definitions::ListScanned;
@@ -47,78 +46,98 @@ fn none_scanned() -> ListScanned {
     })
 }
 
-// Calls List scan on what was read, in each turn on a copy of the table, and puts the last answer.
+// Calls List scan on what was read, in each turn on a copy of the table, and puts the last answer. The times entered need no copy: a
+// scan sets them for itself alone, and one that is refused touches none.
 fn answer_scan(
     room: &mut [u8],
     placed: usize,
-    lent: Lent,
+    vars: u32,
     code: &[u32],
     labels: &[u16],
     offsets: &[u32],
     lengths: &[u32],
+    times: &mut [u32],
     given: &[u8],
     table: &mut [u8],
     watchdog: u32,
     turns: u32,
-) -> usize
-    requires { ⌜ (lent .words ≤ length (now code)) × (lent .records ≤ length (now labels))
-        × (lent .records ≤ length (now offsets)) × (lent .records ≤ length (now lengths)) ⌝ }
-{
-    let n = lent.words;
-    let m = lent.records;
+) -> usize {
     let mut answer = none_scanned();
     let mut left = turns;
     while 0 < left {
         test_requests::copy_bytes(given, table);
-        answer = list::list_scan(
-            lent.vars,
-            &code[..n],
-            &labels[..m],
-            &offsets[..m],
-            &lengths[..m],
-            table,
-            watchdog,
-        );
+        answer = list::list_scan(vars, code, labels, offsets, lengths, times, table, watchdog);
         left -= 1;
     }
     let ended = put_scanned(room, placed, answer);
     let shown = output::put_bytes(room, ended, table, table.len());
-    output::put_byte(room, shown, b'\n')
+    let counted = output::put_items(room, shown, times, times.len());
+    output::put_byte(room, counted, b'\n')
 }
 
 // Calls Listing on what was read, and puts the answer.
 fn answer_listing(
     room: &mut [u8],
     placed: usize,
-    lent: Lent,
+    vars: u32,
     code: &[u32],
     labels: &[u16],
     offsets: &[u32],
     lengths: &[u32],
+    times: &[u32],
     out: &mut [u8],
     turns: u32,
-) -> usize
-    requires { ⌜ (lent .words ≤ length (now code)) × (lent .records ≤ length (now labels))
-        × (lent .records ≤ length (now offsets)) × (lent .records ≤ length (now lengths)) ⌝ }
-{
-    let n = lent.words;
-    let m = lent.records;
+) -> usize {
     let mut answer = Listed::Written(0);
     let mut left = turns;
     while 0 < left {
-        answer = list::listing(
-            lent.vars,
-            &code[..n],
-            &labels[..m],
-            &offsets[..m],
-            &lengths[..m],
-            out,
-        );
+        answer = list::listing(vars, code, labels, offsets, lengths, times, out);
         left -= 1;
     }
     let ended = put_listed(room, placed, answer);
     let shown = output::put_buffer(room, ended, out);
     output::put_byte(room, shown, b'\n')
+}
+
+// List scan of a list that was read, from its table on.
+fn scan_lent(
+    chunk: &mut [u8],
+    room: &mut [u8],
+    placed: usize,
+    lent: Lent,
+    code: &[u32],
+    labels: &[u16],
+    offsets: &[u32],
+    lengths: &[u32],
+    times: &mut [u32],
+    turns: u32,
+) -> State {
+    let mut given = [0u8; 1100];
+    let mut table = [0u8; 1100];
+    let filled = input::read_table(chunk, lent.input, &mut given);
+    let input = input::more(chunk, filled.input);
+    if !input::is_line_end(input) {
+        return test_requests::refuse(placed);
+    }
+    let t = filled.count;
+    let answered = answer_scan(
+        room,
+        placed,
+        lent.vars,
+        code,
+        labels,
+        offsets,
+        lengths,
+        times,
+        &given[..t],
+        &mut table[..t],
+        input.value,
+        turns,
+    );
+    State {
+        input,
+        placed: answered,
+    }
 }
 
 // List scan, from the number after its kind on.
@@ -133,8 +152,7 @@ pub fn scan_request(
     let mut labels = [0u16; 400];
     let mut offsets = [0u32; 400];
     let mut lengths = [0u32; 400];
-    let mut given = [0u8; 1100];
-    let mut table = [0u8; 1100];
+    let mut times = [0u32; 400];
     let lent = input::read_lent(
         chunk,
         begun,
@@ -142,30 +160,22 @@ pub fn scan_request(
         &mut labels,
         &mut offsets,
         &mut lengths,
+        &mut times,
     );
-    let filled = input::read_table(chunk, lent.input, &mut given);
-    let input = input::more(chunk, filled.input);
-    if !input::is_line_end(input) {
-        return test_requests::refuse(placed);
-    }
-    let t = filled.count;
-    let answered = answer_scan(
+    let n = lent.words;
+    let m = lent.records;
+    scan_lent(
+        chunk,
         room,
         placed,
         lent,
-        &code,
-        &labels,
-        &offsets,
-        &lengths,
-        &given[..t],
-        &mut table[..t],
-        input.value,
+        &code[..n],
+        &labels[..m],
+        &offsets[..m],
+        &lengths[..m],
+        &mut times[..m],
         turns,
-    );
-    State {
-        input,
-        placed: answered,
-    }
+    )
 }
 
 // The filling of a listing buffer.
@@ -173,6 +183,43 @@ fn blank_listing() -> [u8; 70000]
     ensures { λ r. ⌜ 70000 ≡ length r ⌝ }
 {
     [255u8; 70000]
+}
+
+// Listing of a list that was read, from the room for it on.
+fn listing_lent(
+    chunk: &mut [u8],
+    room: &mut [u8],
+    placed: usize,
+    lent: Lent,
+    code: &[u32],
+    labels: &[u16],
+    offsets: &[u32],
+    lengths: &[u32],
+    times: &[u32],
+    turns: u32,
+) -> State {
+    let mut out = blank_listing();
+    let input = input::limited(chunk, lent.input, 70000);
+    if !input::is_line_end(input) {
+        return test_requests::refuse(placed);
+    }
+    let bytes = input.value as usize;
+    let answered = answer_listing(
+        room,
+        placed,
+        lent.vars,
+        code,
+        labels,
+        offsets,
+        lengths,
+        times,
+        &mut out[..bytes],
+        turns,
+    );
+    State {
+        input,
+        placed: answered,
+    }
 }
 
 // Listing, from the number after its kind on.
@@ -187,7 +234,7 @@ pub fn listing_request(
     let mut labels = [0u16; 400];
     let mut offsets = [0u32; 400];
     let mut lengths = [0u32; 400];
-    let mut out = blank_listing();
+    let mut times = [0u32; 400];
     let lent = input::read_lent(
         chunk,
         begun,
@@ -195,25 +242,20 @@ pub fn listing_request(
         &mut labels,
         &mut offsets,
         &mut lengths,
+        &mut times,
     );
-    let input = input::limited(chunk, lent.input, 70000);
-    if !input::is_line_end(input) {
-        return test_requests::refuse(placed);
-    }
-    let bytes = input.value as usize;
-    let answered = answer_listing(
+    let n = lent.words;
+    let m = lent.records;
+    listing_lent(
+        chunk,
         room,
         placed,
         lent,
-        &code,
-        &labels,
-        &offsets,
-        &lengths,
-        &mut out[..bytes],
+        &code[..n],
+        &labels[..m],
+        &offsets[..m],
+        &lengths[..m],
+        &times[..m],
         turns,
-    );
-    State {
-        input,
-        placed: answered,
-    }
+    )
 }

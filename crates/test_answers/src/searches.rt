@@ -42,7 +42,15 @@ pub fn search_request(
     let mut labels = [0u16; 400];
     let mut offsets = [0u32; 400];
     let mut lengths = [0u32; 400];
-    let laid = input::read_rows(chunk, begun, &mut labels, &mut offsets, &mut lengths);
+    let mut times = [0u32; 400];
+    let laid = input::read_rows(
+        chunk,
+        begun,
+        &mut labels,
+        &mut offsets,
+        &mut lengths,
+        &mut times,
+    );
     let label = input::more(chunk, laid.input);
     if !input::is_line_end(label) {
         return test_requests::refuse(placed);

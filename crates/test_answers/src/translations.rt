@@ -1,6 +1,5 @@
 // Translate (kind 2).
 ghost use Prim.Native.Nat.{_≤_};
-ghost use lib.ListN.{length};
 use test_requests::State;
 use test_requests::input;
 use test_requests::input::Input;
@@ -35,41 +34,40 @@ fn none_translated() -> Translated {
 fn answer_translate(
     room: &mut [u8],
     placed: usize,
-    lent: Lent,
+    vars: u32,
     words: &[u32],
     labels: &[u16],
     offsets: &[u32],
     lengths: &[u32],
+    times: &[u32],
     code: &mut [u32],
-    code_labels: &mut [u16],
-    code_offsets: &mut [u32],
-    code_lengths: &mut [u32],
+    new_labels: &mut [u16],
+    new_offsets: &mut [u32],
+    new_lengths: &mut [u32],
+    new_times: &mut [u32],
     turns: u32,
-) -> usize
-    requires { ⌜ (lent .words ≤ length (now words)) × (lent .records ≤ length (now labels))
-        × (lent .records ≤ length (now offsets)) × (lent .records ≤ length (now lengths)) ⌝ }
-{
-    let n = lent.words;
-    let m = lent.records;
+) -> usize {
     let mut answer = none_translated();
     let mut left = turns;
     while 0 < left {
         answer = translation::translate(
-            lent.vars,
-            &words[..n],
-            &labels[..m],
-            &offsets[..m],
-            &lengths[..m],
+            vars,
+            words,
+            labels,
+            offsets,
+            lengths,
+            times,
             code,
-            code_labels,
-            code_offsets,
-            code_lengths,
+            new_labels,
+            new_offsets,
+            new_lengths,
+            new_times,
         );
         left -= 1;
     }
     let ended = put_translated(room, placed, answer);
     let shown = output::put_words(room, ended, code);
-    let laid = output::put_records(room, shown, code_labels, code_offsets, code_lengths);
+    let laid = output::put_records(room, shown, new_labels, new_offsets, new_lengths, new_times);
     output::put_byte(room, laid, b'\n')
 }
 
@@ -77,37 +75,76 @@ fn answer_translate(
 fn answer_with_room(
     room: &mut [u8],
     placed: usize,
+    vars: u32,
+    words: &[u32],
+    labels: &[u16],
+    offsets: &[u32],
+    lengths: &[u32],
+    times: &[u32],
+    instructions: usize,
+    records: usize,
+    turns: u32,
+) -> usize
+    requires { ⌜ (instructions ≤ 20000) × (records ≤ 400) ⌝ }
+{
+    let mut code = [4294967295u32; 20000];
+    let mut new_labels = [65535u16; 400];
+    let mut new_offsets = [4294967295u32; 400];
+    let mut new_lengths = [4294967295u32; 400];
+    let mut new_times = [4294967295u32; 400];
+    answer_translate(
+        room,
+        placed,
+        vars,
+        words,
+        labels,
+        offsets,
+        lengths,
+        times,
+        &mut code[..instructions],
+        &mut new_labels[..records],
+        &mut new_offsets[..records],
+        &mut new_lengths[..records],
+        &mut new_times[..records],
+        turns,
+    )
+}
+
+// Translate of a ladder that was read, from the room for instructions on.
+fn translate_lent(
+    chunk: &mut [u8],
+    room: &mut [u8],
+    placed: usize,
     lent: Lent,
     words: &[u32],
     labels: &[u16],
     offsets: &[u32],
     lengths: &[u32],
-    instructions: usize,
-    records: usize,
+    times: &[u32],
     turns: u32,
-) -> usize
-    requires { ⌜ (lent .words ≤ length (now words)) × (lent .records ≤ length (now labels))
-        × (lent .records ≤ length (now offsets)) × (lent .records ≤ length (now lengths))
-        × (instructions ≤ 20000) × (records ≤ 400) ⌝ }
-{
-    let mut code = [4294967295u32; 20000];
-    let mut code_labels = [65535u16; 400];
-    let mut code_offsets = [4294967295u32; 400];
-    let mut code_lengths = [4294967295u32; 400];
-    answer_translate(
+) -> State {
+    let room_for_code = input::limited(chunk, lent.input, 20000);
+    let room_for_records = input::limited(chunk, room_for_code, 400);
+    if !input::is_line_end(room_for_records) {
+        return test_requests::refuse(placed);
+    }
+    let answered = answer_with_room(
         room,
         placed,
-        lent,
+        lent.vars,
         words,
         labels,
         offsets,
         lengths,
-        &mut code[..instructions],
-        &mut code_labels[..records],
-        &mut code_offsets[..records],
-        &mut code_lengths[..records],
+        times,
+        room_for_code.value as usize,
+        room_for_records.value as usize,
         turns,
-    )
+    );
+    State {
+        input: room_for_records,
+        placed: answered,
+    }
 }
 
 // Translate, from the number after its kind on.
@@ -122,6 +159,7 @@ pub fn translate_request(
     let mut labels = [0u16; 400];
     let mut offsets = [0u32; 400];
     let mut lengths = [0u32; 400];
+    let mut times = [0u32; 400];
     let lent = input::read_lent(
         chunk,
         begun,
@@ -129,26 +167,20 @@ pub fn translate_request(
         &mut labels,
         &mut offsets,
         &mut lengths,
+        &mut times,
     );
-    let room_for_code = input::limited(chunk, lent.input, 20000);
-    let room_for_records = input::limited(chunk, room_for_code, 400);
-    if !input::is_line_end(room_for_records) {
-        return test_requests::refuse(placed);
-    }
-    let answered = answer_with_room(
+    let n = lent.words;
+    let m = lent.records;
+    translate_lent(
+        chunk,
         room,
         placed,
         lent,
-        &words,
-        &labels,
-        &offsets,
-        &lengths,
-        room_for_code.value as usize,
-        room_for_records.value as usize,
+        &words[..n],
+        &labels[..m],
+        &offsets[..m],
+        &lengths[..m],
+        &times[..m],
         turns,
-    );
-    State {
-        input: room_for_records,
-        placed: answered,
-    }
+    )
 }

@@ -1,7 +1,7 @@
 // Runs document 01's case A, and then a ladder with set and reset coils, through the calls over rows: this program owns two rows of rung
-// records, the ladder's and the list's, and lends them. It prints what each call answered, the variables that each scan left, and the
-// listing. Then it lends rows of 300 records, which the calls refuse: 5, or 4 where the last record does not fit; List scan and Listing 10.
-// Last it searches a row of 300 records for labels.
+// records, the ladder's and the list's, and lends them. It prints what each call answered, the variables and the times entered that each
+// scan left (document 02, Req 04), and the listing. Then it lends rows of 300 records, which the calls refuse: 5, or 4 where the last
+// record does not fit; List scan and Listing 10. Last it searches a row of 300 records for labels.
 use ladder_definitions::LadderScanned;
 use libc::STDOUT_FILENO;
 use list_definitions::ListScanned;
@@ -45,21 +45,35 @@ const CONTACT: u32 = 65536;
 
 const COIL: u32 = 327681;
 
-// What the five calls answered.
+// Times entered of records that no call has written yet. 02, Req 04: "Any value is taken".
+const TIMES: u32 = 7;
+
+const LONG_TIMES: u32 = 9;
+
+// What the five calls answered, and the ladder's row and the list's row after them.
 struct Answers {
     read: TextRead,
     translated: Translated,
     ladder: LadderScanned,
     list: ListScanned,
     listed: Listed,
+    row: [Rung; RUNGS],
+    code_row: [Rung; RUNGS],
 }
 
-// What four of them answered to a row of 300 records.
+// What four of them answered to a row of 300 records, and the row after them.
 struct LongAnswers {
     translated: Translated,
     ladder: LadderScanned,
     list: ListScanned,
     listed: Listed,
+    row: [Rung; LONG_RUNGS],
+}
+
+// The times entered of a row's first and last record.
+struct Times {
+    first: u32,
+    last: u32,
 }
 
 fn no_words() -> [u32; WORDS] {
@@ -71,6 +85,7 @@ fn no_row() -> [Rung; RUNGS] {
         label: 0,
         offset: 0,
         length: 0,
+        times: TIMES,
     }; RUNGS]
 }
 
@@ -80,6 +95,8 @@ fn answers_of(
     ladder: LadderScanned,
     list: ListScanned,
     listed: Listed,
+    row: [Rung; RUNGS],
+    code_row: [Rung; RUNGS],
 ) -> Answers {
     Answers {
         read,
@@ -87,6 +104,8 @@ fn answers_of(
         ladder,
         list,
         listed,
+        row,
+        code_row,
     }
 }
 
@@ -104,9 +123,9 @@ fn run_rows(
     let read = text_rows::read(VARS, text, &mut words, &mut row);
     let translated = translation_rows::translate(VARS, &words, &row, &mut code, &mut code_row);
     let ladder = ladder_rows::ladder_scan(VARS, &words, &row, ladder_table, RUNG_WATCHDOG);
-    let list = list_rows::list_scan(VARS, &code, &code_row, list_table, INSTRUCTION_WATCHDOG);
+    let list = list_rows::list_scan(VARS, &code, &mut code_row, list_table, INSTRUCTION_WATCHDOG);
     let listed = list_rows::listing(VARS, &code, &code_row, lines);
-    answers_of(read, translated, ladder, list, listed)
+    answers_of(read, translated, ladder, list, listed, row, code_row)
 }
 
 fn long_words() -> [u32; LONG_WORDS] {
@@ -123,6 +142,7 @@ fn long_row(last: u32) -> [Rung; LONG_RUNGS] {
         label: 0,
         offset: 0,
         length: 2,
+        times: LONG_TIMES,
     }; LONG_RUNGS];
     for i in 0..LONG_RUNGS {
         row[i].label = i as u16;
@@ -137,18 +157,20 @@ fn long_answers_of(
     ladder: LadderScanned,
     list: ListScanned,
     listed: Listed,
+    row: [Rung; LONG_RUNGS],
 ) -> LongAnswers {
     LongAnswers {
         translated,
         ladder,
         list,
         listed,
+        row,
     }
 }
 
 // Four of the calls, over one row of records: the words are a ladder, and a list. Translate writes into a copy of the row.
 fn run_long(
-    row: [Rung; LONG_RUNGS],
+    mut row: [Rung; LONG_RUNGS],
     words: &[u32],
     code: &mut [u32],
     ladder_table: &mut [u8],
@@ -158,9 +180,9 @@ fn run_long(
     let mut code_row = row;
     let translated = translation_rows::translate(VARS, words, &row, code, &mut code_row);
     let ladder = ladder_rows::ladder_scan(VARS, words, &row, ladder_table, RUNG_WATCHDOG);
-    let list = list_rows::list_scan(VARS, words, &row, list_table, INSTRUCTION_WATCHDOG);
+    let list = list_rows::list_scan(VARS, words, &mut row, list_table, INSTRUCTION_WATCHDOG);
     let listed = list_rows::listing(VARS, words, &row, lines);
-    long_answers_of(translated, ladder, list, listed)
+    long_answers_of(translated, ladder, list, listed, row)
 }
 
 // 300 records, of which two have one label.
@@ -257,6 +279,25 @@ fn put_variables(room: &mut [u8], placed: usize, table: &[u8]) -> usize {
     output::put_bytes(room, name, table, VARS as usize)
 }
 
+fn times_of(row: [Rung; RUNGS]) -> Times {
+    Times {
+        first: row[0].times,
+        last: row[RUNGS - 1].times,
+    }
+}
+
+fn long_times_of(row: [Rung; LONG_RUNGS]) -> Times {
+    Times {
+        first: row[0].times,
+        last: row[LONG_RUNGS - 1].times,
+    }
+}
+
+fn put_times(room: &mut [u8], placed: usize, times: Times) -> usize {
+    let first = put_count(room, placed, b"\ntimes", times.first as u64);
+    output::put_next(room, first, times.last as u64)
+}
+
 // The first `bytes` bytes of the listing.
 fn put_lines(room: &mut [u8], placed: usize, listing: &[u8], bytes: usize) -> usize {
     if bytes <= listing.len() {
@@ -280,19 +321,47 @@ fn put_listed(room: &mut [u8], placed: usize, answer: Listed, listing: &[u8]) ->
     }
 }
 
-// What the scans answered and left.
-fn put_scans(
+// What Ladder scan answered and left.
+fn put_ladder_scan(room: &mut [u8], placed: usize, answer: LadderScanned, table: &[u8]) -> usize {
+    let answered = put_ladder(room, placed, answer);
+    put_variables(room, answered, table)
+}
+
+// What List scan answered and left.
+fn put_list_scan(
     room: &mut [u8],
     placed: usize,
-    ladder: LadderScanned,
-    list: ListScanned,
+    answer: ListScanned,
+    table: &[u8],
+    times: Times,
+) -> usize {
+    let answered = put_list(room, placed, answer);
+    let variables = put_variables(room, answered, table);
+    put_times(room, variables, times)
+}
+
+// What the five calls answered and left. The ladder's row has Read's times, which no scan has changed.
+fn put_answers(
+    room: &mut [u8],
+    placed: usize,
+    answers: Answers,
     ladder_table: &[u8],
     list_table: &[u8],
+    lines: &[u8],
 ) -> usize {
-    let after_ladder = put_ladder(room, placed, ladder);
-    let ladder_left = put_variables(room, after_ladder, ladder_table);
-    let after_list = put_list(room, ladder_left, list);
-    put_variables(room, after_list, list_table)
+    let read = answers.read;
+    let translated = answers.translated;
+    let ladder = answers.ladder;
+    let list = answers.list;
+    let listed = answers.listed;
+    let row = answers.row;
+    let code_row = answers.code_row;
+    let after_read = put_read(room, placed, read);
+    let after_translated = put_translated(room, after_read, translated);
+    let after_ladder = put_ladder_scan(room, after_translated, ladder, ladder_table);
+    let after_row = put_times(room, after_ladder, times_of(row));
+    let after_list = put_list_scan(room, after_row, list, list_table, times_of(code_row));
+    put_listed(room, after_list, listed, lines)
 }
 
 // Runs the five calls on a text, with only v0 true, and puts what they answered.
@@ -303,22 +372,27 @@ fn put_case(room: &mut [u8], placed: usize, text: &[u8]) -> usize {
     ladder_table[0] = 1;
     list_table[0] = 1;
     let answers = run_rows(text, &mut ladder_table, &mut list_table, &mut lines);
-    let read = answers.read;
+    put_answers(room, placed, answers, &ladder_table, &list_table, &lines)
+}
+
+// What the four calls answered and left. A refused List scan leaves the times as they were.
+fn put_long_answers(
+    room: &mut [u8],
+    placed: usize,
+    answers: LongAnswers,
+    ladder_table: &[u8],
+    list_table: &[u8],
+    lines: &[u8],
+) -> usize {
     let translated = answers.translated;
     let ladder = answers.ladder;
     let list = answers.list;
     let listed = answers.listed;
-    let after_read = put_read(room, placed, read);
-    let after_translated = put_translated(room, after_read, translated);
-    let scanned = put_scans(
-        room,
-        after_translated,
-        ladder,
-        list,
-        &ladder_table,
-        &list_table,
-    );
-    put_listed(room, scanned, listed, &lines)
+    let row = answers.row;
+    let after_translated = put_translated(room, placed, translated);
+    let after_ladder = put_ladder_scan(room, after_translated, ladder, ladder_table);
+    let after_list = put_list_scan(room, after_ladder, list, list_table, long_times_of(row));
+    put_listed(room, after_list, listed, lines)
 }
 
 // Runs the four calls over a row of 300 records, and puts what they answered.
@@ -338,26 +412,13 @@ fn put_long(room: &mut [u8], placed: usize, last: u32) -> usize {
         &mut list_table,
         &mut lines,
     );
-    let translated = answers.translated;
-    let ladder = answers.ladder;
-    let list = answers.list;
-    let listed = answers.listed;
     let head = put_count(
         room,
         placed,
         b"300 records, the last of length",
         last as u64,
     );
-    let after_translated = put_translated(room, head, translated);
-    let scanned = put_scans(
-        room,
-        after_translated,
-        ladder,
-        list,
-        &ladder_table,
-        &list_table,
-    );
-    put_listed(room, scanned, listed, &lines)
+    put_long_answers(room, head, answers, &ladder_table, &list_table, &lines)
 }
 
 fn put_search(room: &mut [u8], placed: usize, label: u32, answer: Search) -> usize {

@@ -170,12 +170,18 @@ fn set_byte(bytes: &mut [u8], i: usize, value: u32) {
     }
 }
 
+// The next number of the line, as a word at a place.
+fn read_item(chunk: &mut [u8], input: Input, words: &mut [u32], i: usize) -> Input {
+    let item = more(chunk, input);
+    set_word(words, i, item.value);
+    item
+}
+
 fn read_words(chunk: &mut [u8], from: Input, words: &mut [u32], n: usize) -> Input {
     let mut input = from;
     let mut i: usize = 0;
     while i < n {
-        input = more(chunk, input);
-        set_word(words, i, input.value);
+        input = read_item(chunk, input, words, i);
         i += 1;
     }
     input
@@ -192,21 +198,25 @@ fn read_bytes(chunk: &mut [u8], from: Input, bytes: &mut [u8], n: usize) -> Inpu
     input
 }
 
+fn read_label(chunk: &mut [u8], input: Input, labels: &mut [u16], i: usize) -> Input {
+    let label = limited(chunk, input, 65535);
+    set_label(labels, i, label.value);
+    label
+}
+
 fn read_record(
     chunk: &mut [u8],
     input: Input,
     labels: &mut [u16],
     offsets: &mut [u32],
     lengths: &mut [u32],
+    times: &mut [u32],
     i: usize,
 ) -> Input {
-    let label = limited(chunk, input, 65535);
-    set_label(labels, i, label.value);
-    let offset = more(chunk, label);
-    set_word(offsets, i, offset.value);
-    let length = more(chunk, offset);
-    set_word(lengths, i, length.value);
-    length
+    let label = read_label(chunk, input, labels, i);
+    let offset = read_item(chunk, label, offsets, i);
+    let length = read_item(chunk, offset, lengths, i);
+    read_item(chunk, length, times, i)
 }
 
 fn read_records(
@@ -215,12 +225,13 @@ fn read_records(
     labels: &mut [u16],
     offsets: &mut [u32],
     lengths: &mut [u32],
+    times: &mut [u32],
     n: usize,
 ) -> Input {
     let mut input = from;
     let mut i: usize = 0;
     while i < n {
-        input = read_record(chunk, input, labels, offsets, lengths, i);
+        input = read_record(chunk, input, labels, offsets, lengths, times, i);
         i += 1;
     }
     input
@@ -245,13 +256,14 @@ pub fn read_rows(
     labels: &mut [u16],
     offsets: &mut [u32],
     lengths: &mut [u32],
+    times: &mut [u32],
 ) -> Counted
     ensures { λ r. ⌜ r .count ≤ 400 ⌝ }
 {
     let counted = limited(chunk, input, 400);
     let count = counted.value as usize;
     Counted {
-        input: read_records(chunk, counted, labels, offsets, lengths, count),
+        input: read_records(chunk, counted, labels, offsets, lengths, times, count),
         count,
     }
 }
@@ -288,12 +300,13 @@ pub fn read_lent(
     labels: &mut [u16],
     offsets: &mut [u32],
     lengths: &mut [u32],
+    times: &mut [u32],
 ) -> Lent
     ensures { λ r. ⌜ (r .words ≤ 20000) × (r .records ≤ 400) ⌝ }
 {
     let vars = more(chunk, input);
     let coded = read_code(chunk, vars, code);
-    let laid = read_rows(chunk, coded.input, labels, offsets, lengths);
+    let laid = read_rows(chunk, coded.input, labels, offsets, lengths, times);
     let rest = laid.input;
     Lent {
         input: rest,

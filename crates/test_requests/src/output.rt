@@ -125,35 +125,45 @@ fn words_reach(words: &[u32]) -> usize
     0
 }
 
-// A buffer of words that was filled before the call: how many items, these, and how many follow.
-pub fn put_words(room: &mut [u8], from: usize, words: &[u32]) -> usize {
-    let k = words_reach(words);
-    let mut placed = put_next(room, from, k as u64);
+// The first n words, each after a space.
+pub fn put_items(room: &mut [u8], from: usize, words: &[u32], n: usize) -> usize {
+    let mut placed = from;
     let mut i: usize = 0;
-    while i < k {
+    while i < n {
         placed = put_next(room, placed, word_at(words, i) as u64);
         i += 1;
     }
-    put_next(room, placed, (words.len() - k) as u64)
+    placed
 }
 
-fn is_record(labels: &[u16], offsets: &[u32], lengths: &[u32], i: usize) -> bool {
+// A buffer of words that was filled before the call: how many items, these, and how many follow.
+pub fn put_words(room: &mut [u8], placed: usize, words: &[u32]) -> usize {
+    let k = words_reach(words);
+    let counted = put_next(room, placed, k as u64);
+    let shown = put_items(room, counted, words, k);
+    put_next(room, shown, (words.len() - k) as u64)
+}
+
+fn is_record(labels: &[u16], offsets: &[u32], lengths: &[u32], times: &[u32], i: usize) -> bool {
     if label_at(labels, i) != 65535 {
         return true;
     }
     if word_at(offsets, i) != 4294967295 {
         return true;
     }
-    word_at(lengths, i) != 4294967295
+    if word_at(lengths, i) != 4294967295 {
+        return true;
+    }
+    word_at(times, i) != 4294967295
 }
 
 // How far a buffer's records reach that are not the filling alone.
-fn records_reach(labels: &[u16], offsets: &[u32], lengths: &[u32]) -> usize
+fn records_reach(labels: &[u16], offsets: &[u32], lengths: &[u32], times: &[u32]) -> usize
     ensures { λ r. do ⌜ r ≤ (← ⟦labels.len()⟧ .entry) ⌝ }
 {
     let mut k = labels.len();
     while 0 < k {
-        if is_record(labels, offsets, lengths, k - 1) {
+        if is_record(labels, offsets, lengths, times, k - 1) {
             return k;
         }
         k -= 1;
@@ -168,14 +178,16 @@ pub fn put_records(
     labels: &[u16],
     offsets: &[u32],
     lengths: &[u32],
+    times: &[u32],
 ) -> usize {
-    let k = records_reach(labels, offsets, lengths);
+    let k = records_reach(labels, offsets, lengths, times);
     let mut placed = put_next(room, from, k as u64);
     let mut i: usize = 0;
     while i < k {
         placed = put_next(room, placed, label_at(labels, i) as u64);
         placed = put_next(room, placed, word_at(offsets, i) as u64);
         placed = put_next(room, placed, word_at(lengths, i) as u64);
+        placed = put_next(room, placed, word_at(times, i) as u64);
         i += 1;
     }
     put_next(room, placed, (labels.len() - k) as u64)

@@ -1,5 +1,5 @@
 -- Laws of the questions in order: the first "no" of Read, and what it writes. Assumes nothing.
-use Prim.Native.Nat.{ℕ, _+_, _^_, _≤_, _<_, max}
+use Prim.Native.Nat.{ℕ, zero, suc, _+_, _^_, _≤_, _<_, max}
 use native.Mathlib.Omega.{arith}
 use native.Mathlib.Decide.{decLe}
 use mathlib.Core.Path.{_≡_, refl, sym, ap, subst, _∙_}
@@ -9,14 +9,14 @@ use mathlib.Core.List.{List, [], _∷_}
 use borrow.Author.Tests.{le-leb, lt-leb}
 use lib.Dec.{leb, leb→le}
 use mir.Facts.{and-yes}
-use lib.ListN.{length, take}
+use lib.ListN.{length, take, replicate}
 use lib.Seq.{sets}
 use Rattle.questions.specs.Tests.{all}
 use Rattle.questions.specs.Questions.{Answer, ask, firstNo, longEnough, varsInRange, question1, question2, question13}
 use Rattle.questions.specs.Refusals.{refusalOf}
 use Rattle.questions.specs.declared.Refusal.{Refusal as RefusalCase}
 use Rattle.questions.specs.declared.Refusal.the-variants.{Variables, TextLength, Text, Sizes as SizesRefused, Buffer as BufferCase}
-use Rattle.rungs.specs.Records.{rowOf, lay, longest}
+use Rattle.rungs.specs.Records.{rowOf, mostRecords, noneEntered, lay, longest}
 use Rattle.rungs.specs.Laws.Layout.{lay-length}
 use Rattle.ladder_definitions.specs.Tree.{Ladder}
 use Rattle.ladder_definitions.specs.Kept.{Kept, rungWords, encode, decode}
@@ -27,7 +27,7 @@ use Rattle.text_grammar.specs.Questions.{question3}
 use Rattle.text_grammar.specs.Theorems.{read-exactly, read-whole, scratch-always, decoded-always, kept-always}
 use Rattle.rungs.specs.Buffers.{Buffers, Columns, asBuffers, needs, written, writtenOver}
 use Rattle.rungs.specs.Parts.{putAll}
-use Rattle.rungs.specs.Laws.Filling.{taken-out, row-of-buffers, labels-count, offsets-count, lengths-count}
+use Rattle.rungs.specs.Laws.Filling.{taken-out, row-of-new, labels-count, offsets-count, lengths-count}
 use Rattle.text_definitions.specs.Read.{textLadder, keptBuffers, ReadCall, kept, refused, readText, ReadDone, textReadAnswer}
 use Rattle.text_lines.specs.Parts.{sizesOf, linesParsed, keptColumns, LinesAreKept}
 use Rattle.text.specs.Parts.{fits, handOver}
@@ -41,7 +41,7 @@ use Rattle.text_lines.specs.declared.LinesParsed.the-variants.{Read as LinesRea
 
 module _ (vars : ℕ) (new lent : Buffers) where
   abbrev keptOf : Kept
-  keptOf = record { words = new .words; records = rowOf (new .labels) (new .offsets) (new .lengths) }
+  keptOf = record { words = new .words; records = rowOf (new .labels) (new .offsets) (new .lengths) (new .times) }
 
   refuses : (refusal : RefusalCase) → firstNo (ladderAnswer vars keptOf ∷ question13 (needs new lent) ∷ []) ≡ some (refusalOf refusal)
       → ReadDone (handOver vars new lent) (RefusedCase refusal) lent
@@ -63,13 +63,13 @@ module _ (vars : ℕ) (new lent : Buffers) where
 
     pub over-kept : all longEnough (needs new lent) ≡ true → (after : Buffers) → after .words ≡ written (new .words) (lent .words)
         → after .labels ≡ written (new .labels) (lent .labels) → after .offsets ≡ written (new .offsets) (lent .offsets)
-        → after .lengths ≡ written (new .lengths) (lent .lengths)
+        → after .lengths ≡ written (new .lengths) (lent .lengths) → after .times ≡ written (new .times) (lent .times)
         → ReadDone (handOver vars new lent) (KeptCase (record { words = length (new .words); rungs = length (new .labels) })) after
     unfolding handOver textReadAnswer writtenOver
-    over-kept e after ew el eo en =
+    over-kept e after ew el eo en et =
         record {
           answer = rw (asked e, handOver);
-          same-buffers = rw (asked e, handOver) (λ i. record { words = ew i; labels = el i; offsets = eo i; lengths = en i });
+          same-buffers = rw (asked e, handOver) (λ i. record { words = ew i; labels = el i; offsets = eo i; lengths = en i; times = et i });
         }
 
 -- ---- question 5
@@ -157,19 +157,19 @@ module _ (vars : ℕ) (text : List ℕ) (lent : Buffers) where
         read-refused-5 s = read-refuses SizesRefused (rw (ladder-of, yes1, yes2, yes3, s))
 
         module _ (yes5 : sizesInRange gs ≡ true) (back : decode (encode gs) ≡ some gs) (yes4 : question4 (encode gs) ≡ none) (yes9 : question9 gs ≡ none) where
-          kept-back : record { words = keptBuffers gs .words; records = rowOf (keptBuffers gs .labels) (keptBuffers gs .offsets) (keptBuffers gs .lengths) } ≡ encode gs
+          kept-back : record { words = keptBuffers gs .words; records = rowOf (keptBuffers gs .labels) (keptBuffers gs .offsets) (keptBuffers gs .lengths) (keptBuffers gs .times) } ≡ encode gs
           unfolding asBuffers
-          kept-back i = record { words = encode gs .words; records = row-of-buffers (encode gs .words) (encode gs .records) i }
+          kept-back i = record { words = encode gs .words; records = row-of-new (encode gs .words) (encode gs .records) i }
 
           -- questions 4 and 9 always get a "yes"
-          same-no : firstNo (ladderAnswer vars (record { words = keptBuffers gs .words; records = rowOf (keptBuffers gs .labels) (keptBuffers gs .offsets) (keptBuffers gs .lengths) })
+          same-no : firstNo (ladderAnswer vars (record { words = keptBuffers gs .words; records = rowOf (keptBuffers gs .labels) (keptBuffers gs .offsets) (keptBuffers gs .lengths) (keptBuffers gs .times) })
               ∷ question13 (needs (keptBuffers gs) lent) ∷ []) ≡ firstNo (questions gs)
           unfolding ladderAnswer ladderQuestions question1 question2 question5 ask
           same-no = rw (kept-back, ladder-is (encode gs) gs back, yes1, yes2, yes3, yes4, yes5, yes9) (joined (question6 vars gs) (question7 gs) (question8 gs) _)
 
           rungs-read : length (keptBuffers gs .labels) ≡ length gs
           unfolding asBuffers encode
-          rungs-read = labels-count (encode gs .words) (encode gs .records) ∙ lay-length (λ g. g .label) (λ g. length (rungWords g)) 0 gs
+          rungs-read = labels-count (encode gs .words) (encode gs .records) (noneEntered (length (encode gs .records))) ∙ lay-length (λ g. g .label) (λ g. length (rungWords g)) 0 gs
 
           abbrev accepts : Ladder → ℕ → ReadCall
           accepts hs rungs = record { answer = kept (length (keptBuffers hs .words)) rungs; buffers = writtenOver (keptBuffers hs) lent }
@@ -229,9 +229,16 @@ pub record Zeroed (b : Columns) : Type 0 where
   pub offsets : length (b .offsets) ≡ 256
   pub lengths : length (b .lengths) ≡ 256
 
--- the first entries of the buffers that the lines were kept in
+-- the first entries of the buffers that the lines were kept in, and as many zeros
 abbrev pub firstOf : Sizes → Columns → Buffers
-firstOf z a = record { words = take (z .words) (a .words); labels = take (z .rungs) (a .labels); offsets = take (z .rungs) (a .offsets); lengths = take (z .rungs) (a .lengths) }
+firstOf z a =
+    record {
+      words = take (z .words) (a .words);
+      labels = take (z .rungs) (a .labels);
+      offsets = take (z .rungs) (a .offsets);
+      lengths = take (z .rungs) (a .lengths);
+      times = take (z .rungs) (replicate mostRecords 0);
+    }
 
 module _ (gs : Ladder) (b a : Columns) (room : Room (sizesOf gs)) (zeroed : Zeroed b) (e : a ≡ putAll b (keptColumns gs)) where
   abbrev new : Buffers
@@ -244,14 +251,20 @@ module _ (gs : Ladder) (b a : Columns) (room : Room (sizesOf gs)) (zeroed : Zero
   first-is : (n : ℕ) (xs out out′ : List ℕ) → n ≡ length xs → n ≤ length out → out′ ≡ sets out 0 xs → take n out′ ≡ xs
   first-is n xs out out′ q h s = rw q (taken-out xs out out′ (omega arith) s)
 
+  zeros-first : (n most : ℕ) → n ≤ most → take n (noneEntered most) ≡ noneEntered n
+  zeros-first zero most h = refl
+  zeros-first (suc n) zero h = absurd (omega arith)
+  zeros-first (suc n) (suc most) h = ap (λ (l : List ℕ). 0 ∷ l) (zeros-first n most (omega arith))
+
   pub first-kept : firstOf (sizesOf gs) a ≡ keptBuffers gs
   unfolding sizesOf putAll asBuffers
   first-kept i =
       record {
         words = first-is (length (encode gs .words)) (new .words) (b .words) (a .words) refl (omega (arith, room .words, zeroed .words)) (ap (λ x. x .words) e) i;
-        labels = first-is (length gs) (new .labels) (b .labels) (a .labels) (sym (labels-count (encode gs .words) (encode gs .records) ∙ rungs-laid)) (omega (arith, room .rungs, zeroed .labels)) (ap (λ x. x .labels) e) i;
-        offsets = first-is (length gs) (new .offsets) (b .offsets) (a .offsets) (sym (offsets-count (encode gs .words) (encode gs .records) ∙ rungs-laid)) (omega (arith, room .rungs, zeroed .offsets)) (ap (λ x. x .offsets) e) i;
-        lengths = first-is (length gs) (new .lengths) (b .lengths) (a .lengths) (sym (lengths-count (encode gs .words) (encode gs .records) ∙ rungs-laid)) (omega (arith, room .rungs, zeroed .lengths)) (ap (λ x. x .lengths) e) i;
+        labels = first-is (length gs) (new .labels) (b .labels) (a .labels) (sym (labels-count (encode gs .words) (encode gs .records) (new .times) ∙ rungs-laid)) (omega (arith, room .rungs, zeroed .labels)) (ap (λ x. x .labels) e) i;
+        offsets = first-is (length gs) (new .offsets) (b .offsets) (a .offsets) (sym (offsets-count (encode gs .words) (encode gs .records) (new .times) ∙ rungs-laid)) (omega (arith, room .rungs, zeroed .offsets)) (ap (λ x. x .offsets) e) i;
+        lengths = first-is (length gs) (new .lengths) (b .lengths) (a .lengths) (sym (lengths-count (encode gs .words) (encode gs .records) (new .times) ∙ rungs-laid)) (omega (arith, room .rungs, zeroed .lengths)) (ap (λ x. x .lengths) e) i;
+        times = (zeros-first (length gs) mostRecords (room .rungs) ∙ ap noneEntered (sym rungs-laid)) i;
       }
 
 module _ (vars : ℕ) (text : List ℕ) (lent : Buffers) (yes1 : varsInRange vars ≡ true) (yes2 : (leb 1 (length text) && leb (length text) 65535) ≡ true)

@@ -19,7 +19,7 @@ fits z = leb (z .rungs) mostRungs && (leb (z .longest) mostRungWords && leb (z .
 -- questions 4 to 8 and 13 of a ladder that was read, and the writing of the lent buffers
 unfoldable pub handOver : ℕ → Buffers → Buffers → ReadCall
 handOver vars new lent =
-    elim (firstNo (ladderAnswer vars (record { words = new .words; records = rowOf (new .labels) (new .offsets) (new .lengths) }) ∷ question13 (needs new lent) ∷ [])) [
+    elim (firstNo (ladderAnswer vars (record { words = new .words; records = rowOf (new .labels) (new .offsets) (new .lengths) (new .times) }) ∷ question13 (needs new lent) ∷ [])) [
       | some refusal ↦ record { answer = refused refusal; buffers = lent }
       | none ↦ record { answer = kept (length (new .words)) (length (new .labels)); buffers = writtenOver new lent }
     ]

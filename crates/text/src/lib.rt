@@ -49,17 +49,27 @@ fn hand_over(
     new_labels: &[u16],
     new_offsets: &[u32],
     new_lengths: &[u32],
+    new_times: &[u32],
     words: &mut [u32],
     labels: &mut [u16],
     offsets: &mut [u32],
     lengths: &mut [u32],
+    times: &mut [u32],
 ) -> TextRead
     ensures { λ r. ⌜ ReadDone (handOver vars
-        (buffers (now («new_words» .entry)) (now («new_labels» .entry)) (now («new_offsets» .entry)) (now («new_lengths» .entry)))
-        (buffers (now (words .entry)) (now (labels .entry)) (now (offsets .entry)) (now (lengths .entry)))) r
-        (buffers (now (words .exit)) (now (labels .exit)) (now (offsets .exit)) (now (lengths .exit))) ⌝ }
+        (buffers (now («new_words» .entry)) (now («new_labels» .entry)) (now («new_offsets» .entry)) (now («new_lengths» .entry))
+        (now («new_times» .entry)))
+        (buffers (now (words .entry)) (now (labels .entry)) (now (offsets .entry)) (now (lengths .entry)) (now (times .entry)))) r
+        (buffers (now (words .exit)) (now (labels .exit)) (now (offsets .exit)) (now (lengths .exit)) (now (times .exit))) ⌝ }
 {
-    match ladder::ladder_answer(vars, new_words, new_labels, new_offsets, new_lengths) {
+    match ladder::ladder_answer(
+        vars,
+        new_words,
+        new_labels,
+        new_offsets,
+        new_lengths,
+        new_times,
+    ) {
         Verdict::Refused(refusal) => {
             return TextRead::Refused(refusal);
         }
@@ -77,10 +87,14 @@ fn hand_over(
     if lengths.len() < new_lengths.len() {
         return TextRead::Refused(Refusal::Buffer);
     }
+    if times.len() < new_times.len() {
+        return TextRead::Refused(Refusal::Buffer);
+    }
     text_fronts::words::copy_words(new_words, new_words.len(), words, 0);
     text_fronts::words::copy_labels(new_labels, labels);
     text_fronts::words::copy_words(new_offsets, new_offsets.len(), offsets, 0);
     text_fronts::words::copy_words(new_lengths, new_lengths.len(), lengths, 0);
+    text_fronts::words::copy_words(new_times, new_times.len(), times, 0);
     TextRead::Kept(Counts {
         words: new_words.len(),
         rungs: new_labels.len(),
@@ -95,10 +109,11 @@ pub fn read(
     labels: &mut [u16],
     offsets: &mut [u32],
     lengths: &mut [u32],
+    times: &mut [u32],
 ) -> TextRead
     ensures { λ r. ⌜ ReadDone (readText vars (now (text .entry))
-        (buffers (now (words .entry)) (now (labels .entry)) (now (offsets .entry)) (now (lengths .entry)))) r
-        (buffers (now (words .exit)) (now (labels .exit)) (now (offsets .exit)) (now (lengths .exit))) ⌝ }
+        (buffers (now (words .entry)) (now (labels .entry)) (now (offsets .entry)) (now (lengths .entry)) (now (times .entry)))) r
+        (buffers (now (words .exit)) (now (labels .exit)) (now (offsets .exit)) (now (lengths .exit)) (now (times .exit))) ⌝ }
 {
     if !questions::vars_in_range(vars) {
         return TextRead::Refused(Refusal::Variables);
@@ -110,6 +125,8 @@ pub fn read(
     let mut new_labels = [0u16; MOST_RECORDS];
     let mut new_offsets = [0u32; MOST_RECORDS];
     let mut new_lengths = [0u32; MOST_RECORDS];
+    // A rung that was read has been entered no times.
+    let new_times = [0u32; MOST_RECORDS];
     match text_lines::lines(
         text,
         &mut new_words,
@@ -130,10 +147,12 @@ pub fn read(
                 &new_labels[..m],
                 &new_offsets[..m],
                 &new_lengths[..m],
+                &new_times[..m],
                 words,
                 labels,
                 offsets,
                 lengths,
+                times,
             )
         }
     }

@@ -6,7 +6,7 @@ use mathlib.Core.List.{List, [], _∷_}
 use lib.ListN.{length}
 use Rattle.questions.specs.Questions.{Refusal, firstNo, question1, question2, question13}
 use Rattle.questions.specs.Refusals.{refusalOf}
-use Rattle.rungs.specs.Buffers.{Buffers, asBuffers, needs, writtenOver, writtenWords, writtenRecords}
+use Rattle.rungs.specs.Buffers.{Buffers, newBuffers, needs, writtenOver, writtenWords, writtenRecords}
 use Rattle.ladder_definitions.specs.Tree.{Ladder}
 use Rattle.ladder_definitions.specs.Kept.{Kept, encode}
 use Rattle.ladder_definitions.specs.Questions.{question5, question6, question7, question8}
@@ -19,9 +19,9 @@ use Rattle.text_definitions.specs.declared.TextRead.the-variants.{Kept a
 unfoldable pub textLadder : List ℕ → Ladder
 textLadder text = elim (textOf text) [ read n gs ↦ gs | stuck p ↦ [] ]
 
--- a ladder's words and records as buffers of just their size
+-- a ladder's words and records as buffers of just their size, no rung entered
 abbrev pub keptBuffers : Ladder → Buffers
-keptBuffers gs = asBuffers (encode gs .words) (encode gs .records)
+keptBuffers gs = newBuffers (encode gs .words) (encode gs .records)
 
 -- "Read returns word and rung counts", or the refusal
 pub data ReadAnswer : Type 0 where

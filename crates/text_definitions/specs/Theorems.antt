@@ -2,14 +2,16 @@
 use Prim.Native.Nat.{ℕ}
 use mathlib.Core.Path.{_≡_}
 use mathlib.Core.List.{List}
+use lib.ListN.{take}
 use Rattle.questions.specs.Questions.{Refusal, yes}
+use Rattle.rungs.specs.Records.{noneEntered}
 use Rattle.rungs.specs.Buffers.{Buffers}
 use Rattle.ladder_definitions.specs.Kept.{encode}
 use Rattle.ladder_definitions.specs.Questions.{question4, question9, ladderAnswer}
 use Rattle.text_grammar.specs.Grammar.{IsText}
 use Rattle.text_grammar.specs.Theorems.{scratch-always, kept-always}
 use Rattle.text_definitions.specs.Read.{textLadder, kept, refused, readText, writtenKept}
-use Rattle.text_definitions.specs.Laws.Reads.{refused-same, first-encoded, in-grammar, encoded-accepted}
+use Rattle.text_definitions.specs.Laws.Reads.{refused-same, first-encoded, no-times, in-grammar, encoded-accepted}
 
 -- where Read took the text, with these counts
 module _ (vars : ℕ) (text : List ℕ) (lent : Buffers) (words rungs : ℕ) (taken : readText vars text lent .answer ≡ kept words rungs) where
@@ -20,6 +22,10 @@ module _ (vars : ℕ) (text : List ℕ) (lent : Buffers) (words rungs : ℕ) (ta
   -- What Read writes are the words and records of that ladder.
   pub written-exactly : writtenKept (readText vars text lent .buffers) words rungs ≡ encode (textLadder text)
   written-exactly = first-encoded vars text lent words rungs taken
+
+  -- 02, Req 04: "calls that write records put 0".
+  pub written-times : take rungs (readText vars text lent .buffers .times) ≡ noneEntered rungs
+  written-times = no-times vars text lent words rungs taken
 
   -- What Read writes gets a "yes" to question 4.
   pub written-kept : question4 (writtenKept (readText vars text lent .buffers) words rungs) ≡ yes

@@ -11,8 +11,8 @@ use Rattle.questions.specs.Questions.{Answer, question1, question2}
 use Rattle.questions.specs.Laws.Answers.{first-yes, later-yes, ask-passed}
 use Rattle.questions.specs.Refusals.{refusalOf}
 use Rattle.questions.specs.declared.Refusal.{Refusal as RefusalCase}
-use Rattle.rungs.specs.Records.{RungRecord, mostRecords}
-use Rattle.rungs.specs.Buffers.{Buffers, buffers, asBuffers}
+use Rattle.rungs.specs.Records.{RungRecord, mostRecords, noneEntered}
+use Rattle.rungs.specs.Buffers.{Buffers, buffers, asBuffers, written}
 use Rattle.rungs.specs.Laws.Layout.{lay-length}
 use Rattle.rows.specs.Parts.{scattered}
 use Rattle.rows.specs.Laws.Written.{same-asked, few-written, within-written, fields, same-refused, same-written}
@@ -51,32 +51,33 @@ module _ (vars : ℕ) (text : List ℕ) where
       omega arith
 
   -- Read, done on a copy of as many fields as a row of `lent` records has room for
-  module _ (words : List ℕ) (lent : ℕ) (zl zo zn : List ℕ) (el : length zl ≡ min mostRecords lent) (eo : length zo ≡ min mostRecords lent) (en : length zn ≡ min mostRecords lent)
-      (r : TextRead) (words′ ls os ns : List ℕ) (done : ReadDone (readText vars text (buffers words zl zo zn)) r (buffers words′ ls os ns)) (rest : List ℕ) where
+  module _ (words : List ℕ) (lent : ℕ) (zl zo zn zt : List ℕ)
+      (el : length zl ≡ min mostRecords lent) (eo : length zo ≡ min mostRecords lent) (en : length zn ≡ min mostRecords lent) (et : length zt ≡ min mostRecords lent)
+      (r : TextRead) (words′ ls os ns times′ : List ℕ) (done : ReadDone (readText vars text (buffers words zl zo zn zt)) r (buffers words′ ls os ns times′)) (rest : List ℕ) where
     abbrev lends : Buffers
-    lends = buffers words zl zo zn
+    lends = buffers words zl zo zn zt
 
     abbrev fieldsRead : TextRead → ℕ → ReadFields
-    fieldsRead answer k = record { answer = answer; rows = fields (before vars text) nw ks few-rungs words lent zl zo zn el eo en words′ ls os ns rest k }
+    fieldsRead answer k = record { answer = answer; rows = fields (before vars text) nw ks few-rungs words lent zl zo zn zt el eo en et words′ ls os ns times′ rest k }
 
     abbrev RowDone : ReadFields → Type 0
-    RowDone x = (rs : List RungRecord) → length rs ≡ lent → ReadDone (readText vars text (asBuffers words rs)) (x .answer) (asBuffers words′ (scattered (x .rows .kept) (x .rows) rs))
+    RowDone x = (rs : List RungRecord) (ts : List ℕ) → length rs ≡ lent → length ts ≡ length rs → ReadDone (readText vars text (asBuffers words rs ts)) (x .answer) (asBuffers words′ (scattered (x .rows .kept) (x .rows) rs) (written (noneEntered (x .rows .kept)) ts))
 
-    still-asked : (rs : List RungRecord) → length rs ≡ lent → asked vars text lends ≡ asked vars text (asBuffers words rs)
-    still-asked = same-asked (before vars text) nw ks few-rungs words lent zl zo zn el eo en
+    still-asked : (rs : List RungRecord) (ts : List ℕ) → length rs ≡ lent → length ts ≡ length rs → asked vars text lends ≡ asked vars text (asBuffers words rs ts)
+    still-asked = same-asked (before vars text) nw ks few-rungs words lent zl zo zn zt el eo en et
 
     module _ (x : RefusalCase) (is : r ≡ RefusedCase x) where
       refused-done : RowDone (fieldsRead r 0)
       unfolding textReadAnswer
-      refused-done rs e = go (asked vars text lends) refl
+      refused-done rs ts e f = go (asked vars text lends) refl
         where
-          go : (a : Answer) → asked vars text lends ≡ a → ReadDone (readText vars text (asBuffers words rs)) r (asBuffers words′ (scattered 0 (fieldsRead r 0 .rows) rs))
+          go : (a : Answer) → asked vars text lends ≡ a → ReadDone (readText vars text (asBuffers words rs ts)) r (asBuffers words′ (scattered 0 (fieldsRead r 0 .rows) rs) (written (noneEntered 0) ts))
           go (some y) q =
               let small = call-refused vars text lends y q in
-              let whole = call-refused vars text (asBuffers words rs) y (sym (still-asked rs e) ∙ q) in
+              let whole = call-refused vars text (asBuffers words rs ts) y (sym (still-asked rs ts e f) ∙ q) in
               record {
                 answer = done .answer ∙ ap (λ k. k .answer) small ∙ sym (ap (λ k. k .answer) whole);
-                same-buffers = same-refused (before vars text) nw ks few-rungs words lent zl zo zn el eo en words′ ls os ns rest (done .same-buffers ∙ ap (λ k. k .buffers) small) rs
+                same-buffers = same-refused (before vars text) nw ks few-rungs words lent zl zo zn zt el eo en et words′ ls os ns times′ rest (done .same-buffers ∙ ap (λ k. k .buffers) small) rs ts
                     ∙ sym (ap (λ k. k .buffers) whole);
               }
           go none q = absurd (not-both _ _ (refusalOf x) (sym (ap (λ k. k .answer) (call-kept vars text lends q)) ∙ sym (done .answer) ∙ ap textReadAnswer is))
@@ -96,18 +97,18 @@ module _ (vars : ℕ) (text : List ℕ) where
       rungs-are = rungs-count vars text lends (c .words) (c .rungs) answer-is ∙ sym rungs-laid
 
       kept-done : RowDone (fieldsRead (KeptCase c) (length ks))
-      kept-done rs e =
+      kept-done rs ts e f =
           let small = call-kept vars text lends was-kept in
-          let whole = call-kept vars text (asBuffers words rs) (sym (still-asked rs e) ∙ was-kept) in
+          let whole = call-kept vars text (asBuffers words rs ts) (sym (still-asked rs ts e f) ∙ was-kept) in
           record {
             answer = ap textReadAnswer (sym is) ∙ done .answer ∙ ap (λ k. k .answer) small ∙ sym (ap (λ k. k .answer) whole);
-            same-buffers = same-written (before vars text) nw ks few-rungs words lent zl zo zn el eo en words′ ls os ns rest (done .same-buffers ∙ ap (λ k. k .buffers) small) same-l same-o same-n rs
+            same-buffers = same-written (before vars text) nw ks few-rungs words lent zl zo zn zt el eo en et words′ ls os ns times′ rest (done .same-buffers ∙ ap (λ k. k .buffers) small) same-l same-o same-n rs ts
                 ∙ sym (ap (λ k. k .buffers) whole);
           }
 
       pub read-kept : FieldsRead vars text words lent (fieldsRead (KeptCase c) (c .rungs)) words′
       read-kept = subst (λ (k : ℕ). FieldsRead vars text words lent (fieldsRead (KeptCase c) k) words′) (sym rungs-are) (record {
         same = kept-done;
-        few = few-written (before vars text) nw ks few-rungs words lent zl zo zn el eo en was-kept;
-        within = within-written (before vars text) nw ks few-rungs words lent zl zo zn el eo en was-kept;
+        few = few-written (before vars text) nw ks few-rungs words lent zl zo zn zt el eo en et was-kept;
+        within = within-written (before vars text) nw ks few-rungs words lent zl zo zn zt el eo en et was-kept;
       })

@@ -1,7 +1,7 @@
 // Read into one lent row of rung records. Document 01, "Text": "Read returns word and rung counts and writes words and records likewise."
 ghost use mathlib.Core.Path.{_≡_};
 ghost use Rattle.rungs.specs.Buffers.{asBuffers};
-ghost use Rattle.rows.specs.Rows.{recordsOf};
+ghost use Rattle.rows.specs.Rows.{recordsOf, timesOf};
 ghost use Rattle.text_definitions.specs.Read.{readText, ReadDone};
 ghost use Rattle.text_rows.specs.Parts.{FieldsRead};
 use rows::Rows;
@@ -9,7 +9,8 @@ use rows::Rung;
 use rungs::MOST_RECORDS;
 use text_definitions::TextRead;
 
-// What Read answers, and the fields of the records that it writes: as many as `rows` keeps.
+// What Read answers, and the fields of the records that it writes: as many as `rows` keeps. Their times are 0, which `scatter`
+// puts.
 pub struct ReadFields {
     pub answer: TextRead,
     pub rows: Rows,
@@ -22,6 +23,7 @@ fn read_fields(vars: u32, text: &[u8], words: &mut [u32], lent: usize) -> ReadFi
     let mut labels = [0u16; MOST_RECORDS];
     let mut offsets = [0u32; MOST_RECORDS];
     let mut lengths = [0u32; MOST_RECORDS];
+    let mut times = [0u32; MOST_RECORDS];
     let room = rows::room(lent);
     let answer = text::read(
         vars,
@@ -30,6 +32,7 @@ fn read_fields(vars: u32, text: &[u8], words: &mut [u32], lent: usize) -> ReadFi
         &mut labels[..room],
         &mut offsets[..room],
         &mut lengths[..room],
+        &mut times[..room],
     );
     let kept = match answer {
         TextRead::Kept(counts) => counts.rungs,
@@ -69,8 +72,8 @@ fn answer_of(done: ReadFields) -> TextRead
 // Read.
 pub fn read(vars: u32, text: &[u8], words: &mut [u32], row: &mut [Rung]) -> TextRead
     ensures { λ r. ⌜ ReadDone (readText vars (now (text .entry))
-        (asBuffers (now (words .entry)) (recordsOf (now (row .entry))))) r
-        (asBuffers (now (words .exit)) (recordsOf (now (row .exit)))) ⌝ }
+        (asBuffers (now (words .entry)) (recordsOf (now (row .entry))) (timesOf (now (row .entry))))) r
+        (asBuffers (now (words .exit)) (recordsOf (now (row .exit))) (timesOf (now (row .exit)))) ⌝ }
 {
     let done = read_fields(vars, text, words, row.len());
     rows::scatter(row, rows_of(done), kept_of(done));

@@ -15,13 +15,13 @@ use Rattle.questions.specs.declared.Refusal.the-variants.{Buffer as BufferCase}
 use Rattle.rungs.specs.Records.{offsets, search}
 use Rattle.rungs.specs.Buffers.{Buffers, columnsOf, asBuffers, needs, written}
 use Rattle.rungs.specs.Laws.Layout.{lay-length}
-use Rattle.rungs.specs.Laws.Filling.{written-sets, labels-count, offsets-count, lengths-count, short-words, short-labels, short-offsets, short-lengths, enough, put-written}
+use Rattle.rungs.specs.Laws.Filling.{written-sets, labels-count, offsets-count, lengths-count, times-count, short-words, short-labels, short-offsets, short-lengths, short-times, enough, put-written}
 use Rattle.ladder_definitions.specs.Tree.{Ladder}
-use Rattle.ladder_definitions.specs.Kept.{Kept}
+use Rattle.ladder_definitions.specs.Kept.{Kept, keptOf}
 use Rattle.ladder_definitions.specs.Questions.{mostRungs, ladderOf, ladderAnswer}
 use Rattle.ladder_definitions.specs.Held.{LadderHeld}
 use Rattle.ladder_definitions.specs.Laws.Accepting.{sized, accepted}
-use Rattle.ladder_definitions.specs.Laws.Held.{keptOf, held, as-many}
+use Rattle.ladder_definitions.specs.Laws.Held.{held, as-many}
 use Rattle.list_definitions.specs.Instruction.{instrWord}
 use Rattle.translation_definitions.specs.Translate.{rungCode, listRecords, translate}
 use Rattle.translation_definitions.specs.TranslateKept.{listBuffers, countsOf, translateKept, translatedAnswer, TranslateDone}
@@ -51,16 +51,16 @@ over-zeros xs m i h =
 
 -- ---- the questions in order
 
-module _ (vars : ℕ) (ws ls os ns : List ℕ) (ok : ladderAnswer vars (keptOf ws ls os ns) ≡ none) where
-  is-held : LadderHeld ws ls os (ladderOf (keptOf ws ls os ns))
-  is-held = held ws ls os ns (ladderOf (keptOf ws ls os ns)) (accepted vars (keptOf ws ls os ns) ok .0) (accepted vars (keptOf ws ls os ns) ok .1 .some-rung)
+module _ (vars : ℕ) (ws ls os ns ts : List ℕ) (ok : ladderAnswer vars (keptOf ws ls os ns ts) ≡ none) where
+  is-held : LadderHeld ws ls os (ladderOf (keptOf ws ls os ns ts))
+  is-held = held ws ls os ns ts (ladderOf (keptOf ws ls os ns ts)) (accepted vars (keptOf ws ls os ns ts) ok .0) (accepted vars (keptOf ws ls os ns ts) ok .1 .some-rung)
 
   pub ready : (starts : List ℕ) → length starts ≡ mostRungs → LadderReady vars ws ls os starts
-  ready starts e = record { ladder = ladderOf (keptOf ws ls os ns); held = is-held; accepted = accepted vars (keptOf ws ls os ns) ok .1; enough = e }
+  ready starts e = record { ladder = ladderOf (keptOf ws ls os ns ts); held = is-held; accepted = accepted vars (keptOf ws ls os ns ts) ok .1; enough = e }
 
-module _ (vars : ℕ) (ws ls os ns : List ℕ) (lent : Buffers) where
+module _ (vars : ℕ) (ws ls os ns ts : List ℕ) (lent : Buffers) where
   abbrev kept : Kept
-  kept = keptOf ws ls os ns
+  kept = keptOf ws ls os ns ts
 
   abbrev gs : Ladder
   gs = ladderOf kept
@@ -79,7 +79,7 @@ module _ (vars : ℕ) (ws ls os ns : List ℕ) (lent : Buffers) where
 
   module _ (ok : ladderAnswer vars kept ≡ none) where
     the-held : LadderHeld ws ls os gs
-    the-held = is-held vars ws ls os ns ok
+    the-held = is-held vars ws ls os ns ts ok
 
     rungs-many : length os ≡ length gs
     rungs-many = as-many ws ls os gs the-held
@@ -90,13 +90,16 @@ module _ (vars : ℕ) (ws ls os ns : List ℕ) (lent : Buffers) where
     records-many = lay-length (λ g. g .label) (λ g. length (rungCode vars (λ l. 0) g)) 0 gs ∙ sym rungs-many
 
     labels-many : length (new .labels) ≡ length os
-    labels-many = labels-count (map instrWord (translate vars gs .code)) (translate vars gs .records) ∙ records-many
+    labels-many = labels-count (map instrWord (translate vars gs .code)) (translate vars gs .records) _ ∙ records-many
 
     offsets-many : length (new .offsets) ≡ length os
-    offsets-many = offsets-count (map instrWord (translate vars gs .code)) (translate vars gs .records) ∙ records-many
+    offsets-many = offsets-count (map instrWord (translate vars gs .code)) (translate vars gs .records) _ ∙ records-many
 
     lengths-many : length (new .lengths) ≡ length os
-    lengths-many = lengths-count (map instrWord (translate vars gs .code)) (translate vars gs .records) ∙ records-many
+    lengths-many = lengths-count (map instrWord (translate vars gs .code)) (translate vars gs .records) _ ∙ records-many
+
+    times-many : length (new .times) ≡ length os
+    times-many = times-count (map instrWord (translate vars gs .code)) (translate vars gs .records) ∙ records-many
 
     short : all longEnough (needs new lent) ≡ false → TranslateDone (translateKept vars kept lent) (RefusedCase BufferCase) lent
     unfolding firstNo question13 ask refusalOf
@@ -123,28 +126,34 @@ module _ (vars : ℕ) (ws ls os ns : List ℕ) (lent : Buffers) where
             short-of-lengths h = short (short-lengths new lent (omega (arith, words-many)) (omega (arith, labels-many)) (omega (arith, offsets-many)) (omega (arith, lengths-many)))
 
             module _ (n : length os ≤ length (lent .lengths)) where
-              asked : firstNo (ladderAnswer vars kept ∷ question13 (needs new lent) ∷ []) ≡ none
-              unfolding firstNo question13 ask
-              asked =
-                  let f = enough new lent (omega (arith, words-many)) (omega (arith, labels-many)) (omega (arith, offsets-many)) (omega (arith, lengths-many)) in
-                  rw (ok, f) refl
+              pub short-of-times : length (lent .times) < length os → TranslateDone (translateKept vars kept lent) (RefusedCase BufferCase) lent
+              short-of-times h =
+                  short (short-times new lent (omega (arith, words-many)) (omega (arith, labels-many)) (omega (arith, offsets-many)) (omega (arith, lengths-many)) (omega (arith, times-many)))
 
-              -- the starts that were laid out are those of the list
-              starts-laid : e ≡ replicate mostRungs 0 → (i : ℕ) → startIn ls x i ≡ startIn ls (offsets (listRecords vars gs)) i
-              unfolding startIn translate
-              starts-laid z i =
-                  ap (λ s. getD s (search i ls) 0) (laid .starts gs the-held ∙ ap (λ s. sets s 0 (offsets (listRecords vars gs))) z)
-                  ∙ over-zeros (offsets (listRecords vars gs)) mostRungs (search i ls) (omega (arith, length-map (listRecords vars gs) (λ r. r .offset), records-many, rungs-many, sized gs (accepted vars kept ok .1 .sizes) .rungs))
+              module _ (m : length os ≤ length (lent .times)) where
+                asked : firstNo (ladderAnswer vars kept ∷ question13 (needs new lent) ∷ []) ≡ none
+                unfolding firstNo question13 ask
+                asked =
+                    let f = enough new lent (omega (arith, words-many)) (omega (arith, labels-many)) (omega (arith, offsets-many)) (omega (arith, lengths-many)) (omega (arith, times-many)) in
+                    rw (ok, f) refl
 
-              pub translate-done : e ≡ replicate mostRungs 0 → (after : Buffers) → ListPut vars ws ls os x (columnsOf lent) (columnsOf after)
-                  → TranslateDone (translateKept vars kept lent) (WrittenCase (record { instructions = r .instructions; rungs = length os; longest = r .longest })) after
-              unfolding translatedAnswer countsOf translate
-              translate-done z after put =
-                  let counted = laid .instructions gs the-held in
-                  let c = call-written vars kept lent asked in
-                  record {
-                    answer = rw (c, counted, laid .longest gs the-held, ← records-many) refl;
-                    same-buffers = rw c
-                        (put-written new lent (omega (arith, words-many)) (omega (arith, labels-many)) (omega (arith, offsets-many)) (omega (arith, lengths-many)) after
-                        (put .wrote gs the-held (starts-laid z)));
-                  }
+                -- the starts that were laid out are those of the list
+                starts-laid : e ≡ replicate mostRungs 0 → (i : ℕ) → startIn ls x i ≡ startIn ls (offsets (listRecords vars gs)) i
+                unfolding startIn translate
+                starts-laid z i =
+                    ap (λ s. getD s (search i ls) 0) (laid .starts gs the-held ∙ ap (λ s. sets s 0 (offsets (listRecords vars gs))) z)
+                    ∙ over-zeros (offsets (listRecords vars gs)) mostRungs (search i ls) (omega (arith, length-map (listRecords vars gs) (λ r. r .offset), records-many, rungs-many, sized gs (accepted vars kept ok .1 .sizes) .rungs))
+
+                pub translate-done : e ≡ replicate mostRungs 0 → (after : Buffers) → ListPut vars ws ls os x (columnsOf lent) (columnsOf after)
+                    → after .times ≡ sets (lent .times) 0 (replicate (length os) 0)
+                    → TranslateDone (translateKept vars kept lent) (WrittenCase (record { instructions = r .instructions; rungs = length os; longest = r .longest })) after
+                unfolding translatedAnswer countsOf translate asBuffers
+                translate-done z after put cleared =
+                    let counted = laid .instructions gs the-held in
+                    let c = call-written vars kept lent asked in
+                    record {
+                      answer = rw (c, counted, laid .longest gs the-held, ← records-many) refl;
+                      same-buffers = rw c
+                          (put-written new lent (omega (arith, words-many)) (omega (arith, labels-many)) (omega (arith, offsets-many)) (omega (arith, lengths-many)) (omega (arith, times-many)) after
+                          (put .wrote gs the-held (starts-laid z)) (cleared ∙ ap (λ (k : ℕ). sets (lent .times) 0 (replicate k 0)) (sym records-many)));
+                    }

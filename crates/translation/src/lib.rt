@@ -1,5 +1,5 @@
 // The call Translate: from a kept ladder to its list. Document 01, "Translation".
-ghost use Rattle.rungs.specs.Records.{rowOf};
+ghost use Rattle.ladder_definitions.specs.Kept.{keptOf};
 ghost use Rattle.rungs.specs.Buffers.{buffers};
 ghost use Rattle.translation_definitions.specs.TranslateKept.{translateKept, TranslateDone};
 use questions::Refusal;
@@ -15,17 +15,21 @@ pub fn translate(
     labels: &[u16],
     offsets: &[u32],
     lengths: &[u32],
+    times: &[u32],
     code: &mut [u32],
     code_labels: &mut [u16],
     code_offsets: &mut [u32],
     code_lengths: &mut [u32],
+    code_times: &mut [u32],
 ) -> Translated
     ensures { λ r. ⌜ TranslateDone (translateKept vars
-        (record { words = now (words .entry); records = rowOf (now (labels .entry)) (now (offsets .entry)) (now (lengths .entry)) })
-        (buffers (now (code .entry)) (now («code_labels» .entry)) (now («code_offsets» .entry)) (now («code_lengths» .entry)))) r
-        (buffers (now (code .exit)) (now («code_labels» .exit)) (now («code_offsets» .exit)) (now («code_lengths» .exit))) ⌝ }
+        (keptOf (now (words .entry)) (now (labels .entry)) (now (offsets .entry)) (now (lengths .entry)) (now (times .entry)))
+        (buffers (now (code .entry)) (now («code_labels» .entry)) (now («code_offsets» .entry)) (now («code_lengths» .entry))
+        (now («code_times» .entry)))) r
+        (buffers (now (code .exit)) (now («code_labels» .exit)) (now («code_offsets» .exit)) (now («code_lengths» .exit))
+        (now («code_times» .exit))) ⌝ }
 {
-    match ladder::ladder_answer(vars, words, labels, offsets, lengths) {
+    match ladder::ladder_answer(vars, words, labels, offsets, lengths, times) {
         Verdict::Refused(refusal) => {
             return Translated::Refused(refusal);
         }
@@ -46,6 +50,9 @@ pub fn translate(
     if code_lengths.len() < rungs {
         return Translated::Refused(Refusal::Buffer);
     }
+    if code_times.len() < rungs {
+        return Translated::Refused(Refusal::Buffer);
+    }
     translation_layout::write_list(
         vars,
         words,
@@ -57,6 +64,7 @@ pub fn translate(
         code_offsets,
         code_lengths,
     );
+    rungs::put_zeros(code_times, rungs);
     Translated::Written(Counts {
         instructions: layout.instructions,
         rungs,

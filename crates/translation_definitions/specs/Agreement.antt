@@ -6,6 +6,7 @@ use Rattle.table.specs.Halt.{Ended, Stopped}
 use Rattle.rungs.specs.Records.{longest}
 use Rattle.ladder_definitions.specs.Tree.{Ladder}
 use Rattle.ladder_definitions.specs.Meaning.{scanLadder}
+use Rattle.ladder_definitions.specs.Entries.{timesEntered}
 use Rattle.list_definitions.specs.Machine.{InstructionList, scanList}
 use Rattle.list_definitions.specs.ListScan.{scanEnds}
 use Rattle.translation_definitions.specs.Demand3.{EndedAlike, StoppedAlike, SameSum}
@@ -20,3 +21,8 @@ pub record Agreement (least : ℕ) (gs : Ladder) (l : InstructionList) (s : Stat
 pub record SumsAgree (gs : Ladder) (l : InstructionList) (s : State) (n : ℕ) : Type 0 where
   pub ended : (w : ℕ) → scanLadder gs n s .halt ≡ Ended → scanLadder gs n s .rungs * longest (l .records) ≤ w
       → SameSum (scanLadder gs n s .state .moved) (scanEnds (scanList l w s) .answer)
+
+-- 02, Req 04, beyond the request, from the same state and under the same watchdogs: where the ladder scan ended, the field of each rung's record is how often
+-- the ladder scan entered that rung.
+pub record TimesAgree (gs : Ladder) (l : InstructionList) (s : State) (n : ℕ) : Type 0 where
+  pub ended : (w : ℕ) → scanLadder gs n s .halt ≡ Ended → scanLadder gs n s .rungs * longest (l .records) ≤ w → scanList l w s .counts .times ≡ timesEntered gs n s

@@ -4,7 +4,7 @@ use Prim.Native.Nat.{ℕ, _*_}
 use mathlib.Core.Path.{_≡_}
 use mathlib.Core.Bool.{Bool, true, false}
 use mathlib.Core.Option.{none, some}
-use mathlib.Core.List.{List, [], _∷_, _++_}
+use mathlib.Core.List.{List, [], _∷_, _++_, map}
 use lib.Dec.{eqb}
 use lib.ListN.{length}
 use Rattle.questions.specs.Questions.{Refusal, Answer, ask, firstNo, question1, question12, question13, mostRungWatchdog, mostInstructionWatchdog}
@@ -12,13 +12,14 @@ use Rattle.questions.specs.Refusals.{refusalOf}
 use Rattle.table.specs.Halt.{Halt, Ended, Stopped}
 use Rattle.table.specs.State.{stateOf}
 use Rattle.table.specs.Questions.{question11}
-use Rattle.rungs.specs.Buffers.{Buffers, needs, writtenOver}
+use Rattle.rungs.specs.Buffers.{Buffers, asBuffers, needs, writtenOver}
 use Rattle.rungs.specs.Records.{longest}
 use Rattle.ladder_definitions.specs.Kept.{Kept}
 use Rattle.ladder_definitions.specs.Meaning.{scanLadder}
 use Rattle.ladder_definitions.specs.Questions.{ladderOf, ladderQuestions}
 use Rattle.ladder_definitions.specs.LadderScan.{LadderCounts, countsOf as ladderCountsOf, countsIn as ladderCountsIn}
-use Rattle.list_definitions.specs.Machine.{scanList}
+use Rattle.list_definitions.specs.Instruction.{instrWord}
+use Rattle.list_definitions.specs.Machine.{InstructionList, scanList}
 use Rattle.list_definitions.specs.ListScan.{ListCounts, countsOf as listCountsOf, countsIn as listCountsIn}
 use Rattle.translation_definitions.specs.Translate.{translate}
 use Rattle.translation_definitions.specs.TranslateKept.{Counts, countsOf, countsIn, listBuffers}
@@ -70,7 +71,11 @@ pub record BothCall : Type 0 where
   pub answer : BothAnswer
   pub lent : Lent
 
--- A refusal leaves all that was lent. Else the list stands in the buffers, and each scan's table in its copy.
+-- a list as Translate writes it, with the times that a scan of it entered each rung
+abbrev pub scannedBuffers : InstructionList → List ℕ → Buffers
+scannedBuffers list times = asBuffers (map instrWord (list .code)) (list .records) times
+
+-- A refusal leaves all that was lent. Else the list stands in the buffers, with the times that its scan set, and each scan's table in its copy.
 unfoldable pub bothScans : ℕ → Kept → List ℕ → Lent → ℕ → ℕ → BothCall
 bothScans vars k table lent n w =
     let list = translate vars (ladderOf k) in
@@ -80,7 +85,7 @@ bothScans vars k table lent n w =
       | some refusal ↦ record { answer = refused refusal; lent = lent }
       | none ↦ record {
         answer = both (record { counts = countsOf list; ladderHalt = x .halt; ladder = ladderCountsOf x; listHalt = y .halt; list = listCountsOf y });
-        lent = lends (x .state .bytes) (y .state .bytes) (writtenOver (listBuffers list) (lent .buffers));
+        lent = lends (x .state .bytes) (y .state .bytes) (writtenOver (scannedBuffers list (y .counts .times)) (lent .buffers));
       }
     ]
 

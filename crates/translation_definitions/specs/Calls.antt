@@ -1,16 +1,17 @@
 -- Demand 3 over the definitions of the calls Translate, Ladder scan and List scan. Its hypotheses are Given, its conclusions CallsAgree, a field to a sentence;
 -- Theorems states that the first give the second. Assumes nothing.
-use Prim.Native.Nat.{ℕ, _*_}
+use Prim.Native.Nat.{ℕ, _*_, _≤_}
 use mathlib.Core.Path.{_≡_}
 use mathlib.Core.List.{List}
 use Rattle.questions.specs.Questions.{yes, question12, question13, mostRungWatchdog, mostInstructionWatchdog}
 use Rattle.table.specs.State.{stateOf}
-use Rattle.table.specs.Halt.{Halt, Stopped}
+use Rattle.table.specs.Halt.{Halt, Ended, Stopped}
 use Rattle.table.specs.Questions.{question11}
 use Rattle.rungs.specs.Records.{RungRecord}
 use Rattle.rungs.specs.Buffers.{Buffers, needs, writtenWords, writtenRecords}
 use Rattle.ladder_definitions.specs.Kept.{Kept}
 use Rattle.ladder_definitions.specs.Questions.{ladderOf, ladderAnswer}
+use Rattle.ladder_definitions.specs.Entries.{timesEntered}
 use Rattle.ladder_definitions.specs.LadderScan.{LadderCounts, callLadderScan, scanned as ladderScanned}
 use Rattle.list_definitions.specs.Questions.{listAnswer}
 use Rattle.list_definitions.specs.ListScan.{callListScan}
@@ -37,6 +38,13 @@ unfoldable pub CallsSums : ℕ → ℕ → Kept → List ℕ → List RungRecord
 CallsSums longest vars kept words records table n = (w : ℕ) →
     SumsAlike longest w (callLadderScan vars kept table n .answer) (callListScan vars words records table w .answer)
 
+-- 02, Req 04, beyond the request: the times entered after these two scans, whatever the fields held before, where the ladder scan ended and w is legal and
+-- k × L or more.
+unfoldable pub CallsTimes : ℕ → ℕ → Kept → List ℕ → List RungRecord → List ℕ → ℕ → Type 0
+CallsTimes longest vars kept words records table n =
+    (w : ℕ) (c : LadderCounts) → callLadderScan vars kept table n .answer ≡ ladderScanned Ended c → question12 mostInstructionWatchdog w ≡ yes → c .rungs * longest ≤ w
+    → (before : List ℕ) → callListScan vars words records table w .times before ≡ timesEntered (ladderOf kept) n (stateOf vars table)
+
 pub record ScansAgree (vars : ℕ) (kept : Kept) (words : List ℕ) (records : List RungRecord) (longest : ℕ) (table : List ℕ) (n : ℕ) : Type 0 where
   -- the list is one that List scan and Listing take
   pub list-accepted : listAnswer vars words records ≡ yes
@@ -52,6 +60,8 @@ pub record ScansAgree (vars : ℕ) (kept : Kept) (words : List ℕ) (records : L
   pub alike : CallsAlike 2 longest vars kept words records table n
   -- 02, Req 02: "reports the same sum"
   pub sums : CallsSums longest vars kept words records table n
+  -- Req 04: each rung's field is how often the ladder scan entered it
+  pub times : CallsTimes longest vars kept words records table n
 
 pub record CallsAgree (vars : ℕ) (kept : Kept) (lent : Buffers) (table : List ℕ) (n : ℕ) : Type 0 where
   pub counts : Counts

@@ -10,5 +10,6 @@ pub mod Many
 pub mod Operands
 pub mod Parts
 pub mod Places
+pub mod Times
 pub mod Rows
 pub mod Scans

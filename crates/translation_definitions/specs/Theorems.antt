@@ -5,17 +5,17 @@ use mathlib.Core.Logic.{_↔_}
 use mathlib.Core.Option.{some}
 use mathlib.Core.List.{List, map, flatMap}
 use lib.Dec.{T}
-use lib.ListN.{length}
+use lib.ListN.{length, take}
 use Rattle.questions.specs.Tests.{all}
 use Rattle.questions.specs.Questions.{Refusal, yes, question12, mostRungWatchdog, mostInstructionWatchdog}
 use Rattle.questions.specs.Laws.Answers.{ask-passed, passed-ask, each-passed}
 use Rattle.table.specs.State.{State, stateOf, tableSize}
 use Rattle.table.specs.Questions.{question11, Legal}
 use Rattle.table.specs.Laws.Alike.{alike-self}
-use Rattle.rungs.specs.Records.{lay, startOf, longest}
+use Rattle.rungs.specs.Records.{lay, startOf, longest, noneEntered}
 use Rattle.rungs.specs.Buffers.{Buffers, asBuffers}
 use Rattle.rows.specs.declared.Rung.{Rung}
-use Rattle.rows.specs.Rows.{recordsOf}
+use Rattle.rows.specs.Rows.{recordsOf, timesOf}
 use Rattle.ladder_definitions.specs.Tree.{Ladder}
 use Rattle.ladder_definitions.specs.Kept.{Kept, encode}
 use Rattle.ladder_definitions.specs.Questions.{question6, scratchInRange, question9, rungBelow, ladderOf, ladderAnswer, Accepted}
@@ -24,11 +24,12 @@ use Rattle.list_definitions.specs.Machine.{InstructionList}
 use Rattle.list_definitions.specs.Questions.{instrInRange, question10}
 use Rattle.translation_definitions.specs.Translate.{rungCode, translate, codeBound}
 use Rattle.translation_definitions.specs.declared.Translated.{Translated}
-use Rattle.translation_definitions.specs.TranslateKept.{translateKept, TranslateDone}
-use Rattle.translation_definitions.specs.Agreement.{Agreement, SumsAgree}
+use Rattle.translation_definitions.specs.TranslateKept.{Counts, translated, translateKept, TranslateDone}
+use Rattle.translation_definitions.specs.Agreement.{Agreement, SumsAgree, TimesAgree}
 use Rattle.translation_definitions.specs.Calls.{Given, ScansAgree, CallsAgree}
 use Rattle.translation_definitions.specs.RowsAgree.{keptIn, RowsAgree}
-use Rattle.translation_definitions.specs.Laws.Lists.{start, records-are, start-near, translated-agrees, translated-sums}
+use Rattle.translation_definitions.specs.Laws.Answers.{no-times}
+use Rattle.translation_definitions.specs.Laws.Lists.{start, records-are, start-near, translated-agrees, translated-sums, translated-times}
 use Rattle.translation_definitions.specs.Laws.Legal.{list-in-range, list-decodes, watchdog-in-range, codes-in-range, codes-short}
 use Rattle.translation_definitions.specs.Laws.Exact.{codes-within}
 use Rattle.translation_definitions.specs.BothScans.{Lent, BothEnds, both, refused, bothScans, pairedScans}
@@ -46,6 +47,11 @@ agreement gs s n accepted legal = translated-agrees (s .vars) gs accepted s n (a
 -- 02, Req 02: for the same ladders, tables and watchdogs, "When a ladder scan ends, its list, scanned as in demand 3, reports the same sum."
 pub same-sum : (gs : Ladder) (s : State) (n : ℕ) → Accepted (s .vars) gs → Legal s → SumsAgree gs (translate (s .vars) gs) s n
 same-sum gs s n accepted legal = translated-sums (s .vars) gs accepted s n (alike-self s legal)
+
+-- 02, Req 04, beyond the request, for the same ladders, tables and watchdogs: where the ladder scan ended, each rung's field is how often the ladder scan entered
+-- that rung. That the fields add up to the rungs entered holds of every list: list_definitions.Theorems.
+pub same-times : (gs : Ladder) (s : State) (n : ℕ) → Accepted (s .vars) gs → Legal s → TimesAgree gs (translate (s .vars) gs) s n
+same-times gs s n accepted legal = translated-times (s .vars) gs accepted s n (alike-self s legal)
 
 -- An accepted ladder's list gets a "yes" to question 10,
 pub list-accepted : (vars : ℕ) (gs : Ladder) → Accepted vars gs → question10 vars (map instrWord (translate vars gs .code)) (translate vars gs .records) ≡ yes
@@ -84,6 +90,11 @@ scratch-exactly vars gs variables = (
   (λ h. passed-ask 9 _ (codes-within vars _ (start vars gs) gs h)),
 )
 
+-- 02, Req 04: "calls that write records put 0": the fields of the records that Translate wrote.
+pub written-times : (vars : ℕ) (kept : Kept) (lent : Buffers) (counts : Counts) → translateKept vars kept lent .answer ≡ translated counts
+    → take (counts .rungs) (translateKept vars kept lent .buffers .times) ≡ noneEntered (counts .rungs)
+written-times vars kept lent counts e = no-times vars kept lent counts e
+
 -- Demand 3 over the calls Ladder scan and List scan: for every kept ladder of V variables that is accepted, its list in words and records,
 -- every legal table and every rung watchdog n.
 pub scans-agree : (vars : ℕ) (kept : Kept) (table : List ℕ) (n : ℕ)
@@ -120,9 +131,10 @@ many-scans vars kept scans t u given = many-alike vars kept (λ table n. scans-a
 
 -- Demand 3 over rows of rung records: for every answer, and all code words and records, that Translate over rows may leave by its promise.
 pub rows-agree : (vars : ℕ) (words : List ℕ) (row : List Rung) (code : List ℕ) (codeRow : List Rung) (table : List ℕ) (n : ℕ)
-    → Given vars (keptIn words row) (asBuffers code (recordsOf codeRow)) table n
+    → Given vars (keptIn words row) (asBuffers code (recordsOf codeRow) (timesOf codeRow)) table n
     → (answer : Translated) (code′ : List ℕ) (codeRow′ : List Rung)
-    → TranslateDone (translateKept vars (keptIn words row) (asBuffers code (recordsOf codeRow))) answer (asBuffers code′ (recordsOf codeRow′))
+    → TranslateDone (translateKept vars (keptIn words row) (asBuffers code (recordsOf codeRow) (timesOf codeRow))) answer
+    (asBuffers code′ (recordsOf codeRow′) (timesOf codeRow′))
     → RowsAgree vars (keptIn words row) answer code′ codeRow′ table n
 rows-agree vars words row code codeRow table n given answer code′ codeRow′ done =
-    rows-alike vars (keptIn words row) (asBuffers code (recordsOf codeRow)) table n given code′ codeRow′ answer done
+    rows-alike vars (keptIn words row) (asBuffers code (recordsOf codeRow) (timesOf codeRow)) table n given code′ codeRow′ answer done

@@ -7,7 +7,7 @@ use lib.ListN.{length}
 use Rattle.questions.specs.Questions.{Refusal, firstNo, question1, question13}
 use Rattle.questions.specs.Refusals.{refusalOf}
 use Rattle.rungs.specs.Records.{longest}
-use Rattle.rungs.specs.Buffers.{Buffers, asBuffers, needs, writtenOver}
+use Rattle.rungs.specs.Buffers.{Buffers, newBuffers, needs, writtenOver}
 use Rattle.ladder_definitions.specs.Kept.{Kept}
 use Rattle.ladder_definitions.specs.Questions.{ladderOf, ladderQuestions}
 use Rattle.list_definitions.specs.Instruction.{instrWord}
@@ -17,9 +17,9 @@ use Rattle.translation_definitions.specs.declared.Counts.{Counts as Coun
 use Rattle.translation_definitions.specs.declared.Translated.{Translated}
 use Rattle.translation_definitions.specs.declared.Translated.the-variants.{Written as WrittenCase, Refused as RefusedCase}
 
--- a list in instruction words and records, as buffers of just their size
+-- a list in instruction words and records, as buffers of just their size, no rung entered
 abbrev pub listBuffers : InstructionList → Buffers
-listBuffers list = asBuffers (map instrWord (list .code)) (list .records)
+listBuffers list = newBuffers (map instrWord (list .code)) (list .records)
 
 -- "the instruction and rung counts and L, the longest rung's length in instructions"
 pub record Counts : Type 0 where

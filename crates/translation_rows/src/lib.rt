@@ -2,16 +2,17 @@
 // buffers; the rest stays".
 ghost use mathlib.Core.Path.{_≡_};
 ghost use Rattle.rungs.specs.Buffers.{asBuffers};
-ghost use Rattle.rows.specs.Rows.{recordsOf};
+ghost use Rattle.rows.specs.Rows.{recordsOf, timesOf};
 ghost use Rattle.translation_definitions.specs.TranslateKept.{translateKept, TranslateDone};
-ghost use Rattle.translation_rows.specs.Parts.{refusedFields, FieldsTranslated};
+ghost use Rattle.translation_rows.specs.Parts.{refusedFields, rungsIn, FieldsTranslated};
 use questions::Refusal;
 use rows::Rows;
 use rows::Rung;
 use rungs::MOST_RECORDS;
 use translation_definitions::Translated;
 
-// What Translate answers, and the fields of the records that it writes: as many as `rows` keeps.
+// What Translate answers, and the fields of the records that it writes: as many as `rows` keeps. Their times are 0, which
+// `scatter` puts.
 pub struct TranslatedFields {
     pub answer: Translated,
     pub rows: Rows,
@@ -26,6 +27,16 @@ fn refused(refusal: Refusal, rows: Rows) -> TranslatedFields
     TranslatedFields {
         answer: Translated::Refused(refusal),
         rows: none,
+    }
+}
+
+// As many records as were written.
+fn rungs_in(answer: Translated) -> usize
+    ensures { λ r. ⌜ r ≡ rungsIn answer ⌝ }
+{
+    match answer {
+        Translated::Written(counts) => counts.rungs,
+        Translated::Refused(_) => 0,
     }
 }
 
@@ -46,10 +57,13 @@ fn translate_fields(
     let labels = rows.labels;
     let offsets = rows.offsets;
     let lengths = rows.lengths;
+    // 02, Req 04: "Any value is taken".
+    let times = [0u32; MOST_RECORDS];
     let m = rows.n;
     let mut code_labels = [0u16; MOST_RECORDS];
     let mut code_offsets = [0u32; MOST_RECORDS];
     let mut code_lengths = [0u32; MOST_RECORDS];
+    let mut code_times = [0u32; MOST_RECORDS];
     let room = rows::room(lent);
     let answer = translation::translate(
         vars,
@@ -57,15 +71,13 @@ fn translate_fields(
         &labels[..m],
         &offsets[..m],
         &lengths[..m],
+        &times[..m],
         code,
         &mut code_labels[..room],
         &mut code_offsets[..room],
         &mut code_lengths[..room],
+        &mut code_times[..room],
     );
-    let kept = match answer {
-        Translated::Written(counts) => counts.rungs,
-        Translated::Refused(_) => 0,
-    };
     TranslatedFields {
         answer,
         rows: Rows {
@@ -73,7 +85,7 @@ fn translate_fields(
             offsets: code_offsets,
             lengths: code_lengths,
             n: lent,
-            kept,
+            kept: rungs_in(answer),
         },
     }
 }
@@ -107,8 +119,8 @@ pub fn translate(
 ) -> Translated
     ensures { λ r. ⌜ TranslateDone (translateKept vars
         (record { words = now (words .entry); records = recordsOf (now (row .entry)) })
-        (asBuffers (now (code .entry)) (recordsOf (now («code_row» .entry))))) r
-        (asBuffers (now (code .exit)) (recordsOf (now («code_row» .exit)))) ⌝ }
+        (asBuffers (now (code .entry)) (recordsOf (now («code_row» .entry))) (timesOf (now («code_row» .entry))))) r
+        (asBuffers (now (code .exit)) (recordsOf (now («code_row» .exit))) (timesOf (now («code_row» .exit)))) ⌝ }
 {
     let long = ladder_rows::long_holds(row, words);
     let done = translate_fields(vars, words, rows::gather(row), long, code, code_row.len());

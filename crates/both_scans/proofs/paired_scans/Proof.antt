@@ -25,8 +25,11 @@ same-length-5 c = search needs
 same-length-6 : tie.Need-same-length-6
 same-length-6 c = search needs
 
+same-length-7 : tie.Need-same-length-7
+same-length-7 c = search needs
+
 returns : tie.Need-returns
-returns c = paired-promise _ _ _ _ _ (c .before .before .before .before .before .before .before .before .before .before .before .before .scan-both .ensures)
+returns c = paired-promise _ _ _ _ _ (c .before .before .before .before .before .before .before .before .before .before .before .before .before .before .scan-both .ensures)
 
 pub paired-scans-spec : {M : Type 1} → statement M
 paired-scans-spec =
@@ -39,4 +42,5 @@ paired-scans-spec =
     same-length-4
     same-length-5
     same-length-6
+    same-length-7
     returns)

@@ -1,7 +1,8 @@
 -- `both_scans::scan_both` meets its contract, from the promises of the questions, Translate and both scans. Assumes nothing.
+use Prim.Native.Nat.{ℕ}
 use native.Mathlib.Omega.{arith}
-use mathlib.Core.Path.{sym}
-use lib.Seq.{length-take-le}
+use mathlib.Core.Path.{refl, sym, _∙_}
+use lib.Seq.{length-take-le, length-front}
 use Rattle.both_scans.proofs.Boths.{early-refused, written-fits, longest-few, rungs-few, room-refused, both-done}
 use borrow.Author.Needs.{needs}
 use Rattle.both_scans.proofs.scan_both.Statement.{statement}
@@ -32,31 +33,37 @@ enum-known-counts : tie.Need-enum-known-counts
 enum-known-counts c = search needs
 
 slice-reshare-prefix-scan-written : tie.Need-slice-reshare-prefix-scan-written
-slice-reshare-prefix-scan-written c = omega (arith, written-fits _ _ _ _ _ (c .before .before .before .before .before .before .before .before .before .before .before .before .before .translate .ensures) _ (c .before .before .before .counts .given .1) .0, c .before .before .before .before .before .before .before .before .before .before .before .before .before .translate .kept .1 .1 .1 .1 .1 .0)
+slice-reshare-prefix-scan-written c = omega (arith, written-fits _ _ _ _ _ (c .before .before .before .before .before .before .before .before .before .before .before .before .before .before .before .translate .ensures) _ (c .before .before .before .counts .given .1) .0, c .before .before .before .before .before .before .before .before .before .before .before .before .before .before .before .translate .kept .1 .1 .1 .1 .1 .1 .0)
 
 slice-aggregate-scan-written : tie.Need-slice-aggregate-scan-written
-slice-aggregate-scan-written c = sym (length-take-le _ _ (omega (arith, written-fits _ _ _ _ _ (c .before .before .before .before .before .before .before .before .before .before .before .before .before .before .translate .ensures) _ (c .before .before .before .before .counts .given .1) .0, c .before .before .before .before .before .before .before .before .before .before .before .before .before .before .translate .kept .1 .1 .1 .1 .1 .0)))
+slice-aggregate-scan-written c = sym (length-take-le _ _ (omega (arith, written-fits _ _ _ _ _ (c .before .before .before .before .before .before .before .before .before .before .before .before .before .before .before .before .translate .ensures) _ (c .before .before .before .before .counts .given .1) .0, c .before .before .before .before .before .before .before .before .before .before .before .before .before .before .before .before .translate .kept .1 .1 .1 .1 .1 .1 .0)))
 
 slice-reshare-prefix-scan-written-2 : tie.Need-slice-reshare-prefix-scan-written-2
-slice-reshare-prefix-scan-written-2 c = omega (arith, written-fits _ _ _ _ _ (c .before .before .before .before .before .before .before .before .before .before .before .before .before .before .translate .ensures) _ (c .before .before .before .before .counts .given .1) .1, c .before .before .before .before .before .before .before .before .before .before .before .before .before .before .translate .kept .1 .1 .1 .1 .1 .1 .0)
+slice-reshare-prefix-scan-written-2 c = omega (arith, written-fits _ _ _ _ _ (c .before .before .before .before .before .before .before .before .before .before .before .before .before .before .before .before .translate .ensures) _ (c .before .before .before .before .counts .given .1) .1, c .before .before .before .before .before .before .before .before .before .before .before .before .before .before .before .before .translate .kept .1 .1 .1 .1 .1 .1 .1 .0)
 
 slice-aggregate-scan-written-2 : tie.Need-slice-aggregate-scan-written-2
-slice-aggregate-scan-written-2 c = sym (length-take-le _ _ (omega (arith, written-fits _ _ _ _ _ (c .before .before .before .before .before .before .before .before .before .before .before .before .before .before .before .translate .ensures) _ (c .before .before .before .before .before .counts .given .1) .1, c .before .before .before .before .before .before .before .before .before .before .before .before .before .before .before .translate .kept .1 .1 .1 .1 .1 .1 .0)))
+slice-aggregate-scan-written-2 c = sym (length-take-le _ _ (omega (arith, written-fits _ _ _ _ _ (c .before .before .before .before .before .before .before .before .before .before .before .before .before .before .before .before .before .translate .ensures) _ (c .before .before .before .before .before .counts .given .1) .1, c .before .before .before .before .before .before .before .before .before .before .before .before .before .before .before .before .before .translate .kept .1 .1 .1 .1 .1 .1 .1 .0)))
 
 slice-reshare-prefix-scan-written-3 : tie.Need-slice-reshare-prefix-scan-written-3
-slice-reshare-prefix-scan-written-3 c = omega (arith, written-fits _ _ _ _ _ (c .before .before .before .before .before .before .before .before .before .before .before .before .before .before .before .translate .ensures) _ (c .before .before .before .before .before .counts .given .1) .2, c .before .before .before .before .before .before .before .before .before .before .before .before .before .before .before .translate .kept .1 .1 .1 .1 .1 .1 .1 .0)
+slice-reshare-prefix-scan-written-3 c = omega (arith, written-fits _ _ _ _ _ (c .before .before .before .before .before .before .before .before .before .before .before .before .before .before .before .before .before .translate .ensures) _ (c .before .before .before .before .before .counts .given .1) .2, c .before .before .before .before .before .before .before .before .before .before .before .before .before .before .before .before .before .translate .kept .1 .1 .1 .1 .1 .1 .1 .1 .0)
 
 slice-aggregate-scan-written-3 : tie.Need-slice-aggregate-scan-written-3
-slice-aggregate-scan-written-3 c = sym (length-take-le _ _ (omega (arith, written-fits _ _ _ _ _ (c .before .before .before .before .before .before .before .before .before .before .before .before .before .before .before .before .translate .ensures) _ (c .before .before .before .before .before .before .counts .given .1) .2, c .before .before .before .before .before .before .before .before .before .before .before .before .before .before .before .before .translate .kept .1 .1 .1 .1 .1 .1 .1 .0)))
+slice-aggregate-scan-written-3 c = sym (length-take-le _ _ (omega (arith, written-fits _ _ _ _ _ (c .before .before .before .before .before .before .before .before .before .before .before .before .before .before .before .before .before .before .translate .ensures) _ (c .before .before .before .before .before .before .counts .given .1) .2, c .before .before .before .before .before .before .before .before .before .before .before .before .before .before .before .before .before .before .translate .kept .1 .1 .1 .1 .1 .1 .1 .1 .0)))
 
 slice-reshare-prefix-scan-written-4 : tie.Need-slice-reshare-prefix-scan-written-4
-slice-reshare-prefix-scan-written-4 c = omega (arith, written-fits _ _ _ _ _ (c .before .before .before .before .before .before .before .before .before .before .before .before .before .before .before .before .translate .ensures) _ (c .before .before .before .before .before .before .counts .given .1) .3, c .before .before .before .before .before .before .before .before .before .before .before .before .before .before .before .before .translate .kept .1 .1 .1 .1 .1 .1 .1 .1 .0)
+slice-reshare-prefix-scan-written-4 c = omega (arith, written-fits _ _ _ _ _ (c .before .before .before .before .before .before .before .before .before .before .before .before .before .before .before .before .before .before .translate .ensures) _ (c .before .before .before .before .before .before .counts .given .1) .3, c .before .before .before .before .before .before .before .before .before .before .before .before .before .before .before .before .before .before .translate .kept .1 .1 .1 .1 .1 .1 .1 .1 .1 .0)
 
 slice-aggregate-scan-written-4 : tie.Need-slice-aggregate-scan-written-4
-slice-aggregate-scan-written-4 c = sym (length-take-le _ _ (omega (arith, written-fits _ _ _ _ _ (c .before .before .before .before .before .before .before .before .before .before .before .before .before .before .before .before .before .translate .ensures) _ (c .before .before .before .before .before .before .before .counts .given .1) .3, c .before .before .before .before .before .before .before .before .before .before .before .before .before .before .before .before .before .translate .kept .1 .1 .1 .1 .1 .1 .1 .1 .0)))
+slice-aggregate-scan-written-4 c = sym (length-take-le _ _ (omega (arith, written-fits _ _ _ _ _ (c .before .before .before .before .before .before .before .before .before .before .before .before .before .before .before .before .before .before .before .translate .ensures) _ (c .before .before .before .before .before .before .before .counts .given .1) .3, c .before .before .before .before .before .before .before .before .before .before .before .before .before .before .before .before .before .before .before .translate .kept .1 .1 .1 .1 .1 .1 .1 .1 .1 .0)))
+
+slice-relend-prefix-scan-written : tie.Need-slice-relend-prefix-scan-written
+slice-relend-prefix-scan-written c = omega (arith, written-fits _ _ _ _ _ (c .before .before .before .before .before .before .before .before .before .before .before .before .before .before .before .before .before .before .before .translate .ensures) _ (c .before .before .before .before .before .before .before .counts .given .1) .4, c .before .before .before .before .before .before .before .before .before .before .before .before .before .before .before .before .before .before .before .translate .kept .1 .1 .1 .1 .1 .1 .1 .1 .1 .1 .0)
+
+slice-aggregate-scan-written-5 : tie.Need-slice-aggregate-scan-written-5
+slice-aggregate-scan-written-5 c = sym (length-take-le _ _ (omega (arith, written-fits _ _ _ _ _ (c .before .before .before .before .before .before .before .before .before .before .before .before .before .before .before .before .before .before .before .before .translate .ensures) _ (c .before .before .before .before .before .before .before .before .counts .given .1) .4, c .before .before .before .before .before .before .before .before .before .before .before .before .before .before .before .before .before .before .before .before .translate .kept .1 .1 .1 .1 .1 .1 .1 .1 .1 .1 .0)))
 
 scan-written-requires : tie.Need-scan-written-requires
-scan-written-requires c κs = (longest-few _ _ _ _ _ (c .before .before .before .before .before .before .before .before .before .before .before .before .before .before .before .before .before .translate .ensures) _ (c .before .before .before .before .before .before .before .counts .given .1), rungs-few _ _ _ _ _ _ _ (c .before .before .before .before .before .before .before .before .before .before .before .before .before .before .before .before .before .before .before .before .before .before .before .before .both-answer .ensures) (c .before .before .before .before .before .before .before .before .before .before .before .before .before .before .before .before .before .before .before .before .before .before .enum-told .given .1))
+scan-written-requires c κs = (longest-few _ _ _ _ _ (c .before .before .before .before .before .before .before .before .before .before .before .before .before .before .before .before .before .before .before .before .translate .ensures) _ (c .before .before .before .before .before .before .before .before .counts .given .1), rungs-few _ _ _ _ _ _ _ (c .before .before .before .before .before .before .before .before .before .before .before .before .before .before .before .before .before .before .before .before .before .before .before .before .before .before .before .before .both-answer .ensures) (c .before .before .before .before .before .before .before .before .before .before .before .before .before .before .before .before .before .before .before .before .before .before .before .before .before .before .enum-told .given .1))
 
 same-length : tie.Need-same-length
 same-length c = search needs
@@ -70,29 +77,35 @@ same-length-3 c = search needs
 same-length-4 : tie.Need-same-length-4
 same-length-4 c = search needs
 
-returns-2 : tie.Need-returns-2
-returns-2 c = room-refused _ _ _ _ _ _ _ (c .before .before .before .before .before .before .before .before .before .before .before .before .before .before .before .before .before .before .before .asked-watchdog .ensures) _ (c .before .before .before .before .before .before .before .before .before .before .before .before .before .before .before .before .before .before .both-answer .ensures) (c .before .before .before .before .before .before .before .before .before .before .before .before .before .before .before .before .enum-told .given .1) _ _ (c .before .before .before .before .before .before .before .before .before .before .before .translate .ensures) _ (c .before .refusal2 .given .1)
-
 same-length-5 : tie.Need-same-length-5
 same-length-5 c = search needs
+
+returns-2 : tie.Need-returns-2
+returns-2 c = room-refused _ _ _ _ _ _ _ (c .before .before .before .before .before .before .before .before .before .before .before .before .before .before .before .before .before .before .before .before .before .before .asked-watchdog .ensures) _ (c .before .before .before .before .before .before .before .before .before .before .before .before .before .before .before .before .before .before .before .before .before .both-answer .ensures) (c .before .before .before .before .before .before .before .before .before .before .before .before .before .before .before .before .before .before .before .enum-told .given .1) _ _ (c .before .before .before .before .before .before .before .before .before .before .before .before .before .translate .ensures) _ (c .before .refusal2 .given .1)
 
 same-length-6 : tie.Need-same-length-6
 same-length-6 c = search needs
 
 same-length-7 : tie.Need-same-length-7
-same-length-7 c = omega (arith, c .before .before .before .before .before .before .before .before .before .before .before .before .before .before .before .before .before .before .before .before .before .before .translate .kept .1 .1 .1 .1 .1 .0)
+same-length-7 c = search needs
 
 same-length-8 : tie.Need-same-length-8
-same-length-8 c = omega (arith, c .before .before .before .before .before .before .before .before .before .before .before .before .before .before .before .before .before .before .before .before .before .before .translate .kept .1 .1 .1 .1 .1 .1 .0)
+same-length-8 c = omega (arith, c .before .before .before .before .before .before .before .before .before .before .before .before .before .before .before .before .before .before .before .before .before .before .before .before .before .before .before .translate .kept .1 .1 .1 .1 .1 .1 .0)
 
 same-length-9 : tie.Need-same-length-9
-same-length-9 c = omega (arith, c .before .before .before .before .before .before .before .before .before .before .before .before .before .before .before .before .before .before .before .before .before .before .translate .kept .1 .1 .1 .1 .1 .1 .1 .0)
+same-length-9 c = omega (arith, c .before .before .before .before .before .before .before .before .before .before .before .before .before .before .before .before .before .before .before .before .before .before .before .before .before .before .before .translate .kept .1 .1 .1 .1 .1 .1 .1 .0)
 
 same-length-10 : tie.Need-same-length-10
-same-length-10 c = omega (arith, c .before .before .before .before .before .before .before .before .before .before .before .before .before .before .before .before .before .before .before .before .before .before .translate .kept .1 .1 .1 .1 .1 .1 .1 .1 .0)
+same-length-10 c = omega (arith, c .before .before .before .before .before .before .before .before .before .before .before .before .before .before .before .before .before .before .before .before .before .before .before .before .before .before .before .translate .kept .1 .1 .1 .1 .1 .1 .1 .1 .0)
+
+same-length-11 : tie.Need-same-length-11
+same-length-11 c = omega (arith, c .before .before .before .before .before .before .before .before .before .before .before .before .before .before .before .before .before .before .before .before .before .before .before .before .before .before .before .translate .kept .1 .1 .1 .1 .1 .1 .1 .1 .1 .0)
+
+same-length-12 : tie.Need-same-length-12
+same-length-12 c = length-front {A = ℕ} (c .before .before .before .before .before .before .before .before .before .before .before .before .before .before .before .before .before .before .before .before .before .before .before .before .before .before .before .translate .last .1 .1 .1 .1 .1 .1 .1 .1 .1 .1 .0) (c .before .before .before .before .before .before .scan-written .last .1 .1 .1 .1 .1 .1 .1 .1 .1 .1 .1 .1 .1 .0) (c .before .before .before .before .before .before .before .before .before .before .before .before .before .before .before .counts .given .0 .0 .rungs) (c .before .before .before .before .before .before .scan-written .kept .1 .1 .1 .1 .1 .1 .1 .1 .1 .1 .1 .1 .1 .0) ∙ c .before .before .before .before .before .before .before .before .before .before .before .before .before .before .before .before .before .before .before .before .before .before .before .before .before .before .before .translate .kept .1 .1 .1 .1 .1 .1 .1 .1 .1 .1 .0
 
 returns-3 : tie.Need-returns-3
-returns-3 c = both-done _ _ _ _ _ _ _ (c .before .before .before .before .before .before .before .before .before .before .before .before .before .before .before .before .before .before .before .before .before .before .before .before .before .before .before .before .before .before .asked-watchdog .ensures) _ (c .before .before .before .before .before .before .before .before .before .before .before .before .before .before .before .before .before .before .before .before .before .before .before .before .before .before .before .before .before .both-answer .ensures) (c .before .before .before .before .before .before .before .before .before .before .before .before .before .before .before .before .before .before .before .before .before .before .before .before .before .before .before .enum-told .given .1) _ _ (c .before .before .before .before .before .before .before .before .before .before .before .before .before .before .before .before .before .before .before .before .before .before .translate .ensures) _ (c .before .before .before .before .before .before .before .before .before .before .before .before .counts .given .1) _ _ _ (c .before .before .before .before .scan-written .ensures)
+returns-3 c = both-done _ _ _ _ _ _ _ (c .before .before .before .before .before .before .before .before .before .before .before .before .before .before .before .before .before .before .before .before .before .before .before .before .before .before .before .before .before .before .before .before .before .before .before .before .asked-watchdog .ensures) _ (c .before .before .before .before .before .before .before .before .before .before .before .before .before .before .before .before .before .before .before .before .before .before .before .before .before .before .before .before .before .before .before .before .before .before .before .both-answer .ensures) (c .before .before .before .before .before .before .before .before .before .before .before .before .before .before .before .before .before .before .before .before .before .before .before .before .before .before .before .before .before .before .before .before .before .enum-told .given .1) _ _ (c .before .before .before .before .before .before .before .before .before .before .before .before .before .before .before .before .before .before .before .before .before .before .before .before .before .before .before .translate .ensures) _ (c .before .before .before .before .before .before .before .before .before .before .before .before .before .before .before .counts .given .1) _ _ _ _ _ (c .before .before .before .before .before .before .scan-written .ensures) _ refl
 
 pub scan-both-spec : {M : Type 1} → statement M
 scan-both-spec =
@@ -114,16 +127,20 @@ scan-both-spec =
     slice-aggregate-scan-written-3
     slice-reshare-prefix-scan-written-4
     slice-aggregate-scan-written-4
+    slice-relend-prefix-scan-written
+    slice-aggregate-scan-written-5
     scan-written-requires
     same-length
     same-length-2
     same-length-3
     same-length-4
-    returns-2
     same-length-5
+    returns-2
     same-length-6
     same-length-7
     same-length-8
     same-length-9
     same-length-10
+    same-length-11
+    same-length-12
     returns-3)

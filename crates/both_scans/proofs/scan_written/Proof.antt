@@ -17,7 +17,7 @@ ladder-end-requires : tie.Need-ladder-end-requires
 ladder-end-requires c κs = search needs
 
 list-watchdog-requires : tie.Need-list-watchdog-requires
-list-watchdog-requires c κs = (rw (c .before .ladder-end .ensures) (end-few _ _ _ _ _ _ (c .before .before .before .before .ladder-scan .ensures) (c .before .before .before .before .before .before .before .before .before .before .before .before .before .before .before .before .before .before .before .before .before .before .before .before .before .pre .1)), c .before .before .before .before .before .before .before .before .before .before .before .before .before .before .before .before .before .before .before .before .before .before .before .before .before .pre .0, c .before .before .before .before .before .before .before .before .before .before .before .before .before .before .before .before .before .before .before .before .before .before .before .before .before .pre .1)
+list-watchdog-requires c κs = (rw (c .before .before .ladder-end .ensures) (end-few _ _ _ _ _ _ (c .before .before .before .before .before .ladder-scan .ensures) (c .before .before .before .before .before .before .before .before .before .before .before .before .before .before .before .before .before .before .before .before .before .before .before .before .before .before .before .before .pre .1)), c .before .before .before .before .before .before .before .before .before .before .before .before .before .before .before .before .before .before .before .before .before .before .before .before .before .before .before .before .pre .0, c .before .before .before .before .before .before .before .before .before .before .before .before .before .before .before .before .before .before .before .before .before .before .before .before .before .before .before .before .pre .1)
 
 list-scan-requires : tie.Need-list-scan-requires
 list-scan-requires c κs = search needs
@@ -26,13 +26,16 @@ list-end-requires : tie.Need-list-end-requires
 list-end-requires c κs = search needs
 
 same-length : tie.Need-same-length
-same-length c = search (needs, c .before .before .before .before .before .before .before .before .before .before .before .before .before .before .before .before .before .before .before .copy-table .kept, c .before .before .before .before .before .before .before .before .before .before .before .ladder-scan .kept)
+same-length c = search (needs, c .before .before .before .before .before .before .before .before .before .before .before .before .before .before .before .before .before .before .before .before .before .before .copy-table .kept, c .before .before .before .before .before .before .before .before .before .before .before .before .before .before .ladder-scan .kept)
 
 same-length-2 : tie.Need-same-length-2
 same-length-2 c = search needs
 
+same-length-3 : tie.Need-same-length-3
+same-length-3 c = search needs
+
 returns : tie.Need-returns
-returns c = scans-ran _ _ _ _ _ _ _ _ _ (c .before .before .before .before .before .before .before .before .before .before .before .before .before .before .before .before .before .before .before .copy-table .ensures) (c .before .before .before .before .before .before .before .before .before .before .before .before .before .before .before .copy-table2 .ensures) _ _ (c .before .before .before .before .before .before .before .before .before .before .before .ladder-scan .ensures) _ (c .before .before .before .before .before .before .before .before .ladder-end .ensures) _ (c .before .before .before .before .before .before .list-watchdog .ensures) _ _ (c .before .before .before .before .before .list-scan .ensures) _ (c .before .before .list-end .ensures)
+returns c = scans-ran _ _ _ _ _ _ _ _ _ (c .before .before .before .before .before .before .before .before .before .before .before .before .before .before .before .before .before .before .before .before .before .before .copy-table .ensures) (c .before .before .before .before .before .before .before .before .before .before .before .before .before .before .before .before .before .before .copy-table2 .ensures) _ _ (c .before .before .before .before .before .before .before .before .before .before .before .before .before .before .ladder-scan .ensures) _ (c .before .before .before .before .before .before .before .before .before .before .before .ladder-end .ensures) _ (c .before .before .before .before .before .before .before .before .list-watchdog .ensures) _ _ _ _ (c .before .before .before .before .before .before .before .list-scan .ensures) _ (c .before .before .list-end .ensures)
 
 pub scan-written-spec : {M : Type 1} → statement M
 scan-written-spec =
@@ -47,4 +50,5 @@ scan-written-spec =
     list-end-requires
     same-length
     same-length-2
+    same-length-3
     returns)

@@ -28,7 +28,7 @@ same-length-2 : tie.Need-same-length-2
 same-length-2 c = search needs
 
 returns-2 : tie.Need-returns-2
-returns-2 c = scan-done _ _ _ _ _ _ _ _ _ (verdict-accepted (c .before .before .before .before .before .before .scan-questions .ensures) (c .before .before .before .before .enum-told .given .1)) (c .before .before .run .ensures)
+returns-2 c = scan-done _ _ _ _ _ _ _ _ _ _ (verdict-accepted (c .before .before .before .before .before .before .scan-questions .ensures) (c .before .before .before .before .enum-told .given .1)) (c .before .before .run .ensures)
 
 pub ladder-scan-spec : {M : Type 1} → statement M
 ladder-scan-spec =

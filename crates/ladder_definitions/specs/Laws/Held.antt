@@ -7,11 +7,11 @@ use mathlib.Core.Option.{some}
 use mathlib.Core.List.{List, [], _∷_, flatMap}
 use lib.ListN.{length, getD, take, drop, length-map, take-append-drop}
 use Rattle.questions.specs.Laws.Tests.{all-head, all-second}
-use Rattle.rungs.specs.Records.{rowOf, labels as recordLabels, offsets}
-use Rattle.rungs.specs.Laws.Rows.{Even, row-even, row-labels, row-offsets}
+use Rattle.rungs.specs.Records.{fieldsOf, rowOf, labels as recordLabels, offsets}
+use Rattle.rungs.specs.Laws.Rows.{Even, row-even, row-labels, row-offsets, row-fields, row-times}
 use Rattle.rungs.specs.Laws.Layout.{lay-length, lay-labels, sizes, offset-at, drop-pieces}
 use Rattle.ladder_definitions.specs.Tree.{Rung, Ladder, rungAll}
-use Rattle.ladder_definitions.specs.Kept.{Kept, rungWords, encode, decode, inputFits, outputFits}
+use Rattle.ladder_definitions.specs.Kept.{Kept, keptOf, rungWords, encode, decode, inputFits, outputFits}
 use Rattle.ladder_definitions.specs.Held.{RungAt, LadderHeld}
 use Rattle.ladder_definitions.specs.Laws.Accepting.{encode-decode}
 
@@ -30,20 +30,21 @@ pub kept-many : (k : Kept) (gs : Ladder) → decode k ≡ some gs → length (k 
 unfolding encode
 kept-many k gs e = ap (λ k. length (k .records)) (encode-decode k gs e .0) ∙ lay-length (λ g. g .label) (λ g. length (rungWords g)) 0 gs
 
--- ---- records as three number slices
+-- ---- records as four number slices
 
-abbrev pub keptOf : List ℕ → List ℕ → List ℕ → List ℕ → Kept
-keptOf ws ls os ns = record { words = ws; records = rowOf ls os ns }
+module _ (ws ls os ns ts : List ℕ) (gs : Ladder) (e : decode (keptOf ws ls os ns ts) ≡ some gs) (h : 1 ≤ length gs) where
+  -- where they hold a ladder, the first three make its records
+  pub three-fields : rowOf ls os ns ts ≡ fieldsOf ls os ns
+  three-fields = let n = kept-many (keptOf ws ls os ns ts) gs e in row-fields ls os ns ts (row-times ls os ns ts (omega arith))
 
-module _ (ws ls os ns : List ℕ) (gs : Ladder) (e : decode (keptOf ws ls os ns) ≡ some gs) (h : 1 ≤ length gs) where
-  pub rows : rowOf ls os ns ≡ encode gs .records
-  rows = ap (λ k. k .records) (encode-decode (keptOf ws ls os ns) gs e .0)
+  pub rows : fieldsOf ls os ns ≡ encode gs .records
+  rows = sym three-fields ∙ ap (λ k. k .records) (encode-decode (keptOf ws ls os ns ts) gs e .0)
 
   pub even : Even ls os ns
-  even = let n = kept-many (keptOf ws ls os ns) gs e in row-even ls os ns (omega arith)
+  even = let n = kept-many (keptOf ws ls os ns ts) gs e in let same = ap (λ rs. length rs) three-fields in row-even ls os ns (omega arith)
 
   pub held : LadderHeld ws ls os gs
-  held = rw (row-labels ls os ns even, row-offsets ls os ns even) at (kept-held (keptOf ws ls os ns) gs e)
+  held = rw (three-fields, row-labels ls os ns even, row-offsets ls os ns even) at (kept-held (keptOf ws ls os ns ts) gs e)
 
 -- ---- the rung at a place
 

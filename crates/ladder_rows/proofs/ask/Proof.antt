@@ -1,5 +1,5 @@
 -- `ladder_rows::ask` meets its contract. More than 256 records are refused by what was found of the whole row; the fields of 256 or fewer are the row. Assumes nothing.
-use mathlib.Core.Path.{refl, sym}
+use mathlib.Core.Path.{refl, sym, _∙_}
 use lib.Seq.{length-take-le}
 use Rattle.rows.proofs.Fields.{within}
 use Rattle.ladder_rows.proofs.Answers.{asked-long, asked-short}
@@ -31,6 +31,12 @@ array-share-prefix-lengths c = within (c .before .before .before .before .before
 slice-aggregate-scan-questions-3 : tie.Need-slice-aggregate-scan-questions-3
 slice-aggregate-scan-questions-3 c = sym (length-take-le _ _ (within (c .before .before .before .before .before .before .before .before .before .before .args .rows) _ (c .before .before .before .before .before .before .before .before .before .before .good .1 .1 .0) (c .before .before .before .before .before .before .if1 .left) .lengths))
 
+array-share-prefix-times : tie.Need-array-share-prefix-times
+array-share-prefix-times c = c .before .before .before .before .before .before .if1 .left
+
+slice-aggregate-scan-questions-4 : tie.Need-slice-aggregate-scan-questions-4
+slice-aggregate-scan-questions-4 c = sym (length-take-le _ _ (c .before .before .before .before .before .before .before .if1 .left))
+
 scan-questions-requires : tie.Need-scan-questions-requires
 scan-questions-requires c κs = search needs
 
@@ -38,7 +44,7 @@ same-length : tie.Need-same-length
 same-length c = search needs
 
 returns-2 : tie.Need-returns-2
-returns-2 c = (asked-short _ _ _ _ _ _ (c .before .before .before .before .before .before .before .before .if1 .left) _ (c .scan-questions .ensures), refl)
+returns-2 c = (asked-short _ _ _ _ _ _ (c .before .before .before .before .before .before .before .before .before .if1 .left) _ _ (length-take-le _ _ (within (c .before .before .before .before .before .before .before .before .before .before .before .before .before .args .rows) _ (c .before .before .before .before .before .before .before .before .before .before .before .before .before .good .1 .1 .0) (c .before .before .before .before .before .before .before .before .before .if1 .left) .labels) ∙ sym (length-take-le _ _ (c .before .before .before .before .before .before .before .before .before .if1 .left))) (c .scan-questions .ensures), refl)
 
 pub ask-spec : {M : Type 1} → statement M
 ask-spec =
@@ -52,6 +58,8 @@ ask-spec =
     slice-aggregate-scan-questions-2
     array-share-prefix-lengths
     slice-aggregate-scan-questions-3
+    array-share-prefix-times
+    slice-aggregate-scan-questions-4
     scan-questions-requires
     same-length
     returns-2)

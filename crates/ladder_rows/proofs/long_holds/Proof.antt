@@ -47,8 +47,8 @@ use denote.Triple.Table.{entered, cited}
 use denote.Triple.Walked.{says, Stays, stay-none-slice, walkOf, goes-none-slice, Walks, ends-at, walked, walk-meets}
 use denote.Exit.{yes}
 use Rattle.rungs.specs.Records.{RungRecord}
-use Rattle.rows.specs.Rows.{recordOf, recordsOf, recordAt}
-use Rattle.rows.specs.Laws.Records.{rungAt, records-at, records-length, same-rung}
+use Rattle.rows.specs.Rows.{recordOf, recordsOf, rungAt}
+use Rattle.rows.specs.Laws.Records.{records-at, records-length}
 use Rattle.rows.specs.declared.Rung.{Rung}
 use Rattle.rows.proofs.Rung as T
 use Rattle.rows.proofs.Rung.Laws as T′
@@ -137,8 +137,8 @@ module _ {M : Type 1} (𝓤 : URA M) (H : Heap 𝓤) (A : Atoms 𝓤) (at-mem : 
   said-first : (r : Laid) → ent 𝓤 (ensured 𝓤 H A laid-first.ended (laid-first.clauses 𝓤 H A at-mem run) tt tt tt r) (fact 𝓤 (r ≡ laidFirst))
   said-first r = exE 𝓤 _ (λ ws. snd∗ 𝓤 (sem 𝓤 H A (lasts laid-first.ended tt tt ws)) (fact 𝓤 (r ≡ laidFirst)))
 
-  said-at : (κ : Lft) (x : RefT (List Rung)) (i : ℕ) (r : Rung) → ent 𝓤 (ensured 𝓤 H A rung-at.ended (rung-at.clauses 𝓤 H A at-mem run) (κ, tt) (x, (i, tt)) tt r) (fact 𝓤 (recordOf r ≡ recordAt (recordsOf (x .now)) i))
-  said-at κ x i r = exE 𝓤 _ (λ ws. snd∗ 𝓤 (sem 𝓤 H A (lasts rung-at.ended (κ, tt) (x, (i, tt)) ws)) (fact 𝓤 (recordOf r ≡ recordAt (recordsOf (x .now)) i)))
+  said-at : (κ : Lft) (x : RefT (List Rung)) (i : ℕ) (r : Rung) → ent 𝓤 (ensured 𝓤 H A rung-at.ended (rung-at.clauses 𝓤 H A at-mem run) (κ, tt) (x, (i, tt)) tt r) (fact 𝓤 (r ≡ rungAt (x .now) i))
+  said-at κ x i r = exE 𝓤 _ (λ ws. snd∗ 𝓤 (sem 𝓤 H A (lasts rung-at.ended (κ, tt) (x, (i, tt)) ws)) (fact 𝓤 (r ≡ rungAt (x .now) i)))
 
   said-next : (κ : Lft) (l : Laid) (y : RefT (List ℕ)) (r : Rung) (s : Laid) → ent 𝓤 (ensured 𝓤 H A laid-next-fn.ended (laid-next-fn.clauses 𝓤 H A at-mem run) (κ, tt) (l, (y, (r, tt))) tt s) (fact 𝓤 (s ≡ laidNext (y .now) l (recordOf r)))
   said-next κ l y r s = exE 𝓤 _ (λ ws. snd∗ 𝓤 (sem 𝓤 H A (lasts laid-next-fn.ended (κ, tt) (l, (y, (r, tt))) ws)) (fact 𝓤 (s ≡ laidNext (y .now) l (recordOf r))))
@@ -321,8 +321,8 @@ module _ {M : Type 1} (𝓤 : URA M) (H : Heap 𝓤) (A : Atoms 𝓤) (W : Given
           use2 W (raw (RungAt 𝓤 H A at-mem run .pre (to-at (i .0)))) (goes-at (i .0) fits (within less)) $
           calls-at ! fm (RungAt 𝓤 H A at-mem run) known-at (to-at (i .0)) (and-then ! (load ! (from ! (stop !)) (look ! 16 refl)) (and-then ! (load ! (from ! (stop !)) (look ! 8 refl)) (no-more !))) (λ v.
           use1 W (later (some (λ (r : Rung). (token₀ ⊛ ‵ (T.the-row .own r (v ∷ []))) ⊛ raw (ensured 𝓤 H A rung-at.ended (rung-at.clauses 𝓤 H A at-mem run) (κ₀, tt) (x, (i .0, tt)) tt r)))) (id⊢ 𝓤 _) $ await ! tt $ pick ! (λ r.
-          split ! $ move ! (1 ∷ []) $ use1 W (raw (fact 𝓤 (recordOf r ≡ recordAt rs (i .0)))) (said-at 𝓤 H A at-mem run κ₀ x (i .0) r) $ heard ! (recordOf r ≡ recordAt rs (i .0)) (λ e. split ! $ move ! (1 ∷ []) $
-          rewrite ! 0 (λ (z : Rung). ‵ (T.the-row .own z (v ∷ []))) (same-rung r (rungAt ys (i .0)) (e ∙ records-at ys (i .0))) refl $ peeks ! T.the-row (Is T.the-row) (shows 𝓤 H A T.the-row) (rungAt ys (i .0)) (v ∷ []) (λ is.
+          split ! $ move ! (1 ∷ []) $ use1 W (raw (fact 𝓤 (r ≡ rungAt ys (i .0)))) (said-at 𝓤 H A at-mem run κ₀ x (i .0) r) $ heard ! (r ≡ rungAt ys (i .0)) (λ e. split ! $ move ! (1 ∷ []) $
+          rewrite ! 0 (λ (z : Rung). ‵ (T.the-row .own z (v ∷ []))) e refl $ peeks ! T.the-row (Is T.the-row) (shows 𝓤 H A T.the-row) (rungAt ys (i .0)) (v ∷ []) (λ is.
           -- [the record; the row's token; what the row owns; room for _8; …; _7; …; _6; …; _5; …; _4; …; _3; …; _2; …; _1; …; _0; …; the words' token; what the words own]
           land ! (from ! (stop !)) (init ! 3 refl (LL.lawful T.the-type T′.the-laws 𝓤 H A W .typed (rungAt ys (i .0)) _ is .0)) $
           -- `laid_next`

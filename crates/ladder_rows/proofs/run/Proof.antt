@@ -51,8 +51,8 @@ use Rattle.questions.specs.declared.Verdict.{Verdict}
 use Rattle.questions.proofs.Verdict as VerdictType
 use Rattle.questions.proofs.Verdict.Laws as VerdictLaws
 use Rattle.rungs.specs.Records.{RungRecord, labels}
-use Rattle.rows.specs.Rows.{recordOf, recordsOf, recordAt}
-use Rattle.rows.specs.Laws.Records.{records-length}
+use Rattle.rows.specs.Rows.{recordOf, recordsOf, recordAt, rungAt}
+use Rattle.rows.specs.Laws.Records.{records-at, records-length}
 use Rattle.rows.specs.declared.Rung.{Rung}
 use Rattle.rows.proofs.Rung as R
 use Rattle.rows.proofs.Rung.Laws as R′
@@ -197,8 +197,8 @@ module _ {M : Type 1} (𝓤 : URA M) (H : Heap 𝓤) (A : Atoms 𝓤) (at-mem : 
   abbrev Answer : Contract 𝓤
   Answer = tripleOf 𝓤 H A answer.signature (answer.spec 𝓤 H A at-mem run)
 
-  said-at : (κ : Lft) (x : RefT (List Rung)) (i : ℕ) (r : Rung) → ent 𝓤 (ensured 𝓤 H A rung-at.ended (rung-at.clauses 𝓤 H A at-mem run) (κ, tt) (x, (i, tt)) tt r) (fact 𝓤 (recordOf r ≡ recordAt (recordsOf (x .now)) i))
-  said-at κ x i r = exE 𝓤 _ (λ ws. snd∗ 𝓤 (sem 𝓤 H A (lasts rung-at.ended (κ, tt) (x, (i, tt)) ws)) (fact 𝓤 (recordOf r ≡ recordAt (recordsOf (x .now)) i)))
+  said-at : (κ : Lft) (x : RefT (List Rung)) (i : ℕ) (r : Rung) → ent 𝓤 (ensured 𝓤 H A rung-at.ended (rung-at.clauses 𝓤 H A at-mem run) (κ, tt) (x, (i, tt)) tt r) (fact 𝓤 (r ≡ rungAt (x .now) i))
+  said-at κ x i r = exE 𝓤 _ (λ ws. snd∗ 𝓤 (sem 𝓤 H A (lasts rung-at.ended (κ, tt) (x, (i, tt)) ws)) (fact 𝓤 (r ≡ rungAt (x .now) i)))
 
   said-next : (κ : Lft) (x : RefT (List Rung)) (p : Way) (k f : ℕ) → ent 𝓤 (ensured 𝓤 H A next-rung.ended (next-rung.clauses 𝓤 H A at-mem run) (κ, tt) (x, (p, (k, tt))) tt f) (fact 𝓤 (f ≡ nextRung (labels (recordsOf (x .now))) p k))
   said-next κ x p k f = exE 𝓤 _ (λ ws. snd∗ 𝓤 (sem 𝓤 H A (lasts next-rung.ended (κ, tt) (x, (p, (k, tt))) ws)) (fact 𝓤 (f ≡ nextRung (labels (recordsOf (x .now))) p k)))
@@ -489,12 +489,12 @@ module _ {M : Type 1} (𝓤 : URA M) (H : Heap 𝓤) (A : Atoms 𝓤) (W : Given
           use2 W (raw (RungAt 𝓤 H A at-mem run .pre (to-at (i .at .rung)))) (goes-at (i .at .rung) (needed i (is-true (i .at .on) on) .0)) $
           calls-at ! fm (RungAt 𝓤 H A at-mem run) known-at (to-at (i .at .rung)) (and-then ! (load ! (from ! (stop !)) (look ! 24 refl)) (and-then ! (load ! (from ! (fld ! refl (stop !))) (look-in ! 18 (sub ! 2 refl (whole !)))) (no-more !))) (λ z.
           use1 W (later (some (λ (r : Rung). (row-token ⊛ ‵ (R.the-row .own r (z ∷ []))) ⊛ raw (ensured 𝓤 H A rung-at.ended (rung-at.clauses 𝓤 H A at-mem run) (κ₂, tt) (row, (i .at .rung, tt)) tt r)))) (id⊢ 𝓤 _) $ await ! tt $ pick ! (λ r.
-          split ! $ move ! (1 ∷ []) $ use1 W (raw (fact 𝓤 (recordOf r ≡ recordAt rs (i .at .rung)))) (said-at 𝓤 H A at-mem run κ₂ row (i .at .rung) r) $ heard ! (recordOf r ≡ recordAt rs (i .at .rung)) (λ e. split ! $ move ! (1 ∷ []) $
+          split ! $ move ! (1 ∷ []) $ use1 W (raw (fact 𝓤 (r ≡ rungAt (row .now) (i .at .rung)))) (said-at 𝓤 H A at-mem run κ₂ row (i .at .rung) r) $ heard ! (r ≡ rungAt (row .now) (i .at .rung)) (λ e. split ! $ move ! (1 ∷ []) $
           facts ! R.the-row (Is R.the-row) (shows 𝓤 H A R.the-row) r (z ∷ []) (λ is. split ! $ move ! (1 ∷ []) $ drop ! $
           -- [κ₂; the row; _15; …; room for _0; …; κ₁; κ₃; the words; the table]
           land ! (from ! (stop !)) (init ! 8 refl (LL.lawful R.the-type R′.the-laws 𝓤 H A W .typed r _ is .0)) $
           keep ! (2 ∷ 3 ∷ 4 ∷ 5 ∷ 6 ∷ 7 ∷ 8 ∷ 9 ∷ 10 ∷ 11 ∷ 12 ∷ 13 ∷ 14 ∷ 15 ∷ 16 ∷ 17 ∷ 18 ∷ 19 ∷ 20 ∷ 21 ∷ 22 ∷ 23 ∷ 24 ∷ 25 ∷ 26 ∷ 27 ∷ 28 ∷ 29 ∷ 30 ∷ 31 ∷ 32 ∷ 33 ∷ 34 ∷ 0 ∷ 35 ∷ 36 ∷ 1 ∷ 37 ∷ []) $
-          by ! (enters i (is-true (i .at .on) on) r z is e))))))
+          by ! (enters i (is-true (i .at .on) on) r z is (ap recordOf e ∙ sym (records-at (row .now) (i .at .rung)))))))))
           (λ off. jumps ! $ exec ! C Λ En parts.t-4 (atRet En Post) $
           assigns ! (of-opd ! (load ! (from ! (fld ! refl (stop !))) (look-in ! 22 (sub ! 1 refl (whole !))))) (from ! (stop !)) (init ! 10 refl (tt, record { fits = room-r .0 })) $
           -- `answer`

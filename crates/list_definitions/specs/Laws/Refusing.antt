@@ -1,4 +1,4 @@
--- A "no" to question 1 or 10 is the answer of List scan and of Listing, whatever their later questions are. Assumes nothing.
+-- A "no" to question 1 or 10 is the answer of List scan and of Listing, whatever their later questions are; and what a refused List scan leaves. Assumes nothing.
 use Prim.Native.Nat.{ℕ}
 use mathlib.Core.Path.{_≡_, refl}
 use mathlib.Core.Option.{none, some}
@@ -9,9 +9,10 @@ use Rattle.questions.specs.Refusals.{refusalOf}
 use Rattle.questions.specs.declared.Refusal.{Refusal as RefusalCase}
 use Rattle.rungs.specs.Records.{RungRecord}
 use Rattle.list_definitions.specs.Questions.{question10, listAnswer}
-use Rattle.list_definitions.specs.ListScan.{listOf, scanQuestions}
+use Rattle.list_definitions.specs.ListScan.{listOf, scanQuestions, callListScan, listScannedAnswer, ListScanDone}
 use Rattle.list_definitions.specs.Listing.{fixedNames, listingText, listing, listedAnswer, ListingDone}
 use Rattle.list_definitions.specs.declared.Listed.the-variants.{Refused}
+use Rattle.list_definitions.specs.declared.ListScanned.the-variants.{Refused as ScanRefused}
 
 first-refused : (a b : Answer) (later : List Answer) (r : Refusal) → firstNo (a ∷ b ∷ []) ≡ some r → firstNo (a ∷ b ∷ later) ≡ some r
 unfolding firstNo
@@ -29,6 +30,11 @@ module _ (vars : ℕ) (ws : List ℕ) (rs : List RungRecord) where
   pub scan-asked-list : (t : List ℕ) (w : ℕ) (r : Refusal) → listAnswer vars ws rs ≡ some r → scanQuestions vars ws rs t w ≡ some r
   unfolding listAnswer scanQuestions
   scan-asked-list t w r e = first-refused (question1 vars) (question10 vars ws rs) _ r e
+
+  pub scan-refuses : (t : List ℕ) (w : ℕ) (refusal : RefusalCase) (times : List ℕ) → scanQuestions vars ws rs t w ≡ some (refusalOf refusal)
+      → ListScanDone (callListScan vars ws rs t w) (ScanRefused refusal) t times times
+  unfolding callListScan listScannedAnswer
+  scan-refuses t w refusal times e = record { answer = rw (e, callListScan); same-table = rw (e, callListScan); same-times = rw (e, callListScan) }
 
   pub listing-refused : (out : List ℕ) (refusal : RefusalCase) → listAnswer vars ws rs ≡ some (refusalOf refusal) → ListingDone (listing fixedNames vars ws rs out) (Refused refusal) out
   unfolding listAnswer listing listedAnswer

@@ -13,17 +13,19 @@ use borrow.Author.Tests.{ltb-true, leb-true, leb-false, eqb-true, eqb-false}
 use Rattle.questions.specs.Tests.{bit, all}
 use Rattle.questions.specs.Laws.Tests.{all-head, all-tail, bit-few}
 use Rattle.table.specs.State.{stateWith, stateOf}
-use Rattle.rungs.specs.Records.{RungRecord, offsets, isStart}
+use Rattle.rungs.specs.Records.{RungRecord, offsets, isStart, enter, noneEntered}
 use Rattle.list_definitions.specs.Instruction.{Instr, instrWord, instrFits, decodeInstr, decodeCode}
 use Rattle.list_definitions.specs.Machine.{InstructionList, fresh, begin, halted, scanMachine, scanList}
 use Rattle.list_definitions.specs.ListScan.{countsIn, scanEnds, listScannedAnswer}
-use Rattle.list_machine.specs.Parts.{machineCounts, machineOf, Stepped, startsHere, ascending, before, Sought, Followed, firstMachine, runsOn, haltedAt, Ran}
+use Rattle.list_machine.specs.Parts.{machineCounts, machineOf, Stepped, startsHere, counted, ascending, before, Sought, Followed, firstMachine, runsOn, haltedAt, Ran}
 use Rattle.list_definitions.specs.Laws.Decoding.{decode-instr, code-decoded}
 use Rattle.list_definitions.specs.Laws.Watchdog.{scan-end, scan-stop, scan-step}
+use Rattle.list_definitions.specs.declared.ListScanned.{ListScanned}
 use Rattle.list_definitions.specs.declared.ListScanned.the-variants.{Ended as EndedCase, Stopped as StoppedCase}
 use Rattle.list_machine.specs.declared.Machine.{Machine as MachineStruct}
 use Rattle.list_machine.specs.declared.Place.{Place}
 use Rattle.list_machine.specs.Laws.Seeks.{before-zero, carried-on}
+use Rattle.list_machine.specs.Laws.Entries.{FewTimes, few-zeros, few-counted, entered-here, counted-length}
 
 -- ---- the word at an index and its instruction
 
@@ -81,83 +83,104 @@ next-straight os i a = rw (row-for os) at (carried-on 0 (rowFor os) i (rw (row-f
 start-here : (rs : List RungRecord) (os : List ℕ) (i next : ℕ) → offsets rs ≡ os → ascending 0 os → next ≡ before os i → startsHere os next i ≡ bit (isStart rs i)
 start-here rs os i next e a q = rw (q, ← e) (carried-on 0 rs i (rw e a) .start)
 
--- ---- the loop's invariant
+-- as many times entered as offsets are as many as records
+many-records : (rs : List RungRecord) (os ts : List ℕ) → offsets rs ≡ os → length ts ≡ length os → length ts ≡ length rs
+many-records rs os ts o many = many ∙ ap (λ x. length x) (sym o) ∙ length-map rs (λ r. r .offset)
 
-pub record Running (vars : ℕ) (ws os t : List ℕ) (w : ℕ) (u : List ℕ) (m : MachineStruct) (next : ℕ) : Type 0 where
+count-here : (rs : List RungRecord) (os : List ℕ) (i next : ℕ) (ts : List ℕ) → offsets rs ≡ os → ascending 0 os → next ≡ before os i → length ts ≡ length rs
+    → counted ts next (startsHere os next i) ≡ enter rs i ts
+count-here rs os i next ts o a q many = rw (q, ← o) (entered-here 0 rs i ts (rw o a) many)
+
+-- ---- the loop's invariant: with the times entered and the table, `b` and `t` at the start, `ts` and `u` now
+
+pub record Running (vars : ℕ) (ws os b t : List ℕ) (w : ℕ) (ts u : List ℕ) (m : MachineStruct) (next : ℕ) : Type 0 where
   pub same : (l : InstructionList) → decodeCode ws ≡ some (l .code) → offsets (l .records) ≡ os → ascending 0 os
-      → scanMachine l (w - m .counts .instructions) (machineOf m) (stateWith vars u (m .counts .moved)) ≡ scanList l w (stateOf vars t)
+      → scanMachine l (w - m .counts .instructions) (machineOf m ts) (stateWith vars u (m .counts .moved)) ≡ scanList l w (stateOf vars t)
   pub next-is : ascending 0 os → next ≡ before os (m .index)
   pub next-within : next ≤ length os
   pub carried : m .counts .instructions ≤ w
   pub few-rungs : m .counts .rungs ≤ m .counts .instructions
   pub few-moved : m .counts .moved ≤ m .counts .instructions
+  pub few-times : FewTimes ts (m .counts .instructions)
   pub long : length u ≡ length t
+  pub many : length ts ≡ length b
+  pub even : length b ≡ length os
 
-pub running-first : (vars : ℕ) (ws os t : List ℕ) (w : ℕ)
-    → Running vars ws os t w t firstMachine 0
+pub running-first : (vars : ℕ) (ws os b t : List ℕ) (w : ℕ) → length b ≡ length os → b ≡ noneEntered (length b)
+    → Running vars ws os b t w b t firstMachine 0
 unfolding scanList begin fresh machineOf machineCounts firstMachine
-running-first vars ws os t w = record {
-  same = λ l d o a. rw sub-zero refl;
+running-first vars ws os b t w e zeros = record {
+  same = λ l d o a.
+      let n = many-records (l .records) os b o e in
+      let z : b ≡ noneEntered (length (l .records)) = zeros ∙ ap (λ k. noneEntered k) n in
+      rw (sub-zero, z) refl;
   next-is = λ a. sym (before-zero os);
   next-within = omega arith;
   carried = omega arith;
   few-rungs = omega arith;
   few-moved = omega arith;
+  few-times = rw zeros (few-zeros (length b));
   long = refl;
+  many = refl;
+  even = e;
 }
 
-module _ (vars : ℕ) (ws os t : List ℕ) (w : ℕ) (u : List ℕ) (m : MachineStruct) (next : ℕ) (r : Running vars ws os t w u m next) where
-  pub ran-ended : length ws ≤ m .index → Ran vars ws os t w (EndedCase (m .counts)) u
+module _ (vars : ℕ) (ws os b t : List ℕ) (w : ℕ) (ts u : List ℕ) (m : MachineStruct) (next : ℕ) (r : Running vars ws os b t w ts u m next) where
+  pub ran-ended : length ws ≤ m .index → Ran vars ws os b t w (EndedCase (m .counts)) ts u
   unfolding halted scanEnds countsIn listScannedAnswer machineCounts machineOf
   ran-ended h = record {
     same = λ l d o a.
-        let e = sym (scan-end l (w - m .counts .instructions) (machineOf m) (stateWith vars u (m .counts .moved)) (at-end ws (l .code) d (m .index) h)) ∙ r .same l d o a in
-        record { answer = ap (λ x. scanEnds x .answer) e; same-table = ap (λ x. scanEnds x .table) e };
+        let e = sym (scan-end l (w - m .counts .instructions) (machineOf m ts) (stateWith vars u (m .counts .moved)) (at-end ws (l .code) d (m .index) h)) ∙ r .same l d o a in
+        record { answer = ap (λ x. scanEnds x .answer) e; same-table = ap (λ x. scanEnds x .table) e; same-times = ap (λ x. scanEnds x .times b) e };
   }
 
-  pub ran-stopped : m .index < length ws → m .counts .instructions ≡ w → Ran vars ws os t w (StoppedCase (m .counts)) u
+  pub ran-stopped : m .index < length ws → m .counts .instructions ≡ w → Ran vars ws os b t w (StoppedCase (m .counts)) ts u
   unfolding halted scanEnds countsIn listScannedAnswer machineCounts machineOf
   ran-stopped h z = record {
     same = λ l d o a.
         let k = word-at ws (l .code) d (m .index) h in
         let n : w - m .counts .instructions ≡ 0 = omega arith in
-        let stop = scan-stop l (machineOf m) (stateWith vars u (m .counts .moved)) (k .instr) (k .stands) in
+        let stop = scan-stop l (machineOf m ts) (stateWith vars u (m .counts .moved)) (k .instr) (k .stands) in
         let e = sym stop ∙ (rw n at (r .same l d o a)) in
-        record { answer = ap (λ x. scanEnds x .answer) e; same-table = ap (λ x. scanEnds x .table) e };
+        record { answer = ap (λ x. scanEnds x .answer) e; same-table = ap (λ x. scanEnds x .table) e; same-times = ap (λ x. scanEnds x .times b) e };
   }
 
-  module _ (h : m .index < length ws) (z : m .counts .instructions ≡ w → ⊥) (m′ : MachineStruct) (u′ : List ℕ) (len : length u′ ≡ length u)
-      (entered : ℕ) (es : entered ≡ startsHere os next (m .index)) (did : Stepped vars (getD ws (m .index) 0) entered m u m′ u′) where
+  module _ (h : m .index < length ws) (z : m .counts .instructions ≡ w → ⊥) (m′ : MachineStruct) (ts′ u′ : List ℕ) (len : length u′ ≡ length u)
+      (entered : ℕ) (es : entered ≡ startsHere os next (m .index)) (counts : ts′ ≡ counted ts next entered) (did : Stepped vars (getD ws (m .index) 0) entered m u m′ u′) where
     same-after : (l : InstructionList) → decodeCode ws ≡ some (l .code) → offsets (l .records) ≡ os → ascending 0 os
-        → scanMachine l (w - m′ .counts .instructions) (machineOf m′) (stateWith vars u′ (m′ .counts .moved)) ≡ scanList l w (stateOf vars t)
+        → scanMachine l (w - m′ .counts .instructions) (machineOf m′ ts′) (stateWith vars u′ (m′ .counts .moved)) ≡ scanList l w (stateOf vars t)
     unfolding machineOf
     same-after l d o a =
         let k = word-at ws (l .code) d (m .index) h in
         let c = did .carried in
         let q = r .carried in
         let n : w - m .counts .instructions ≡ suc (w - m′ .counts .instructions) = omega arith in
-        let st = did .same (k .instr) (k .decodes) (l .records) (es ∙ start-here (l .records) os (m .index) next o a (r .next-is a)) in
-        let go = scan-step l (w - m′ .counts .instructions) (machineOf m) (stateWith vars u (m .counts .moved)) (k .instr) (k .stands) in
-        sym (rw st at go) ∙ (rw n at (r .same l d o a))
+        let times : ts′ ≡ enter (l .records) (m .index) ts = counts ∙ rw es (count-here (l .records) os (m .index) next ts o a (r .next-is a) (many-records (l .records) os ts o (r .many ∙ r .even))) in
+        let st = did .same (k .instr) (k .decodes) (l .records) (es ∙ start-here (l .records) os (m .index) next o a (r .next-is a)) ts in
+        let go = scan-step l (w - m′ .counts .instructions) (machineOf m ts) (stateWith vars u (m .counts .moved)) (k .instr) (k .stands) in
+        rw times (sym (rw st at go) ∙ (rw n at (r .same l d o a)))
 
-    next-after : (next′ : ℕ) → next′ ≤ length os → (ascending 0 os → next′ ≡ before os (m′ .index)) → Running vars ws os t w u′ m′ next′
-    next-after next′ b nx =
+    next-after : (next′ : ℕ) → next′ ≤ length os → (ascending 0 os → next′ ≡ before os (m′ .index)) → Running vars ws os b t w ts′ u′ m′ next′
+    next-after next′ within nx =
         let c = did .carried in let g = did .rungs in let f = r .few-rungs in let moves = did .moved in let few = r .few-moved in let q = r .carried in let k = starts-few os next (m .index) in
         record {
           same = same-after;
           next-is = nx;
-          next-within = b;
+          next-within = within;
           carried = omega arith;
           few-rungs = omega arith;
           few-moved = omega arith;
+          few-times = rw (counts, c) (few-counted ts (m .counts .instructions) next entered (r .few-times) (omega arith));
           long = len ∙ r .long;
+          many = rw counts (counted-length ts next entered) ∙ r .many;
+          even = r .even;
         }
 
-    pub run-straight : m′ .index ≡ m .index + 1 → Running vars ws os t w u′ m′ (next + entered)
+    pub run-straight : m′ .index ≡ m .index + 1 → Running vars ws os b t w ts′ u′ m′ (next + entered)
     run-straight j = next-after (next + entered) (rw es (starts-within os next (m .index) (r .next-within)))
         (λ a. rw (j, es, next-straight os (m .index) a, r .next-is a) refl)
 
-    pub run-jump : (found : ℕ) → Sought os (m′ .index) found → Running vars ws os t w u′ m′ found
+    pub run-jump : (found : ℕ) → Sought os (m′ .index) found → Running vars ws os b t w ts′ u′ m′ found
     run-jump found k = next-after found (k .within) (k .same)
 
 -- ---- the same over a place
@@ -188,28 +211,30 @@ halts end w m e h = go (leb end (m .index)) (eqb (m .counts .instructions) w) re
     go false true p q k = eqb-true _ _ q
     go false false p q k = cc
 
-pub record Standing (vars : ℕ) (ws os t : List ℕ) (w : ℕ) (u : List ℕ) (m : MachineStruct) (place : Place) : Type 0 where
-  pub running : Running vars ws os t w u m (place .next)
+pub record Standing (vars : ℕ) (ws os b t : List ℕ) (w : ℕ) (ts u : List ℕ) (m : MachineStruct) (place : Place) : Type 0 where
+  pub running : Running vars ws os b t w ts u m (place .next)
   pub same-index : place .index ≡ m .index
   pub starts : place .entered ≡ startsHere os (place .next) (m .index)
 
-pub standing-first : (vars : ℕ) (ws os t : List ℕ) (w : ℕ) (place : Place) → place .index ≡ 0 → place .next ≡ 0 → place .entered ≡ startsHere os 0 0
-    → Standing vars ws os t w t firstMachine place
+pub standing-first : (vars : ℕ) (ws os b t : List ℕ) (w : ℕ) (place : Place) → length b ≡ length os → b ≡ noneEntered (length b) → place .index ≡ 0 → place .next ≡ 0 → place .entered ≡ startsHere os 0 0
+    → Standing vars ws os b t w b t firstMachine place
 unfolding firstMachine
-standing-first vars ws os t w place i n e = record { running = rw n (running-first vars ws os t w); same-index = i; starts = rw n e }
+standing-first vars ws os b t w place even zeros i n e = record { running = rw n (running-first vars ws os b t w even zeros); same-index = i; starts = rw n e }
 
 -- what one more instruction asks for
-pub record StandingNeeds (ws os : List ℕ) (m : MachineStruct) (place : Place) : Type 0 where
+pub record StandingNeeds (ws os ts : List ℕ) (m : MachineStruct) (place : Place) : Type 0 where
   pub inside : m .index < length ws
   pub instructions : m .counts .instructions + 1 < 2 ^ 32
   pub rungs : m .counts .rungs + place .entered < 2 ^ 32
   pub moved : m .counts .moved + 1 < 2 ^ 32
+  pub times-within : place .next + place .entered ≤ length ts
+  pub times : getD ts (place .next) 0 + place .entered < 2 ^ 32
   pub same-index : place .index ≡ m .index
   pub next-within : place .next + place .entered ≤ length os
 
-module _ (vars : ℕ) (ws os t : List ℕ) (w : ℕ) (u : List ℕ) (m : MachineStruct) (place : Place) (standing : Standing vars ws os t w u m place) where
-  pub standing-needs : w < 2 ^ 32 → runsOn (length ws) w m ≡ true → StandingNeeds ws os m place
-  standing-needs b on =
+module _ (vars : ℕ) (ws os b t : List ℕ) (w : ℕ) (ts u : List ℕ) (m : MachineStruct) (place : Place) (standing : Standing vars ws os b t w ts u m place) where
+  pub standing-needs : w < 2 ^ 32 → runsOn (length ws) w m ≡ true → StandingNeeds ws os ts m place
+  standing-needs fits on =
       let r = standing .running in
       let o = runs-on (length ws) w m on in
       let z = o .left in
@@ -217,6 +242,9 @@ module _ (vars : ℕ) (ws os t : List ℕ) (w : ℕ) (u : List ℕ) (m : Machine
       let carried = r .carried in
       let few-rungs = r .few-rungs in
       let few-moved = r .few-moved in
+      let many = r .many in
+      let even = r .even in
+      let few-times = r .few-times .few (place .next) in
       let one = starts-few os (place .next) (m .index) in
       let within = starts-within os (place .next) (m .index) (r .next-within) in
       record {
@@ -224,13 +252,16 @@ module _ (vars : ℕ) (ws os t : List ℕ) (w : ℕ) (u : List ℕ) (m : Machine
         instructions = omega arith;
         rungs = omega arith;
         moved = omega arith;
+        times-within = omega arith;
+        times = omega arith;
         same-index = standing .same-index;
         next-within = omega arith;
       }
 
-  pub standing-next : runsOn (length ws) w m ≡ true → (m′ : MachineStruct) (u′ : List ℕ) → Stepped vars (getD ws (m .index) 0) (place .entered) m u m′ u′ → length u′ ≡ length u
-      → (place′ : Place) → Followed os place (m′ .index) place′ → Standing vars ws os t w u′ m′ place′
-  standing-next on m′ u′ s len place′ f = record {
+  pub standing-next : runsOn (length ws) w m ≡ true → (m′ : MachineStruct) (ts′ u′ : List ℕ) → ts′ ≡ counted ts (place .next) (place .entered)
+      → Stepped vars (getD ws (m .index) 0) (place .entered) m u m′ u′ → length u′ ≡ length u
+      → (place′ : Place) → Followed os place (m′ .index) place′ → Standing vars ws os b t w ts′ u′ m′ place′
+  standing-next on m′ ts′ u′ c s len place′ f = record {
     running = go (ℕ-discrete (m′ .index) (place .index + 1));
     same-index = f .here;
     starts = f .starts;
@@ -239,10 +270,10 @@ module _ (vars : ℕ) (ws os t : List ℕ) (w : ℕ) (u : List ℕ) (m : Machine
       o : RunsOn (length ws) w m
       o = runs-on (length ws) w m on
 
-      go : Dec (m′ .index ≡ place .index + 1) → Running vars ws os t w u′ m′ (place′ .next)
+      go : Dec (m′ .index ≡ place .index + 1) → Running vars ws os b t w ts′ u′ m′ (place′ .next)
       go (yes q) = rw (f .straight q)
-          (run-straight vars ws os t w u m (place .next) (standing .running) (o .inside) (o .left) m′ u′ len (place .entered) (standing .starts) s (q ∙ ap (λ i. i + 1) (standing .same-index)))
-      go (no n) = run-jump vars ws os t w u m (place .next) (standing .running) (o .inside) (o .left) m′ u′ len (place .entered) (standing .starts) s (place′ .next) (f .found n)
+          (run-straight vars ws os b t w ts u m (place .next) (standing .running) (o .inside) (o .left) m′ ts′ u′ len (place .entered) (standing .starts) c s (q ∙ ap (λ i. i + 1) (standing .same-index)))
+      go (no n) = run-jump vars ws os b t w ts u m (place .next) (standing .running) (o .inside) (o .left) m′ ts′ u′ len (place .entered) (standing .starts) c s (place′ .next) (f .found n)
 
   pub standing-less : runsOn (length ws) w m ≡ true → (m′ : MachineStruct) (u′ : List ℕ) → Stepped vars (getD ws (m .index) 0) (place .entered) m u m′ u′
       → w - m′ .counts .instructions < w - m .counts .instructions
@@ -252,11 +283,21 @@ module _ (vars : ℕ) (ws os t : List ℕ) (w : ℕ) (u : List ℕ) (m : Machine
       let carried = standing .running .carried in
       omega arith
 
-  pub standing-ends : runsOn (length ws) w m ≡ false → Ran vars ws os t w (haltedAt (length ws) m) u
+  pub standing-ends : runsOn (length ws) w m ≡ false → Ran vars ws os b t w (haltedAt (length ws) m) ts u
   unfolding haltedAt
   standing-ends off = go (leb (length ws) (m .index)) refl
     where
-      go : (b : Bool) → leb (length ws) (m .index) ≡ b → Ran vars ws os t w (haltedAt (length ws) m) u
-      go true e = rw (e, haltedAt) (ran-ended vars ws os t w u m (place .next) (standing .running) (leb-true _ _ e))
+      go : (q : Bool) → leb (length ws) (m .index) ≡ q → Ran vars ws os b t w (haltedAt (length ws) m) ts u
+      go true e = rw (e, haltedAt) (ran-ended vars ws os b t w ts u m (place .next) (standing .running) (leb-true _ _ e))
       go false e = rw (e, haltedAt)
-          (ran-stopped vars ws os t w u m (place .next) (standing .running) (leb-false _ _ e) (halts (length ws) w m off (leb-false _ _ e)))
+          (ran-stopped vars ws os b t w ts u m (place .next) (standing .running) (leb-false _ _ e) (halts (length ws) w m off (leb-false _ _ e)))
+
+-- ---- a scan from zeros, over times entered of which any value is taken
+
+pub ran-over : (vars : ℕ) (ws os before zeros t : List ℕ) (w : ℕ) (r : ListScanned) (after u : List ℕ) → Ran vars ws os zeros t w r after u → Ran vars ws os before t w r after u
+unfolding scanEnds
+ran-over vars ws os before zeros t w r after u ran = record {
+  same = λ l d o a.
+      let done = ran .same l d o a in
+      record { answer = done .answer; same-table = done .same-table; same-times = done .same-times };
+}

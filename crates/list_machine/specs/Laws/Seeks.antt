@@ -88,7 +88,7 @@ unfolding before ascending
 none-before least [] i a h = refl
 none-before least (o ∷ os) i a h = let s = a .0 in rw (le-ltb o i (omega arith), before)
 
-no-start : (least : ℕ) (rs : List RungRecord) (i : ℕ) → ascending least (offsets rs) → i < least → isStart rs i ≡ false
+pub no-start : (least : ℕ) (rs : List RungRecord) (i : ℕ) → ascending least (offsets rs) → i < least → isStart rs i ≡ false
 unfolding isStart ascending
 no-start least [] i a h = refl
 no-start least (r ∷ rs) i a h = let s = a .0 in rw (ne-eqb (r .offset) i (λ e. omega arith)) (no-start (suc (r .offset)) rs i (a .1) (omega arith))
@@ -98,19 +98,19 @@ unfolding before
 before-zero [] = refl
 before-zero (o ∷ os) = rw (le-ltb o 0 (omega arith), before)
 
-starts-suc : (o : ℕ) (os : List ℕ) (n i : ℕ) → startsHere (o ∷ os) (suc n) i ≡ startsHere os n i
+pub starts-suc : (o : ℕ) (os : List ℕ) (n i : ℕ) → startsHere (o ∷ os) (suc n) i ≡ startsHere os n i
 unfolding startsHere
 starts-suc o os n i = rw (leb·suc-suc (suc n) (length os))
 
-starts-zero : (o : ℕ) (os : List ℕ) (i : ℕ) → startsHere (o ∷ os) 0 i ≡ bit (eqb o i)
+pub starts-zero : (o : ℕ) (os : List ℕ) (i : ℕ) → startsHere (o ∷ os) 0 i ≡ bit (eqb o i)
 unfolding startsHere
 starts-zero o os i = rw (lt-ltb 0 (suc (length os)) (omega arith))
 
-before-pass : (o : ℕ) (os : List ℕ) (i : ℕ) → o < i → before (o ∷ os) i ≡ suc (before os i)
+pub before-pass : (o : ℕ) (os : List ℕ) (i : ℕ) → o < i → before (o ∷ os) i ≡ suc (before os i)
 unfolding before
 before-pass o os i h = rw (lt-ltb o i h, before)
 
-before-stay : (o : ℕ) (os : List ℕ) (i : ℕ) → i ≤ o → before (o ∷ os) i ≡ 0
+pub before-stay : (o : ℕ) (os : List ℕ) (i : ℕ) → i ≤ o → before (o ∷ os) i ≡ 0
 unfolding before
 before-stay o os i h = rw (le-ltb o i h, before)
 

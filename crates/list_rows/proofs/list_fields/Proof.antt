@@ -31,6 +31,12 @@ array-share-prefix-lengths c = within (c .before .before .before .before .before
 slice-aggregate-listing-3 : tie.Need-slice-aggregate-listing-3
 slice-aggregate-listing-3 c = sym (length-take-le _ _ (within (c .before .before .before .before .before .before .before .before .before .before .args .rows) _ (c .before .before .before .before .before .before .before .before .before .before .good .1 .1 .0) (c .before .before .before .before .before .before .if1 .left) .lengths))
 
+array-share-prefix-any : tie.Need-array-share-prefix-any
+array-share-prefix-any c = c .before .before .before .before .before .before .if1 .left
+
+slice-aggregate-listing-4 : tie.Need-slice-aggregate-listing-4
+slice-aggregate-listing-4 c = sym (length-take-le _ _ (c .before .before .before .before .before .before .before .if1 .left))
+
 listing-requires : tie.Need-listing-requires
 listing-requires c κs = search needs
 
@@ -38,7 +44,7 @@ same-length : tie.Need-same-length
 same-length c = search needs
 
 returns-2 : tie.Need-returns-2
-returns-2 c = listed-row _ _ _ _ _ _ (c .before .before .before .before .before .before .before .before .before .before .if1 .left) (c .before .before .listing .ensures)
+returns-2 c = listed-row _ _ _ _ _ _ (c .before .before .before .before .before .before .before .before .before .before .before .if1 .left) (within (c .before .before .before .before .before .before .before .before .before .before .before .before .before .before .before .args .rows) _ (c .before .before .before .before .before .before .before .before .before .before .before .before .before .before .before .good .1 .1 .0) (c .before .before .before .before .before .before .before .before .before .before .before .if1 .left) .labels) _ (length-take-le _ _ (c .before .before .before .before .before .before .before .before .before .before .before .if1 .left)) (c .before .before .listing .ensures)
 
 pub list-fields-spec : {M : Type 1} → statement M
 list-fields-spec =
@@ -52,6 +58,8 @@ list-fields-spec =
     slice-aggregate-listing-2
     array-share-prefix-lengths
     slice-aggregate-listing-3
+    array-share-prefix-any
+    slice-aggregate-listing-4
     listing-requires
     same-length
     returns-2)

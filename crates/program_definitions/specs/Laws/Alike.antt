@@ -15,14 +15,14 @@ use Rattle.ladder_definitions.specs.Kept.{Kept}
 use Rattle.ladder_definitions.specs.Questions.{mostRungs, mostWords}
 use Rattle.text_definitions.specs.Read.{ReadAnswer, readText, kept, refused as readRefused}
 use Rattle.list_definitions.specs.ListScan.{ListCounts, ListScanAnswer, scanned as listScanned}
-use Rattle.translation_definitions.specs.BothScans.{BothEnds, BothAnswer, both, pairedScans, refused as scansRefused}
+use Rattle.translation_definitions.specs.BothScans.{BothEnds, Lent, BothAnswer, both, pairedScans, refused as scansRefused}
 use Rattle.translation_definitions.specs.BothAgree.{PairedAgree}
 use Rattle.translation_definitions.specs.Laws.Boths.{both-given}
 use Rattle.translation_definitions.specs.Theorems.{paired-agree}
 use Rattle.program_definitions.specs.Refusals.{refusalLine}
 use Rattle.program_definitions.specs.Outcome.{outputOf}
 use Rattle.program_definitions.specs.Printout.{blank}
-use Rattle.program_definitions.specs.Scanout.{endWord, scanCountLines, endLines, changedLine, changedLines, sameBytes, Verdict, alike, bothStopped, alikeIf, verdict, verdictLine, reportLines, lentFor, keptScanned, textScanned, outcome, output}
+use Rattle.program_definitions.specs.Scanout.{endWord, scanCountLines, endLines, enteredLine, enteredLines, changedLine, changedLines, sameBytes, Verdict, alike, bothStopped, alikeIf, verdict, verdictLine, reportOf, reportLines, lentFor, keptScanned, textScanned, outcome, output}
 
 -- ---- the verdict
 
@@ -40,7 +40,7 @@ pub data Verdicts (e : BothEnds) (l t : List ℕ) : Type 0 where
   stoppedBoth : e .ladderHalt ≡ Stopped → e .listHalt ≡ Stopped → verdict e l t ≡ bothStopped → Verdicts e l t
 
 module _ (vars : ℕ) (k : Kept) (table : List ℕ) (n : ℕ) (e : BothEnds) (q : pairedScans vars k table (lentFor table) n .answer ≡ both e) where
-  agree : PairedAgree vars k (lentFor table .buffers) n (pairedScans vars k table (lentFor table) n .answer) (pairedScans vars k table (lentFor table) n .lent)
+  agree : PairedAgree vars k table (lentFor table .buffers) n (pairedScans vars k table (lentFor table) n .answer) (pairedScans vars k table (lentFor table) n .lent)
   agree = paired-agree vars k table (lentFor table) n (both-given vars k table (lentFor table) n _ e q .0)
 
   same-ends : agree .ran .ends ≡ e
@@ -91,9 +91,22 @@ changed-ends v b l t =
     ends-after (bytes "v") (ends-after (decimal v) (ends-after (bytes " ") (ends-after (decimal b) (ends-after (bytes ">") (ends-after (decimal l)
     (ends-after (bytes " ") (ends-after (decimal b) (ends-after (bytes ">") (ends-after (decimal t) ends-self)))))))))
 
-maybe-ends : (xs : List ℕ) → EndsLine xs → (v b l t : ℕ) (same : Bool) → EndsLine (xs ++ elim same [ true ↦ [] | false ↦ changedLine v b l t ])
-maybe-ends xs e v b l t true = rw (append-nil xs) e
-maybe-ends xs e v b l t false = ends-after xs (changed-ends v b l t)
+entered-ends : (label times : ℕ) → EndsLine (enteredLine label times)
+unfolding enteredLine
+entered-ends label times = ends-after (bytes "L") (ends-after (decimal label) (ends-after (bytes " - ") (ends-after (decimal times) ends-self)))
+
+-- lines, and then another or none
+maybe-ends : (xs : List ℕ) → EndsLine xs → {line : List ℕ} → EndsLine line → (none : Bool) → EndsLine (xs ++ elim none [ true ↦ [] | false ↦ line ])
+maybe-ends xs e f true = rw (append-nil xs) e
+maybe-ends xs e f false = ends-after xs f
+
+entered-end : (ls ns xs : List ℕ) → EndsLine xs → EndsLine (xs ++ enteredLines ls ns)
+unfolding enteredLines
+entered-end [] ns xs e = rw (append-nil xs) e
+entered-end (l ∷ ls) [] xs e = rw (append-nil xs) e
+entered-end (l ∷ ls) (n ∷ ns) xs e =
+    let line : List ℕ = elim (eqb n 0) [ true ↦ [] | false ↦ enteredLine l n ] in
+    rw (← (append-assoc xs line (enteredLines ls ns))) (entered-end ls ns (xs ++ line) (maybe-ends xs e (entered-ends l n) (eqb n 0)))
 
 lines-end : (v : ℕ) (bs ls ts xs : List ℕ) → EndsLine xs → EndsLine (xs ++ changedLines v bs ls ts)
 unfolding changedLines
@@ -102,11 +115,17 @@ lines-end v (b ∷ bs) [] ts xs e = rw (append-nil xs) e
 lines-end v (b ∷ bs) (l ∷ ls) [] xs e = rw (append-nil xs) e
 lines-end v (b ∷ bs) (l ∷ ls) (t ∷ ts) xs e =
     let line : List ℕ = elim (eqb l b && eqb t b) [ true ↦ [] | false ↦ changedLine v b l t ] in
-    rw (← (append-assoc xs line (changedLines (suc v) bs ls ts))) (lines-end (suc v) bs ls ts (xs ++ line) (maybe-ends xs e v b l t (eqb l b && eqb t b)))
+    rw (← (append-assoc xs line (changedLines (suc v) bs ls ts))) (lines-end (suc v) bs ls ts (xs ++ line) (maybe-ends xs e (changed-ends v b l t) (eqb l b && eqb t b)))
 
 -- ---- the report in literal bytes
 
-module _ (vars : ℕ) (table : List ℕ) (e : BothEnds) (l t : List ℕ) where
+module _ (vars : ℕ) (table : List ℕ) (e : BothEnds) (after : Lent) where
+  abbrev ladderLeft : List ℕ
+  ladderLeft = take vars (after .ladderTable)
+
+  abbrev listLeft : List ℕ
+  listLeft = take vars (after .listTable)
+
   abbrev counts : List ℕ
   counts = scanCountLines (e .ladder) (e .list)
 
@@ -117,18 +136,24 @@ module _ (vars : ℕ) (table : List ℕ) (e : BothEnds) (l t : List ℕ) where
       (ends-after (bytes "\ninstructions - ") (ends-after (decimal (e .list .instructions)) (ends-after (bytes "\nmoved ") (ends-after (decimal (e .ladder .moved))
       (ends-after (bytes " ") (ends-after (decimal (e .list .moved)) ends-self)))))))))
 
+  abbrev entered : List ℕ
+  entered = enteredLines (take (e .counts .rungs) (after .buffers .labels)) (take (e .counts .rungs) (after .buffers .times))
+
   abbrev changed : List ℕ
-  changed = changedLines 0 (take vars table) (take vars l) (take vars t)
+  changed = changedLines 0 (take vars table) ladderLeft listLeft
+
+  lines : EndsLine ((counts ++ entered) ++ changed)
+  lines = lines-end 0 (take vars table) ladderLeft listLeft (counts ++ entered) (entered-end _ _ counts counts-end)
 
   -- what stands between the line of ends and the verdict
   pub middle : List ℕ
-  middle = lines-end 0 (take vars table) (take vars l) (take vars t) counts counts-end .before
+  middle = lines .before
 
-  joined : (head last : List ℕ) → head ++ (counts ++ (changed ++ last)) ≡ head ++ (middle ++ (bytes "\n" ++ last))
+  joined : (head last : List ℕ) → head ++ (counts ++ (entered ++ (changed ++ last))) ≡ head ++ (middle ++ (bytes "\n" ++ last))
   unfolding middle
   joined head last =
-      let x = lines-end 0 (take vars table) (take vars l) (take vars t) counts counts-end in
-      ap (λ z. head ++ z) (sym (append-assoc counts changed last) ∙ ap (λ z. z ++ last) (x .is) ∙ append-assoc (x .before) (bytes "\n") last)
+      ap (λ z. head ++ z) (sym (append-assoc counts entered (changed ++ last)) ∙ sym (append-assoc (counts ++ entered) changed last)
+      ∙ ap (λ z. z ++ last) (lines .is) ∙ append-assoc (lines .before) (bytes "\n") last)
 
   ended-lines : e .ladderHalt ≡ Ended → e .listHalt ≡ Ended → endLines e ≡ bytes "scan ladder list\nend Ended Ended\n" ++ counts
   unfolding endLines endWord bytes
@@ -138,20 +163,20 @@ module _ (vars : ℕ) (table : List ℕ) (e : BothEnds) (l t : List ℕ) where
   unfolding endLines endWord bytes
   stopped-lines p q = rw (p, q) refl
 
-  report-is : (head : List ℕ) (x : Verdict) → endLines e ≡ head ++ counts → verdict e (take vars l) (take vars t) ≡ x
-      → reportLines vars table e l t ≡ head ++ (middle ++ (bytes "\n" ++ verdictLine x))
-  unfolding reportLines
+  report-is : (head : List ℕ) (x : Verdict) → endLines e ≡ head ++ counts → verdict e ladderLeft listLeft ≡ x
+      → reportLines vars table e after ≡ head ++ (middle ++ (bytes "\n" ++ verdictLine x))
+  unfolding reportLines reportOf
   report-is head x p v =
-      ap (λ z. z ++ (changed ++ verdictLine (verdict e (take vars l) (take vars t)))) p ∙ ap (λ y. (head ++ counts) ++ (changed ++ verdictLine y)) v
-      ∙ append-assoc head counts (changed ++ verdictLine x) ∙ joined head (verdictLine x)
+      ap (λ z. z ++ (entered ++ (changed ++ verdictLine (verdict e ladderLeft listLeft)))) p ∙ ap (λ y. (head ++ counts) ++ (entered ++ (changed ++ verdictLine y))) v
+      ∙ append-assoc head counts (entered ++ (changed ++ verdictLine x)) ∙ joined head (verdictLine x)
 
-  pub ended-report : e .ladderHalt ≡ Ended → e .listHalt ≡ Ended → verdict e (take vars l) (take vars t) ≡ alike
-      → reportLines vars table e l t ≡ bytes "scan ladder list\nend Ended Ended\n" ++ (middle ++ bytes "\nalike\n")
+  pub ended-report : e .ladderHalt ≡ Ended → e .listHalt ≡ Ended → verdict e ladderLeft listLeft ≡ alike
+      → reportLines vars table e after ≡ bytes "scan ladder list\nend Ended Ended\n" ++ (middle ++ bytes "\nalike\n")
   unfolding verdictLine bytes
   ended-report p q v = report-is (bytes "scan ladder list\nend Ended Ended\n") alike (ended-lines p q) v
 
-  pub stopped-report : e .ladderHalt ≡ Stopped → e .listHalt ≡ Stopped → verdict e (take vars l) (take vars t) ≡ bothStopped
-      → reportLines vars table e l t ≡ bytes "scan ladder list\nend Stopped Stopped\n" ++ (middle ++ bytes "\nboth stopped\n")
+  pub stopped-report : e .ladderHalt ≡ Stopped → e .listHalt ≡ Stopped → verdict e ladderLeft listLeft ≡ bothStopped
+      → reportLines vars table e after ≡ bytes "scan ladder list\nend Stopped Stopped\n" ++ (middle ++ bytes "\nboth stopped\n")
   unfolding verdictLine bytes
   stopped-report p q v = report-is (bytes "scan ladder list\nend Stopped Stopped\n") bothStopped (stopped-lines p q) v
 
@@ -160,9 +185,10 @@ module _ (vars : ℕ) (table : List ℕ) (e : BothEnds) (l t : List ℕ) where
 module _ (P : List ℕ → Type 0) (refusals : (r : Refusal) → P (refusalLine r))
     (ends : (middle : List ℕ) → P (bytes "scan ladder list\nend Ended Ended\n" ++ (middle ++ bytes "\nalike\n")))
     (stops : (middle : List ℕ) → P (bytes "scan ladder list\nend Stopped Stopped\n" ++ (middle ++ bytes "\nboth stopped\n"))) where
-  report-shown : (vars : ℕ) (table : List ℕ) (e : BothEnds) (l t : List ℕ) → Verdicts e (take vars l) (take vars t) → P (reportLines vars table e l t)
-  report-shown vars table e l t (bothEnded p q v) = rw (ended-report vars table e l t p q v) (ends (middle vars table e l t))
-  report-shown vars table e l t (stoppedBoth p q v) = rw (stopped-report vars table e l t p q v) (stops (middle vars table e l t))
+  report-shown : (vars : ℕ) (table : List ℕ) (e : BothEnds) (after : Lent) → Verdicts e (take vars (after .ladderTable)) (take vars (after .listTable))
+      → P (reportLines vars table e after)
+  report-shown vars table e after (bothEnded p q v) = rw (ended-report vars table e after p q v) (ends (middle vars table e after))
+  report-shown vars table e after (stoppedBoth p q v) = rw (stopped-report vars table e after p q v) (stops (middle vars table e after))
 
   kept-shown : (vars : ℕ) (k : Kept) (table : List ℕ) (n : ℕ) → P (outputOf (keptScanned vars k table n))
   unfolding keptScanned outputOf
@@ -170,7 +196,7 @@ module _ (P : List ℕ → Type 0) (refusals : (r : Refusal) → P (refusalLine 
     where
       go : (a : BothAnswer) → pairedScans vars k table (lentFor table) n .answer ≡ a → P (outputOf (keptScanned vars k table n))
       go (scansRefused refusal) e = rw (e, keptScanned) (refusals refusal)
-      go (both ends) e = rw (e, keptScanned) (report-shown vars table ends _ _ (verdicts vars k table n ends e))
+      go (both ends) e = rw (e, keptScanned) (report-shown vars table ends _ (verdicts vars k table n ends e))
 
   text-shown : (vars n : ℕ) (table text : List ℕ) → P (outputOf (textScanned vars n table text))
   unfolding textScanned outputOf

@@ -5,12 +5,12 @@ use mathlib.Core.Path.{_≡_, refl, sym, ap, _∙_}
 use mathlib.Core.Bool.{Bool, true, false, _&&_}
 use mathlib.Core.Option.{none, some}
 use mathlib.Core.List.{List, [], _∷_, _++_}
-use lib.Dec.{T, eqb, leb→le}
-use lib.ListN.{length, take, drop, replicate, length-append, length-replicate, take-append-drop}
+use lib.Dec.{T, eqb, leb→le, ltb→lt}
+use lib.ListN.{length, take, drop, replicate, length-append, length-replicate, length-map, take-append-drop}
 use lib.Seq.{length-take-le}
 use Rattle.questions.specs.Bytes.{bytes, decimal}
 use Rattle.questions.specs.Tests.{all}
-use Rattle.questions.specs.Questions.{Refusal, Answer, firstNo, question1, question13, longEnough, mostRungWatchdog, mostInstructionWatchdog}
+use Rattle.questions.specs.Questions.{Refusal, Answer, firstNo, question1, question12, question13, longEnough, mostRungWatchdog, mostInstructionWatchdog}
 use Rattle.questions.specs.Laws.Answers.{ask-passed, first-yes, later-yes, vars-in-range, watchdog-in-range}
 use Rattle.questions.specs.Laws.Tests.{all-head, all-tail, all-first}
 use Rattle.printing.specs.Laws.Puts.{decimal-long, decimal-most}
@@ -18,9 +18,12 @@ use Rattle.table.specs.Halt.{Halt, Ended, Stopped}
 use Rattle.table.specs.State.{stateOf}
 use Rattle.table.specs.Questions.{isBit}
 use Rattle.table.specs.Laws.Alike.{table-room, table-bits}
-use Rattle.rungs.specs.Records.{RungRecord, longest, mostRecords}
-use Rattle.rungs.specs.Buffers.{Buffers, written as writtenFrom, writtenWords, writtenRecords}
-use Rattle.rungs.specs.Laws.Filling.{written-first}
+use Rattle.rungs.specs.Words.{operands, isOperand}
+use Rattle.rungs.specs.Records.{RungRecord, lay, sum, longest, mostRecords, labels as recordLabels}
+use Rattle.rungs.specs.Buffers.{Buffers, asBuffers, written as writtenFrom, writtenOver, writtenWords, writtenRecords}
+use Rattle.rungs.specs.Laws.Filling.{written-first, first-written}
+use Rattle.rungs.specs.Laws.Layout.{lay-labels}
+use Rattle.ladder_definitions.specs.Tree.{Rung, labels}
 use Rattle.ladder_definitions.specs.Kept.{Kept}
 use Rattle.ladder_definitions.specs.Meaning.{scanLadder}
 use Rattle.ladder_definitions.specs.Questions.{ladderOf, ladderAnswer, mostRungs, mostWords}
@@ -35,18 +38,20 @@ use Rattle.list_definitions.specs.Questions.{mostInstructions, question10}
 use Rattle.list_definitions.specs.Listing.{fixedNames, ListingCall, listing, written, refused as listingRefused, listingText}
 use Rattle.list_definitions.specs.Laws.Watchdog.{list-within}
 use Rattle.list_definitions.specs.Laws.Writes.{list-legal, list-moved}
-use Rattle.translation_definitions.specs.Translate.{translate}
+use Rattle.translation_definitions.specs.Translate.{rungCode, listRecords, translate}
 use Rattle.translation_definitions.specs.TranslateKept.{Counts, countsOf, translateKept, TranslateAnswer, translated, refused as translateRefused}
-use Rattle.translation_definitions.specs.BothScans.{BothEnds, BothAnswer, BothCall, both, pairedScans, pairedWatchdog, refused as scansRefused}
+use Rattle.translation_definitions.specs.BothScans.{BothEnds, Lent, BothAnswer, BothCall, both, pairedScans, pairedWatchdog, refused as scansRefused}
 use Rattle.translation_definitions.specs.BothAgree.{BothGiven}
 use Rattle.translation_definitions.specs.Laws.Answers.{all-yes, counts-are, written-room}
 use Rattle.table.specs.Laws.Legal.{LegalTable}
 use Rattle.translation_definitions.specs.Laws.Legal.{watchdog-in-range as most-in-range}
+use Rattle.translation_definitions.specs.Laws.Calls.{list-times}
 use Rattle.translation_definitions.specs.Laws.Boths.{both-ends, both-left, both-given, asked-yes, both-scanned, paired-legal}
 use Rattle.program_definitions.specs.Refusals.{refusalLine}
 use Rattle.program_definitions.specs.Outcome.{Outcome, printed, refused}
 use Rattle.program_definitions.specs.Printout.{countLine, blank, mostListing, listPrinted, keptPrinted, textPrinted}
-use Rattle.program_definitions.specs.Scanout.{endWord, scanCountLines, endLines, changedLine, changedLines, Verdict, alike, bothStopped, notAlike, verdict, verdictLine, reportLines, lentFor, keptScanned, textScanned}
+use Rattle.program_definitions.specs.Laws.Labels.{written-labels-fit}
+use Rattle.program_definitions.specs.Scanout.{endWord, scanCountLines, endLines, enteredLine, enteredLines, changedLine, changedLines, Verdict, alike, bothStopped, notAlike, verdict, verdictLine, reportOf, reportLines, lentFor, keptScanned, textScanned}
 
 -- ---- texts one after the other
 
@@ -167,6 +172,29 @@ text-short vars text t e = go (readText vars text (blank mostWords mostRungs) .a
 
 -- ---- ladder-scan
 
+-- a line that may be left out
+one-line : (none : Bool) (line : List ℕ) → length line ≤ 32 → length {A = ℕ} (elim none as (λ _. List ℕ) [ true ↦ [] | false ↦ line ]) ≤ 32
+one-line true line h = omega arith
+one-line false line h = h
+
+-- a line of a rung has at most 32 bytes
+entered-short : (label times : ℕ) → label < 65536 → times < 2 ^ 64 → length (enteredLine label times) ≤ 32
+unfolding enteredLine bytes
+entered-short label times h k =
+    let a = decimal-long label h in
+    let b = decimal-most times k in
+    simp length-append (omega arith)
+
+rungs-short : (ls ns : List ℕ) → T (all isOperand ls) → sum ns < 2 ^ 64 → length (enteredLines ls ns) ≤ 32 * length ls
+unfolding enteredLines sum
+rungs-short [] ns h k = omega arith
+rungs-short (l ∷ ls) [] h k = omega arith
+rungs-short (l ∷ ls) (n ∷ ns) h k =
+    let line = one-line (eqb n 0) (enteredLine l n) (entered-short l n (ltb→lt l operands (all-head isOperand l ls h)) (omega arith)) in
+    let rest = rungs-short ls ns (all-tail isOperand l ls h) (omega arith) in
+    let x = then (elim (eqb n 0) as (λ _. List ℕ) [ true ↦ [] | false ↦ enteredLine l n ]) (enteredLines ls ns) line rest in
+    omega (arith, x)
+
 -- a line of a variable has at most 32 bytes
 line-short : (v b l t : ℕ) → v < 65536 → b < 65536 → l < 65536 → t < 65536 → length (changedLine v b l t) ≤ 32
 unfolding changedLine bytes
@@ -178,10 +206,6 @@ line-short v b l t hv hb hl ht =
     let x5 : length (decimal v ++ (bytes " " ++ (decimal b ++ (bytes ">" ++ (decimal l ++ (bytes " " ++ (decimal b ++ (bytes ">" ++ (decimal t ++ bytes "\n"))))))))) ≤ 5 + 25
     = number-then v _ 25 hv (omega (arith, x4)) in
     omega (arith, x5)
-
-one-line : (same : Bool) (line : List ℕ) → length line ≤ 32 → length {A = ℕ} (elim same as (λ _. List ℕ) [ true ↦ [] | false ↦ line ]) ≤ 32
-one-line true line h = omega arith
-one-line false line h = h
 
 bit-few : (b : ℕ) → T (isBit b) → b < 65536
 bit-few b h = let x = leb→le b 1 h in omega (arith, x)
@@ -246,50 +270,84 @@ module _ (vars : ℕ) (k : Kept) (table : List ℕ) (n : ℕ) where
   abbrev w : ℕ
   w = pairedWatchdog vars k table n
 
-  report-short : (given : BothGiven vars k table (lentFor table) n)
-      → length (reportLines vars table (both-ends vars k table (lentFor table) n w) (both-left vars k table (lentFor table) n w .ladderTable) (both-left vars k table (lentFor table) n w .listTable)) ≤ 98304
-  unfolding reportLines both-ends both-left
-  report-short given =
-      let s = stateOf vars table in
-      let e = both-ends vars k table (lentFor table) n w in
-      let taken = accepted vars k (given .given .accepted) .1 in
-      let range = vars-in-range vars (taken .range) in
-      let most = watchdog-in-range mostRungWatchdog n (given .given .watchdog) in
-      let few = few-rungs (ladderOf k) n s in
-      let top = watchdog-in-range mostInstructionWatchdog w (paired-legal vars k table n (given .given .accepted) (given .given .watchdog)) in
-      let c = list-within (translate vars (ladderOf k)) w s in
-      let l = scanLadder (ladderOf k) n s .state .bytes in
-      let t = scanList (translate vars (ladderOf k)) w s .state .bytes in
-      let lb = bits vars l (ladder-legal vars (ladderOf k) n s (given .given .legal)) in
-      let tb = bits vars t (list-legal vars (translate vars (ladderOf k)) w s (given .given .legal)) in
-      let m = as-many vars table (given .given .legal) in
-      let head = ends-short e (record {
-        ladder-rungs = omega (arith, most, few);
-        ladder-moved = omega (arith, ladder-moved (ladderOf k) n s (sized (ladderOf k) (taken .sizes) .words-a-rung), most, few);
-        list-instructions = omega (arith, c .instructions, top);
-        list-rungs = omega (arith, c .rungs, top);
-        list-moved = omega (arith, list-moved (translate vars (ladderOf k)) w s, c .instructions, top);
-      }) in
-      let changed = lines-short 0 (take vars table) (take vars l) (take vars t) (omega (arith, m, range .1)) (bits vars table (given .given .legal)) lb tb in
-      let last = verdict-short (verdict e (take vars l) (take vars t)) in
-      let x = then (endLines e) (changedLines 0 (take vars table) (take vars l) (take vars t) ++ verdictLine (verdict e (take vars l) (take vars t))) head
-      (then (changedLines 0 (take vars table) (take vars l) (take vars t)) (verdictLine (verdict e (take vars l) (take vars t))) changed last) in
-      omega (arith, x, m, range .1)
+  abbrev e : BothEnds
+  e = both-ends vars k table (lentFor table) n w
+
+  abbrev left : Lent
+  left = both-left vars k table (lentFor table) n w
+
+  -- the labels of the list's rungs are the ladder's
+  labels-left : take (e .counts .rungs) (left .buffers .labels) ≡ labels (ladderOf k)
+  unfolding both-ends both-left countsOf writtenOver asBuffers translate listRecords
+  labels-left =
+      let label : Rung → ℕ = λ g. g .label in
+      let size : Rung → ℕ = λ g. length (rungCode vars (λ l. 0) g) in
+      let rs = lay label size 0 (ladderOf k) in
+      first-written (length rs) (recordLabels rs) (lentFor table .buffers .labels) (length-map rs (λ r. r .label)) ∙ lay-labels label size 0 (ladderOf k)
+
+  module _ (given : BothGiven vars k table (lentFor table) n) where
+    legal : question12 mostInstructionWatchdog w ≡ none
+    legal = paired-legal vars k table n (given .given .accepted) (given .given .watchdog)
+
+    -- their times add up to the rungs entered
+    times-left : sum (take (e .counts .rungs) (left .buffers .times)) ≡ e .list .rungs
+    unfolding both-ends both-left countsOf writtenOver asBuffers
+    times-left =
+        let h = list-times vars k table n (given .given .accepted) (given .given .legal) (given .given .watchdog) w legal in
+        ap sum (first-written _ _ (lentFor table .buffers .times) (h .0)) ∙ h .1
+
+    counts-fit : Fitting (e .ladder) (e .list)
+    unfolding both-ends
+    counts-fit =
+        let s = stateOf vars table in
+        let words = sized (ladderOf k) (accepted vars k (given .given .accepted) .1 .sizes) .words-a-rung in
+        let most = watchdog-in-range mostRungWatchdog n (given .given .watchdog) in
+        let few = few-rungs (ladderOf k) n s in
+        let top = watchdog-in-range mostInstructionWatchdog w legal in
+        let c = list-within (translate vars (ladderOf k)) w s in
+        record {
+          ladder-rungs = omega (arith, most, few);
+          ladder-moved = omega (arith, ladder-moved (ladderOf k) n s words, most, few);
+          list-instructions = omega (arith, c .instructions, top);
+          list-rungs = omega (arith, c .rungs, top);
+          list-moved = omega (arith, list-moved (translate vars (ladderOf k)) w s, c .instructions, top);
+        }
+
+    report-short : T (all isOperand (labels (ladderOf k))) → length (reportLines vars table e left) ≤ 98304
+    unfolding reportLines reportOf both-left
+    report-short fit =
+        let s = stateOf vars table in
+        let taken = accepted vars k (given .given .accepted) .1 in
+        let range = vars-in-range vars (taken .range) in
+        let few = sized (ladderOf k) (taken .sizes) .rungs in
+        let many = length-map (ladderOf k) (λ g. g .label) in
+        let l = take vars (scanLadder (ladderOf k) n s .state .bytes) in
+        let t = take vars (scanList (translate vars (ladderOf k)) w s .state .bytes) in
+        let lb = bits vars _ (ladder-legal vars (ladderOf k) n s (given .given .legal)) in
+        let tb = bits vars _ (list-legal vars (translate vars (ladderOf k)) w s (given .given .legal)) in
+        let m = as-many vars table (given .given .legal) in
+        let ns = take (e .counts .rungs) (left .buffers .times) in
+        let entered = rungs-short (labels (ladderOf k)) ns fit (rw times-left (counts-fit .list-rungs)) in
+        let changed = lines-short 0 (take vars table) l t (omega (arith, m, range .1)) (bits vars table (given .given .legal)) lb tb in
+        let lines : List ℕ = changedLines 0 (take vars table) l t in
+        let line : List ℕ = verdictLine (verdict e l t) in
+        let rungs : List ℕ = enteredLines (labels (ladderOf k)) ns in
+        let x = then (endLines e) (rungs ++ (lines ++ line)) (ends-short e counts-fit) (then rungs (lines ++ line) entered (then lines line changed (verdict-short (verdict e l t)))) in
+        rw labels-left (omega (arith, x, m, range .1, few, many))
 
   abbrev scannedBy : BothCall → Outcome
-  scannedBy c = elim (c .answer) [ scansRefused refusal ↦ refused refusal | both e ↦ printed (reportLines vars table e (c .lent .ladderTable) (c .lent .listTable)) ]
+  scannedBy c = elim (c .answer) [ scansRefused refusal ↦ refused refusal | both ends ↦ printed (reportLines vars table ends (c .lent)) ]
 
-  scanned-short : (t : List ℕ) → keptScanned vars k table n ≡ printed t → length t ≤ 98304
+  scanned-short : T (all isOperand (labels (ladderOf k))) → (t : List ℕ) → keptScanned vars k table n ≡ printed t → length t ≤ 98304
   unfolding keptScanned
-  scanned-short t q = go (pairedScans vars k table (lentFor table) n .answer) refl
+  scanned-short fit t q = go (pairedScans vars k table (lentFor table) n .answer) refl
     where
       go : (a : BothAnswer) → pairedScans vars k table (lentFor table) n .answer ≡ a → length t ≤ 98304
       go (scansRefused r) a = let z : keptScanned vars k table n ≡ refused r = rw (a, keptScanned) refl in absurd (no-text r t (sym z ∙ q))
-      go (both e) a =
-          let given = both-given vars k table (lentFor table) n w e a .0 in
-          let is = both-scanned vars k table (lentFor table) n w
-          (asked-yes vars k table (lentFor table) n given w (paired-legal vars k table n (given .given .accepted) (given .given .watchdog))) in
-          rw (← (same-text (sym (ap scannedBy is) ∙ q))) (report-short given)
+      go (both ends) a =
+          let given = both-given vars k table (lentFor table) n w ends a .0 in
+          let is = both-scanned vars k table (lentFor table) n w (asked-yes vars k table (lentFor table) n given w (legal given)) in
+          rw (← (same-text (sym (ap scannedBy is) ∙ q))) (report-short given fit)
 
 pub report-text-short : (vars n : ℕ) (table text t : List ℕ) → textScanned vars n table text ≡ printed t → length t ≤ 98304
 unfolding textScanned
@@ -298,5 +356,5 @@ report-text-short vars n table text t e = go (readText vars text (blank mostWord
     go : (a : ReadAnswer) → readText vars text (blank mostWords mostRungs) .answer ≡ a → length t ≤ 98304
     go (kept words rungs) q =
         let z : textScanned vars n table text ≡ keptScanned vars (writtenKept (readText vars text (blank mostWords mostRungs) .buffers) words rungs) table n = rw (q, textScanned) refl in
-        scanned-short vars _ table n t (sym z ∙ e)
+        scanned-short vars _ table n (written-labels-fit vars text (blank mostWords mostRungs) words rungs q) t (sym z ∙ e)
     go (readRefused r) q = let z : textScanned vars n table text ≡ refused r = rw (q, textScanned) refl in absurd (no-text r t (sym z ∙ e))

@@ -13,7 +13,7 @@ use Rattle.program_list_output.proofs.print_list.Tie as tie
 room : (c : tie.After-n) → c .n .given .0 .0 ≤ 65536
 room c = list-room _ _ _ (c .before .before .before .listing2 .ensures) _ (c .n .given .1)
 
-reach : (c : tie.After-n) → length (take (c .n .given .0 .0) (c .before .before .before .listing2 .last .1 .1 .1 .1 .1 .0)) ≤ 65536
+reach : (c : tie.After-n) → length (take (c .n .given .0 .0) (c .before .before .before .listing2 .last .1 .1 .1 .1 .1 .1 .0)) ≤ 65536
 reach c = list-long _ _ _ (c .before .before .before .listing2 .ensures) _ (c .n .given .1) (c .before .before .listing3 .given)
 
 slice-aggregate-listing : tie.Need-slice-aggregate-listing

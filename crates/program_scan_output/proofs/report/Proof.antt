@@ -11,7 +11,7 @@ use Rattle.program_scan_output.proofs.report.Tie as tie
 
 -- what was written has room
 room : (c : tie.After-counts) → (c .counts .given .0 .0 .words ≤ 8192) × (c .counts .given .0 .0 .rungs ≤ 256)
-room c = read-room _ _ (c .before .before .before .before .before .before .read .ensures) _ (c .counts .given .1)
+room c = read-room _ _ (c .before .before .before .before .before .before .before .read .ensures) _ (c .counts .given .1)
 
 slice-aggregate-read : tie.Need-slice-aggregate-read
 slice-aggregate-read c = search needs
@@ -25,6 +25,9 @@ slice-aggregate-read-3 c = search needs
 slice-aggregate-read-4 : tie.Need-slice-aggregate-read-4
 slice-aggregate-read-4 c = search needs
 
+slice-aggregate-read-5 : tie.Need-slice-aggregate-read-5
+slice-aggregate-read-5 c = search needs
+
 read-requires : tie.Need-read-requires
 read-requires c κs = search needs
 
@@ -37,42 +40,52 @@ enum-known-counts c = search needs
 array-share-prefix-words : tie.Need-array-share-prefix-words
 array-share-prefix-words c =
     let b = c .before in
-    omega (arith, room b .0, b .before .before .before .before .before .words2 .given)
+    omega (arith, room b .0, b .before .before .before .before .before .before .words2 .given)
 
 slice-aggregate-report-kept : tie.Need-slice-aggregate-report-kept
 slice-aggregate-report-kept c =
     let b = c .before .before in
-    sym (length-take-le _ _ (omega (arith, room b .0, b .before .before .before .before .before .words2 .given)))
+    sym (length-take-le _ _ (omega (arith, room b .0, b .before .before .before .before .before .before .words2 .given)))
 
 array-share-prefix-labels : tie.Need-array-share-prefix-labels
 array-share-prefix-labels c =
     let b = c .before .before in
-    omega (arith, room b .1, b .before .before .before .before .labels2 .given)
+    omega (arith, room b .1, b .before .before .before .before .before .labels2 .given)
 
 slice-aggregate-report-kept-2 : tie.Need-slice-aggregate-report-kept-2
 slice-aggregate-report-kept-2 c =
     let b = c .before .before .before in
-    sym (length-take-le _ _ (omega (arith, room b .1, b .before .before .before .before .labels2 .given)))
+    sym (length-take-le _ _ (omega (arith, room b .1, b .before .before .before .before .before .labels2 .given)))
 
 array-share-prefix-offsets : tie.Need-array-share-prefix-offsets
 array-share-prefix-offsets c =
     let b = c .before .before .before in
-    omega (arith, room b .1, b .before .before .before .offsets2 .given)
+    omega (arith, room b .1, b .before .before .before .before .offsets2 .given)
 
 slice-aggregate-report-kept-3 : tie.Need-slice-aggregate-report-kept-3
 slice-aggregate-report-kept-3 c =
     let b = c .before .before .before .before in
-    sym (length-take-le _ _ (omega (arith, room b .1, b .before .before .before .offsets2 .given)))
+    sym (length-take-le _ _ (omega (arith, room b .1, b .before .before .before .before .offsets2 .given)))
 
 array-share-prefix-lengths : tie.Need-array-share-prefix-lengths
 array-share-prefix-lengths c =
     let b = c .before .before .before .before in
-    omega (arith, room b .1, b .before .before .lengths2 .given)
+    omega (arith, room b .1, b .before .before .before .lengths2 .given)
 
 slice-aggregate-report-kept-4 : tie.Need-slice-aggregate-report-kept-4
 slice-aggregate-report-kept-4 c =
     let b = c .before .before .before .before .before in
-    sym (length-take-le _ _ (omega (arith, room b .1, b .before .before .lengths2 .given)))
+    sym (length-take-le _ _ (omega (arith, room b .1, b .before .before .before .lengths2 .given)))
+
+array-share-prefix-times : tie.Need-array-share-prefix-times
+array-share-prefix-times c =
+    let b = c .before .before .before .before .before in
+    omega (arith, room b .1, b .before .before .times2 .given)
+
+slice-aggregate-report-kept-5 : tie.Need-slice-aggregate-report-kept-5
+slice-aggregate-report-kept-5 c =
+    let b = c .before .before .before .before .before .before in
+    sym (length-take-le _ _ (omega (arith, room b .1, b .before .before .times2 .given)))
 
 report-kept-requires : tie.Need-report-kept-requires
 report-kept-requires c κs = search needs
@@ -80,15 +93,15 @@ report-kept-requires c κs = search needs
 returns : tie.Need-returns
 returns c =
     let b = c .before in
-    refusal-done _ _ (read-refused _ _ (b .before .before .before .before .before .before .read .ensures) _ _ _ (b .refusal .given .1))
+    refusal-done _ _ (read-refused _ _ (b .before .before .before .before .before .before .before .read .ensures) _ _ _ (b .refusal .given .1))
 
 same-length : tie.Need-same-length
 same-length c = search needs
 
 returns-2 : tie.Need-returns-2
 returns-2 c =
-    let b = c .before .before .before .before .before .before .before .before .before in
-    same-done _ _ _ (read-kept _ _ (b .before .before .before .before .before .before .read .ensures) _ _ _ (b .counts .given .1))
+    let b = c .before .before .before .before .before .before .before .before .before .before in
+    same-done _ _ _ (read-kept _ _ (b .before .before .before .before .before .before .before .read .ensures) _ _ _ (b .counts .given .1))
     (c .before .before .report-kept .ensures)
 
 pub report-spec : {M : Type 1} → statement M
@@ -99,6 +112,7 @@ report-spec =
     slice-aggregate-read-2
     slice-aggregate-read-3
     slice-aggregate-read-4
+    slice-aggregate-read-5
     read-requires
     enum-known-refusal
     enum-known-counts
@@ -110,6 +124,8 @@ report-spec =
     slice-aggregate-report-kept-3
     array-share-prefix-lengths
     slice-aggregate-report-kept-4
+    array-share-prefix-times
+    slice-aggregate-report-kept-5
     report-kept-requires
     returns
     same-length

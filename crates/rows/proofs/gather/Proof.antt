@@ -47,10 +47,9 @@ use denote.Triple.Statement.{Contract, Triple}
 use denote.Triple.Table.{entered, cited}
 use denote.Triple.Walked.{says, Stays, stay-none-slice, walkOf, goes-none-slice, Walks, ends-at, walked, walk-meets}
 use denote.Exit.{yes}
-use Rattle.rows.specs.Rows.{recordOf, recordsOf, recordAt}
+use Rattle.rows.specs.Rows.{recordsOf, rungAt}
 use Rattle.rungs.specs.Records.{mostRecords}
 use Rattle.rows.specs.Parts.{gathered, rowsOf}
-use Rattle.rows.specs.Laws.Records.{rungAt, records-at, same-rung}
 use Rattle.rows.specs.declared.Rung.{Rung}
 use Rattle.rows.specs.declared.Rows.{Rows}
 use Rattle.rows.proofs.Gathers.{labelOf, offsetOf, lengthOf, fieldsTo, fields-start, fields-next, gathered-all}
@@ -155,8 +154,8 @@ module _ {M : Type 1} (𝓤 : URA M) (H : Heap 𝓤) (A : Atoms 𝓤) (at-mem : 
   said-room : (n r : ℕ) → ent 𝓤 (ensured 𝓤 H A rooms.ended (rooms.clauses 𝓤 H A at-mem run) tt (n, tt) tt r) (fact 𝓤 (r ≡ min mostRecords n))
   said-room n r = exE 𝓤 _ (λ zs. snd∗ 𝓤 (sem 𝓤 H A (lasts rooms.ended tt (n, tt) zs)) (fact 𝓤 (r ≡ min mostRecords n)))
 
-  said-at : (κ : Lft) (x : RefT (List Rung)) (i : ℕ) (r : Rung) → ent 𝓤 (ensured 𝓤 H A rung-at.ended (rung-at.clauses 𝓤 H A at-mem run) (κ, tt) (x, (i, tt)) tt r) (fact 𝓤 (recordOf r ≡ recordAt (recordsOf (x .now)) i))
-  said-at κ x i r = exE 𝓤 _ (λ ws. snd∗ 𝓤 (sem 𝓤 H A (lasts rung-at.ended (κ, tt) (x, (i, tt)) ws)) (fact 𝓤 (recordOf r ≡ recordAt (recordsOf (x .now)) i)))
+  said-at : (κ : Lft) (x : RefT (List Rung)) (i : ℕ) (r : Rung) → ent 𝓤 (ensured 𝓤 H A rung-at.ended (rung-at.clauses 𝓤 H A at-mem run) (κ, tt) (x, (i, tt)) tt r) (fact 𝓤 (r ≡ rungAt (x .now) i))
+  said-at κ x i r = exE 𝓤 _ (λ ws. snd∗ 𝓤 (sem 𝓤 H A (lasts rung-at.ended (κ, tt) (x, (i, tt)) ws)) (fact 𝓤 (r ≡ rungAt (x .now) i)))
 
   said-rows : (ls os ns : List ℕ) (n k : ℕ) (r : Rows) → ent 𝓤 (ensured 𝓤 H A rows-of.ended (rows-of.clauses 𝓤 H A at-mem run) tt (ls, (os, (ns, (n, (k, tt))))) tt r) (fact 𝓤 (r ≡ rowsOf ls os ns n k))
   said-rows ls os ns n k r = exE 𝓤 _ (λ zs. snd∗ 𝓤 (sem 𝓤 H A (lasts rows-of.ended tt (ls, (os, (ns, (n, (k, tt))))) zs)) (fact 𝓤 (r ≡ rowsOf ls os ns n k)))
@@ -368,8 +367,8 @@ module _ {M : Type 1} (𝓤 : URA M) (H : Heap 𝓤) (A : Atoms 𝓤) (W : Given
           move ! (35 ∷ []) $ use1 W (‵ Own ⊛ ‵ Own) (shr-slice-copy 𝓤 H A W (named 0) κ T.the-row .twice x (v₁ ∷ [])) $ split ! $ move ! (36 ∷ 0 ∷ []) $ use2 W (raw (RungAt 𝓤 H A at-mem run .pre (to-at (i .at)))) (goes-at (i .at) (omega (arith, small i less)) (before-end i less)) $
           calls-at ! fm (RungAt 𝓤 H A at-mem run) known-at (to-at (i .at)) (and-then ! (load ! (from ! (stop !)) (look ! 32 refl)) (and-then ! (load ! (from ! (stop !)) (look ! 22 refl)) (no-more !))) (λ v.
           use1 W (later (some (λ (r : Rung). (token ⊛ ‵ (T.the-row .own r (v ∷ []))) ⊛ raw (ensured 𝓤 H A rung-at.ended (rung-at.clauses 𝓤 H A at-mem run) (κ, tt) (x, (i .at, tt)) tt r)))) (id⊢ 𝓤 _) $ await ! tt $ pick ! (λ r.
-          split ! $ move ! (1 ∷ []) $ use1 W (raw (fact 𝓤 (recordOf r ≡ recordAt (recordsOf ys) (i .at)))) (said-at 𝓤 H A at-mem run κ x (i .at) r) $ heard ! (recordOf r ≡ recordAt (recordsOf ys) (i .at)) (λ e. split ! $ move ! (1 ∷ []) $
-          rewrite ! 0 (λ (z : Rung). ‵ (T.the-row .own z (v ∷ []))) (same-rung r (rungAt ys (i .at)) (e ∙ records-at ys (i .at))) refl $ facts ! T.the-row (Is T.the-row) (shows 𝓤 H A T.the-row) (rungAt ys (i .at)) (v ∷ []) (λ is.
+          split ! $ move ! (1 ∷ []) $ use1 W (raw (fact 𝓤 (r ≡ rungAt ys (i .at)))) (said-at 𝓤 H A at-mem run κ x (i .at) r) $ heard ! (r ≡ rungAt ys (i .at)) (λ e. split ! $ move ! (1 ∷ []) $
+          rewrite ! 0 (λ (z : Rung). ‵ (T.the-row .own z (v ∷ []))) e refl $ facts ! T.the-row (Is T.the-row) (shows 𝓤 H A T.the-row) (rungAt ys (i .at)) (v ∷ []) (λ is.
           -- [the token; what the row owns; the locals]
           land ! (from ! (stop !)) (init ! 8 refl (LL.lawful T.the-type T′.the-laws 𝓤 H A W .typed (rungAt ys (i .at)) _ is .0)) $ forget ! 18 refl $
           keep ! (2 ∷ 3 ∷ 4 ∷ 5 ∷ 6 ∷ 7 ∷ 8 ∷ 9 ∷ 10 ∷ 11 ∷ 12 ∷ 13 ∷ 14 ∷ 15 ∷ 16 ∷ 17 ∷ 18 ∷ 19 ∷ 20 ∷ 21 ∷ 22 ∷ 23 ∷ 24 ∷ 25 ∷ 26 ∷ 27 ∷ 28 ∷ 29 ∷ 30 ∷ 31 ∷ 32 ∷ 33 ∷ 34 ∷ 35 ∷ 0 ∷ 1 ∷ []) $ by ! (puts i less v is))))))

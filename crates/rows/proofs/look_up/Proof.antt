@@ -51,9 +51,8 @@ use Rattle.rungs.specs.Records.{labels, lookUp}
 use Rattle.rungs.specs.declared.Search.{Search}
 use Rattle.rungs.proofs.Search as S
 use Rattle.rungs.proofs.Search.Laws as S′
-use Rattle.rows.specs.Rows.{recordOf, recordsOf, recordAt}
+use Rattle.rows.specs.Rows.{recordOf, recordsOf, rungAt}
 use Rattle.rows.specs.Parts.{nextFound, searchTold}
-use Rattle.rows.specs.Laws.Records.{rungAt, records-at, same-rung}
 use Rattle.rows.specs.declared.Rung.{Rung}
 use Rattle.rows.proofs.Searches.{found, Looked, looked-none, looked-next, found-start, found-within, found-next, found-end}
 use Rattle.rows.proofs.Rung as T
@@ -117,8 +116,8 @@ module _ {M : Type 1} (𝓤 : URA M) (H : Heap 𝓤) (A : Atoms 𝓤) (at-mem : 
   abbrev Told : Contract 𝓤
   Told = tripleOf 𝓤 H A told.signature (told.spec 𝓤 H A at-mem run)
 
-  said-at : (κ : Lft) (x : RefT (List Rung)) (i : ℕ) (r : Rung) → ent 𝓤 (ensured 𝓤 H A rung-at.ended (rung-at.clauses 𝓤 H A at-mem run) (κ, tt) (x, (i, tt)) tt r) (fact 𝓤 (recordOf r ≡ recordAt (recordsOf (x .now)) i))
-  said-at κ x i r = exE 𝓤 _ (λ ws. snd∗ 𝓤 (sem 𝓤 H A (lasts rung-at.ended (κ, tt) (x, (i, tt)) ws)) (fact 𝓤 (recordOf r ≡ recordAt (recordsOf (x .now)) i)))
+  said-at : (κ : Lft) (x : RefT (List Rung)) (i : ℕ) (r : Rung) → ent 𝓤 (ensured 𝓤 H A rung-at.ended (rung-at.clauses 𝓤 H A at-mem run) (κ, tt) (x, (i, tt)) tt r) (fact 𝓤 (r ≡ rungAt (x .now) i))
+  said-at κ x i r = exE 𝓤 _ (λ ws. snd∗ 𝓤 (sem 𝓤 H A (lasts rung-at.ended (κ, tt) (x, (i, tt)) ws)) (fact 𝓤 (r ≡ rungAt (x .now) i)))
 
   said-next : (f i : ℕ) (r : Rung) (l s : ℕ) → ent 𝓤 (ensured 𝓤 H A next-found.ended (next-found.clauses 𝓤 H A at-mem run) tt (f, (i, (r, (l, tt)))) tt s) (fact 𝓤 (s ≡ nextFound f i (recordOf r) l))
   said-next f i r l s = exE 𝓤 _ (λ ws. snd∗ 𝓤 (sem 𝓤 H A (lasts next-found.ended tt (f, (i, (r, (l, tt)))) ws)) (fact 𝓤 (s ≡ nextFound f i (recordOf r) l)))
@@ -237,8 +236,8 @@ module _ {M : Type 1} (𝓤 : URA M) (H : Heap 𝓤) (A : Atoms 𝓤) (W : Given
           use2 W (raw (RungAt 𝓤 H A at-mem run .pre (to-at (i .at)))) (goes-at (i .at) fits (inside i less)) $
           calls-at ! fm (RungAt 𝓤 H A at-mem run) known-at (to-at (i .at)) (and-then ! (load ! (from ! (stop !)) (look ! 14 refl)) (and-then ! (load ! (from ! (stop !)) (look ! 8 refl)) (no-more !))) (λ v.
           use1 W (later (some (λ (r : Rung). (token ⊛ ‵ (T.the-row .own r (v ∷ []))) ⊛ raw (ensured 𝓤 H A rung-at.ended (rung-at.clauses 𝓤 H A at-mem run) (κ, tt) (x, (i .at, tt)) tt r)))) (id⊢ 𝓤 _) $ await ! tt $ pick ! (λ r.
-          split ! $ move ! (1 ∷ []) $ use1 W (raw (fact 𝓤 (recordOf r ≡ recordAt (recordsOf ys) (i .at)))) (said-at 𝓤 H A at-mem run κ x (i .at) r) $ heard ! (recordOf r ≡ recordAt (recordsOf ys) (i .at)) (λ e. split ! $ move ! (1 ∷ []) $
-          rewrite ! 0 (λ (z : Rung). ‵ (T.the-row .own z (v ∷ []))) (same-rung r (rungAt ys (i .at)) (e ∙ records-at ys (i .at))) refl $ peeks ! T.the-row (Is T.the-row) (shows 𝓤 H A T.the-row) (rungAt ys (i .at)) (v ∷ []) (λ is.
+          split ! $ move ! (1 ∷ []) $ use1 W (raw (fact 𝓤 (r ≡ rungAt ys (i .at)))) (said-at 𝓤 H A at-mem run κ x (i .at) r) $ heard ! (r ≡ rungAt ys (i .at)) (λ e. split ! $ move ! (1 ∷ []) $
+          rewrite ! 0 (λ (z : Rung). ‵ (T.the-row .own z (v ∷ []))) e refl $ peeks ! T.the-row (Is T.the-row) (shows 𝓤 H A T.the-row) (rungAt ys (i .at)) (v ∷ []) (λ is.
           land ! (from ! (stop !)) (init ! 5 refl (LL.lawful T.the-type T′.the-laws 𝓤 H A W .typed (rungAt ys (i .at)) _ is .0)) $
           -- `next_found`: [the record; the token; what the row owns; _7; …; _6; …; _5; …; _4; …; _3; …; _2; …; _1; …; room for _0; …]
           use1 W (raw (Next 𝓤 H A at-mem run .pre (to-next (i .at) v))) (goes-next (i .at) v (found-fits (i .at)) fits) $

@@ -49,12 +49,13 @@ use denote.Triple.Statement.{Contract, Triple}
 use denote.Triple.Table.{entered, cited}
 use denote.Triple.Walked.{says, needs, Stays, stay-slice, stay-none, walkOf, goes-slice, goes-none, Walks, ends-at, walked, walk-meets}
 use denote.Exit.{yes}
-use Rattle.rows.specs.Rows.{recordsOf}
+use Rattle.rungs.specs.Records.{noneEntered}
+use Rattle.rungs.specs.Buffers.{written}
+use Rattle.rows.specs.Rows.{recordsOf, timesOf, noRung}
 use Rattle.rows.specs.Parts.{scattered, rungIn}
-use Rattle.rows.specs.Laws.Records.{noRung}
 use Rattle.rows.specs.declared.Rung.{Rung}
 use Rattle.rows.specs.declared.Rows.{Rows}
-use Rattle.rows.proofs.Scatters.{Full, scatteredTo, scattered-start, scattered-next, scattered-length, scattered-all}
+use Rattle.rows.proofs.Scatters.{Full, scatteredTo, scattered-start, scattered-next, scattered-length, scattered-all, scattered-times}
 use Rattle.rows.proofs.Loans.{lentAt, Lent, Owed, loan, is-lent, is-back}
 use Rattle.rows.proofs.Rung as T
 use Rattle.rows.proofs.Rung.Laws as T′
@@ -113,7 +114,7 @@ word-ref = spelt (tyRef erased imm (tyArray (tyInt w32) 256))
 -- a turn, once its test has passed
 abbrev more : Body
 more = seq (call #rows·rung-in (copy (place 7 []) ∷ copy (place 8 []) ∷ copy (place 9 []) ∷ copy (place 10 []) ∷ []) (place 12 []))
-    (seq (assign (place 13 []) (op2 (mul unsigned) (copy (place 10 [])) (int w64 12)))
+    (seq (assign (place 13 []) (op2 (mul unsigned) (copy (place 10 [])) (int w64 16)))
     (seq (assign (place 14 []) (op2 offset (copy (place 1 (field 0 ∷ []))) (copy (place 13 []))))
     (seq (assign (place 14 (deref rung-ty ∷ [])) (rvOpd (copy (place 12 []))))
     (assign (place 10 []) (op2 (add unsigned) (copy (place 10 [])) (int w64 1))))))
@@ -181,7 +182,13 @@ module _ {M : Type 1} (𝓤 : URA M) (H : Heap 𝓤) (A : Atoms 𝓤) (W : Given
   still : (i : ℕ) → i ≤ n → length (zs i) ≡ length ys
   still i h = scattered-length rows full i ys (le-trans h (asked .0)) (le-trans h (asked .1))
 
-  exits : (i : ℕ) → i ≤ n → recordsOf (zs i) ≡ scattered n rows (recordsOf ys) → ent 𝓤 (⋆ 𝓤 H A (‵ (obs (zs i)) ∷ ‵ (fbor κ (Held T.the-row (length (zs i)) b o γ)) ∷ ‵ (flft κ q) ∷ [])) (Post vunit)
+  abbrev Done : List Rung → Type 0
+  Done l = (recordsOf l ≡ scattered n rows (recordsOf ys)) × (timesOf l ≡ written (noneEntered n) (timesOf ys))
+
+  all-stored : (i : ℕ) → i ≡ n → Done (zs i)
+  all-stored i e = subst (λ (k : ℕ). Done (zs k)) (sym e) (scattered-all rows full n ys (asked .0) (asked .1), scattered-times rows full n ys (asked .0) (asked .1))
+
+  exits : (i : ℕ) → i ≤ n → Done (zs i) → ent 𝓤 (⋆ 𝓤 H A (‵ (obs (zs i)) ∷ ‵ (fbor κ (Held T.the-row (length (zs i)) b o γ)) ∷ ‵ (flft κ q) ∷ [])) (Post vunit)
   exits i h e =
       qed W (‵ (obs (zs i)) ∷ ‵ (fbor κ (Held T.the-row (length (zs i)) b o γ)) ∷ ‵ (flft κ q) ∷ []) ∵
       suffices ! _ (ends-at 𝓤 H A scatter.ended stayed (scatter.clauses 𝓤 H A at-mem run) W (((κ, tt), (q, tt), tt, x, at), tt) vunit tt (zs i, (tt, (tt, tt))) (still i h, (tt, (tt, tt)))) $ says ! e $
@@ -306,7 +313,7 @@ module _ {M : Type 1} (𝓤 : URA M) (H : Heap 𝓤) (A : Atoms 𝓤) (W : Given
         turns : (i : Upto) → Sq W (At i) (runs C Λ En parts.turn-1 (anyQ (Turned i)))
         unfolding afterTurn
         turns i =
-            -- [room for _14, the place; …; room for _13, 12 * i; …; room for _12, the record; …; room for _11, the test; …; _10, i; …; _9, _8, _7, the references; …; of _6, _5, _4, the arrays, what the lender keeps; …; _3, n; …; _2, rows; …; _1, row; …; room for _0; …; the row's records; the open borrow; obs; auth; the lifetimes; what the references own]
+            -- [room for _14, the place; …; room for _13, 16 * i; …; room for _12, the record; …; room for _11, the test; …; _10, i; …; _9, _8, _7, the references; …; of _6, _5, _4, the arrays, what the lender keeps; …; _3, n; …; _2, rows; …; _1, row; …; room for _0; …; the row's records; the open borrow; obs; auth; the lifetimes; what the references own]
             assigns ! (bin ! (load ! (from ! (stop !)) (look ! 8 refl)) (load ! (from ! (stop !)) (look ! 22 refl)) tt) (from ! (stop !)) (init ! 6 refl (tt, tt)) $
             first ! $ branches ! (load ! (from ! (stop !)) (look ! 6 refl))
             (λ less. skips ! $ exec ! C Λ En more (anyQ (Turned i)) $
@@ -319,9 +326,9 @@ module _ {M : Type 1} (𝓤 : URA M) (H : Heap 𝓤) (A : Atoms 𝓤) (W : Given
             rewrite ! 0 (λ (z : Rung). ‵ (T.the-row .own z (v ∷ []))) e refl $ facts ! T.the-row (Is T.the-row) (shows 𝓤 H A T.the-row) (rung (i .0)) (v ∷ []) (λ is.
             -- [the lifetimes; what the references own; _14; …]
             land ! (from ! (stop !)) (init ! 6 refl (typed (rung (i .0)) v is)) $
-            assigns ! (bin ! (load ! (from ! (stop !)) (look ! 10 refl)) (lit ! tt) (record { fits = times less })) (from ! (stop !)) (init ! 4 refl (tt, record { fits = times less })) $
+            assigns ! (bin ! (load ! (from ! (stop !)) (look ! 10 refl)) (lit ! tt) (record { fits = place-fits less })) (from ! (stop !)) (init ! 4 refl (tt, record { fits = place-fits less })) $
             assigns ! (bin ! (load ! (from ! (fld ! refl (stop !))) (look-in ! 28 (sub ! 0 refl (whole !)))) (load ! (from ! (stop !)) (look ! 4 refl)) tt) (from ! (stop !)) (init ! 2 refl (tt, tt)) $
-            rewrite ! 2 (λ (p : ℕ). ‵ (fat fullShare ptr-ty l₁₄ 0 (vptr b p))) (sym (place-is 12 o (i .0))) refl $
+            rewrite ! 2 (λ (p : ℕ). ‵ (fat fullShare ptr-ty l₁₄ 0 (vptr b p))) (sym (place-is 16 o (i .0))) refl $
             move ! (32 ∷ []) $ elem-out ! T.the-row (Is T.the-row) (shows 𝓤 H A T.the-row) (LL.vals T.the-type T′.the-laws) (LL.tells T.the-type T′.the-laws) fullShare (zs (i .0)) (i .0) noRung b o (within less) (λ _.
             -- [row[i]; what it owns; the others; the lifetimes; what the references own; _14; …]
             assigns ! (of-opd ! (load ! (from ! (stop !)) (look ! 9 refl))) (from ! (hop ! (look ! 5 refl) (stop !))) (store-raw ! 0 refl (typed (rung (i .0)) v is)) $
@@ -341,7 +348,7 @@ module _ {M : Type 1} (𝓤 : URA M) (H : Heap 𝓤) (A : Atoms 𝓤) (W : Given
             assigns ! (of-opd ! (unit-lit !)) (from ! (stop !)) (init ! 31 refl (tt, tt)) $
             returns ! (look ! 31 refl) $ forget ! 9 refl $ forget ! 11 refl $ forget ! 13 refl $ forget ! 15 refl $ forget ! 17 refl $ forget ! 25 refl $ forget ! 27 refl $ forget ! 29 refl $ forget ! 31 refl $
             move ! (31 ∷ 32 ∷ []) $ free1 ! $ move ! (29 ∷ 30 ∷ []) $ free1 ! $ move ! (27 ∷ 28 ∷ []) $ free1 ! $ move ! (25 ∷ 26 ∷ []) $ free1 ! $ move ! (23 ∷ 24 ∷ []) $ free1 ! $ move ! (21 ∷ 22 ∷ []) $ free1 ! $ move ! (19 ∷ 20 ∷ []) $ free1 ! $ move ! (17 ∷ 18 ∷ []) $ free1 ! $ move ! (15 ∷ 16 ∷ []) $ free1 ! $ move ! (13 ∷ 14 ∷ []) $ free1 ! $ move ! (11 ∷ 12 ∷ []) $ free1 ! $ move ! (9 ∷ 10 ∷ []) $ free1 ! $ move ! (7 ∷ 8 ∷ []) $ free1 ! $ move ! (5 ∷ 6 ∷ []) $ free1 ! $ move ! (3 ∷ 4 ∷ []) $ free1 ! $ free0 ! $
-            by ! (exits (i .0) (i .1) (ap (λ (k : ℕ). recordsOf (zs k)) (le-antisymm (i .1) (nltb→le (i .0) n over)) ∙ scattered-all rows full n ys (asked .0) (asked .1))))
+            by ! (exits (i .0) (i .1) (all-stored (i .0) (le-antisymm (i .1) (nltb→le (i .0) n over)))))
           where
             small : Holds (ltb (i .0) n) → i .0 < 256
             small less = lt-of-lt-of-le (ltb→lt (i .0) n less) (asked .0)
@@ -349,8 +356,8 @@ module _ {M : Type 1} (𝓤 : URA M) (H : Heap 𝓤) (A : Atoms 𝓤) (W : Given
             fits : Holds (ltb (i .0) n) → i .0 < 2 ^ 64
             fits less = omega (arith, small less)
 
-            times : Holds (ltb (i .0) n) → i .0 * 12 < 2 ^ 64
-            times less = omega (arith, small less)
+            place-fits : Holds (ltb (i .0) n) → i .0 * 16 < 2 ^ 64
+            place-fits less = omega (arith, small less)
 
             next-fits : Holds (ltb (i .0) n) → i .0 + 1 < 2 ^ 64
             next-fits less = omega (arith, small less)

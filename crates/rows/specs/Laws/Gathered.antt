@@ -5,7 +5,7 @@ use mathlib.Core.List.{List, map}
 use lib.ListN.{length, take, drop, replicate, length-take, length-map}
 use lib.Seq.{take-at, take-all}
 use Rattle.questions.specs.Laws.Maps.{take-map}
-use Rattle.rungs.specs.Records.{RungRecord, rowOf, mostRecords}
+use Rattle.rungs.specs.Records.{RungRecord, fieldsOf, mostRecords}
 use Rattle.rungs.specs.Laws.Rows.{row-back}
 use Rattle.rows.specs.Parts.{overZeros, gathered}
 
@@ -18,12 +18,12 @@ kept-fields f rs =
 
 -- the first `kept` of each array, as one row
 pub gathered-row : (rs : List RungRecord)
-    → rowOf (take (gathered rs .kept) (gathered rs .labels)) (take (gathered rs .kept) (gathered rs .offsets)) (take (gathered rs .kept) (gathered rs .lengths)) ≡ take mostRecords rs
+    → fieldsOf (take (gathered rs .kept) (gathered rs .labels)) (take (gathered rs .kept) (gathered rs .offsets)) (take (gathered rs .kept) (gathered rs .lengths)) ≡ take mostRecords rs
 unfolding gathered
 gathered-row rs =
-    (λ j. rowOf (kept-fields (λ (r : RungRecord). r .label) rs j) (kept-fields (λ (r : RungRecord). r .offset) rs j) (kept-fields (λ (r : RungRecord). r .length) rs j))
+    (λ j. fieldsOf (kept-fields (λ (r : RungRecord). r .label) rs j) (kept-fields (λ (r : RungRecord). r .offset) rs j) (kept-fields (λ (r : RungRecord). r .length) rs j))
     ∙ row-back (take mostRecords rs)
 
 pub gathered-whole : (rs : List RungRecord) → length rs ≤ mostRecords
-    → rowOf (take (gathered rs .kept) (gathered rs .labels)) (take (gathered rs .kept) (gathered rs .offsets)) (take (gathered rs .kept) (gathered rs .lengths)) ≡ rs
+    → fieldsOf (take (gathered rs .kept) (gathered rs .labels)) (take (gathered rs .kept) (gathered rs .offsets)) (take (gathered rs .kept) (gathered rs .lengths)) ≡ rs
 gathered-whole rs h = gathered-row rs ∙ take-all mostRecords rs h

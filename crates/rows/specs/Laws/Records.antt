@@ -1,21 +1,11 @@
--- A row of structs and its records have the same length and the same i-th one; a row is known by its records. Assumes nothing.
-use mathlib.Core.Path.{_≡_, refl, ap, sym, _∙_}
+-- A row of structs, its records and its times have the same length, and a row and its records the same i-th one. Assumes nothing.
+use mathlib.Core.Path.{_≡_, ap, sym, _∙_}
 use Prim.Native.Nat.{ℕ}
-use mathlib.Core.List.{List, [], _∷_, map}
+use mathlib.Core.List.{List}
 use lib.ListN.{length, getD, length-map, List·getD-map}
 use Rattle.rungs.specs.Records.{RungRecord, labels}
 use Rattle.rows.specs.declared.Rung.{Rung}
-use Rattle.rows.specs.Rows.{recordOf, recordsOf, noRecord, recordAt}
-
--- the struct of a record
-abbrev pub rungOf : RungRecord → Rung
-rungOf r = record { label = r .label; offset = r .offset; length = r .length }
-
-abbrev pub noRung : Rung
-noRung = rungOf noRecord
-
-abbrev pub rungAt : List Rung → ℕ → Rung
-rungAt row i = getD row i noRung
+use Rattle.rows.specs.Rows.{recordOf, recordsOf, timesOf, noRecord, recordAt, noRung, rungAt}
 
 pub records-length : (row : List Rung) → length (recordsOf row) ≡ length row
 records-length row = length-map row recordOf
@@ -29,13 +19,8 @@ labels-at row i = List·getD-map (λ (r : RungRecord). r .label) (recordsOf row)
 pub labels-length : (row : List Rung) → length (labels (recordsOf row)) ≡ length row
 labels-length row = length-map (recordsOf row) (λ (r : RungRecord). r .label) ∙ records-length row
 
--- a struct, and a row, is known by its records
-pub same-rung : (r s : Rung) → recordOf r ≡ recordOf s → r ≡ s
-same-rung r s e = ap rungOf e
+pub times-length : (row : List Rung) → length (timesOf row) ≡ length row
+times-length row = length-map row (λ (r : Rung). r .times)
 
-rows-back : (row : List Rung) → map rungOf (recordsOf row) ≡ row
-rows-back [] = refl
-rows-back (r ∷ row) = ap (λ (rs : List Rung). r ∷ rs) (rows-back row)
-
-pub same-row : (row other : List Rung) → recordsOf row ≡ recordsOf other → row ≡ other
-same-row row other e = sym (rows-back row) ∙ ap (λ (rs : List RungRecord). map rungOf rs) e ∙ rows-back other
+pub times-records : (row : List Rung) → length (timesOf row) ≡ length (recordsOf row)
+times-records row = times-length row ∙ sym (records-length row)

@@ -1,5 +1,6 @@
 -- `test_case_a_rows::run_long` meets its contract. A walk of its MIR, by hand: the row is passed by value and copied to two arrays of its own. One is
--- lent by `&` to all four calls, for one lifetime, the other by `&mut` to Translate; the other slices are handed on. Assumes nothing.
+-- lent by `&` to Translate and Ladder scan, for one lifetime, then by `&mut` to List scan and by `&` to Listing, and handed back; the other is lent by `&mut`
+-- to Translate. The other slices are handed on. Assumes nothing.
 use mathlib.Core.Path.{_≡_, refl}
 use Prim.Native.Nat.{ℕ}
 use mathlib.Core.List.{[], _∷_, List, map}
@@ -20,7 +21,7 @@ use contract.Monad.{Fun}
 use contract.Running.{givenOf, tables, tablesOf}
 use types.Kit.{Given, Item, ‵, raw, _⊛_, some, later, ⋆, _$_, _∵_, !, qed, by, move, keep, drop, use1, use2, split, join, pick}
 use types.Kit.{fsplit, fjoin, feqL, suffices, frame, await, done}
-use types.Run.{look, init, forget, stop, hop, fld, from, load, lit, addr, of-opd, and-then, no-more, assigns, land, returns, enter}
+use types.Run.{look, store, init, forget, stop, hop, fld, from, load, lit, addr, of-opd, and-then, no-more, assigns, land, returns, enter}
 use types.Run.{alloc1, alloc0, params1, pass1, pass0, free1, free0}
 use types.Part.{agg, whole, sub, look-in}
 use sound.WpLaws.{FmC, fmOf, WpFn-mono}
@@ -175,13 +176,13 @@ module _ {M : Type 1} (𝓤 : URA M) (H : Heap 𝓤) (A : Atoms 𝓤) (W : Given
   Post = walkOf 𝓤 H A run-long.ended stayed (run-long.clauses 𝓤 H A at-mem run) .post
       (((κ₀, (κ₁, (κ₂, (κ₃, (κ₄, tt))))), (q₀, (q₁, (q₂, (q₃, (q₄, tt))))), tt, x, at), tt)
 
-  typed-row : Is Row rungs (v-row ∷ []) → Holds (hasTy (row-array .type) v-row) × WT v-row
-  typed-row is = array-lawful 𝓤 H A W T.the-row (LL.lawful T.the-type T′.the-laws 𝓤 H A W) 300 .typed rungs _ is .0
+  typed-row : (xs : List Rung) (v : Val) → Is Row xs (v ∷ []) → Holds (hasTy (row-array .type) v) × WT v
+  typed-row xs v is = array-lawful 𝓤 H A W T.the-row (LL.lawful T.the-type T′.the-laws 𝓤 H A W) 300 .typed xs _ is .0
 
   row-makes : Makes 𝓤 H A Row (Is Row)
   row-makes = array-makes 𝓤 H A W T.the-row (LL.makes T.the-type T′.the-plain 𝓤 H A) 300
 
-  -- the row at local _7, lent by `&`
+  -- the row at local _7, lent
   module _ (l₇ α : ℕ) (δ : GName) where
     abbrev row-ref : RefT (List Rung)
     row-ref = record { ptr = (l₇, 0); name = δ; now = rungs }
@@ -255,7 +256,7 @@ module _ {M : Type 1} (𝓤 : URA M) (H : Heap 𝓤) (A : Atoms 𝓤) (W : Given
 
     abbrev owns-list-scan : Fml
     owns-list-scan = owns
-        (u32 ∷ ShrSlice (named 0) κ₀ u32 ∷ ShrSlice (named 1) (α ∷ []) T.the-row ∷ MutSlice (named 2) κ₃ u8 ∷ u32 ∷ [])
+        (u32 ∷ ShrSlice (named 0) κ₀ u32 ∷ MutSlice (named 1) (α ∷ []) T.the-row ∷ MutSlice (named 2) κ₃ u8 ∷ u32 ∷ [])
         for-list-scan at-list-scan
 
     goes-list-scan : ent 𝓤 (⋆ 𝓤 H A (tokens-list-scan ∷ ‵ owns-list-scan ∷ [])) (ListScan 𝓤 H A at-mem run .pre to-list-scan)
@@ -265,45 +266,47 @@ module _ {M : Type 1} (𝓤 : URA M) (H : Heap 𝓤) (A : Atoms 𝓤) (W : Given
     after-list-scan v r = (tokens-list-scan ⊛ ‵ (I.the-row .own r (v ∷ []))) ⊛
         raw (ensured 𝓤 H A list-scan.ended (list-scan.clauses 𝓤 H A at-mem run) (κ₀, (α ∷ [], (κ₃, tt))) for-list-scan tt r)
 
-    abbrev for-listing : ℕ × (RefT (List ℕ) × (RefT (List Rung) × (RefT (List ℕ) × Unit {0})))
-    for-listing = (5, (words, (row-ref, (lines, tt))))
+    -- with the list ys
+    module _ (ys : List Rung) where
+      abbrev for-listing : ℕ × (RefT (List ℕ) × (RefT (List Rung) × (RefT (List ℕ) × Unit {0})))
+      for-listing = (5, (words, (record { ptr = (l₇, 0); name = δ; now = ys }, (lines, tt))))
 
-    abbrev tokens-listing : Item 𝓤
-    tokens-listing = ‵ (flft κ₀ q₀) ⊛ (‵ (flft (α ∷ []) fullShare) ⊛ (‵ (flft κ₄ q₄) ⊛ ‵ ftrue))
+      abbrev tokens-listing : Item 𝓤
+      tokens-listing = ‵ (flft κ₀ q₀) ⊛ (‵ (flft (α ∷ []) fullShare) ⊛ (‵ (flft κ₄ q₄) ⊛ ‵ ftrue))
 
-    abbrev at-listing : List Val × (List Val × (List Val × (List Val × Unit {0})))
-    at-listing = (vint w32 5 ∷ [], (s-words ∷ [], (s-row ∷ [], (s-lines ∷ [], tt))))
+      abbrev at-listing : List Val × (List Val × (List Val × (List Val × Unit {0})))
+      at-listing = (vint w32 5 ∷ [], (s-words ∷ [], (s-row ∷ [], (s-lines ∷ [], tt))))
 
-    abbrev to-listing : Lists 𝓤 H A at-mem run .Ghost
-    to-listing = (((κ₀, (α ∷ [], (κ₄, tt))), (q₀, (fullShare, (q₄, tt))), tt, for-listing, at-listing), tt)
+      abbrev to-listing : Lists 𝓤 H A at-mem run .Ghost
+      to-listing = (((κ₀, (α ∷ [], (κ₄, tt))), (q₀, (fullShare, (q₄, tt))), tt, for-listing, at-listing), tt)
 
-    abbrev owns-listing : Fml
-    owns-listing = owns
-        (u32 ∷ ShrSlice (named 0) κ₀ u32 ∷ ShrSlice (named 1) (α ∷ []) T.the-row ∷ MutSlice (named 2) κ₄ u8 ∷ [])
-        for-listing at-listing
+      abbrev owns-listing : Fml
+      owns-listing = owns
+          (u32 ∷ ShrSlice (named 0) κ₀ u32 ∷ ShrSlice (named 1) (α ∷ []) T.the-row ∷ MutSlice (named 2) κ₄ u8 ∷ [])
+          for-listing at-listing
 
-    goes-listing : ent 𝓤 (⋆ 𝓤 H A (tokens-listing ∷ ‵ owns-listing ∷ [])) (Lists 𝓤 H A at-mem run .pre to-listing)
-    goes-listing = qed W (tokens-listing ∷ ‵ owns-listing ∷ []) ∵ join ! $ frame ! $ done !
+      goes-listing : ent 𝓤 (⋆ 𝓤 H A (tokens-listing ∷ ‵ owns-listing ∷ [])) (Lists 𝓤 H A at-mem run .pre to-listing)
+      goes-listing = qed W (tokens-listing ∷ ‵ owns-listing ∷ []) ∵ join ! $ frame ! $ done !
 
-    abbrev after-listing : Val → Listed → Item 𝓤
-    after-listing v r = (tokens-listing ⊛ ‵ (L.the-row .own r (v ∷ []))) ⊛
-        raw (ensured 𝓤 H A listing.ended (listing.clauses 𝓤 H A at-mem run) (κ₀, (α ∷ [], (κ₄, tt))) for-listing tt r)
+      abbrev after-listing : Val → Listed → Item 𝓤
+      after-listing v r = (tokens-listing ⊛ ‵ (L.the-row .own r (v ∷ []))) ⊛
+          raw (ensured 𝓤 H A listing.ended (listing.clauses 𝓤 H A at-mem run) (κ₀, (α ∷ [], (κ₄, tt))) for-listing tt r)
 
-  module _ (r₁ : Translated) (r₂ : LadderScanned) (r₃ : ListScanned) (r₄ : Listed) (v₁ v₂ v₃ v₄ : Val) where
-    abbrev for-answers-of : Translated × (LadderScanned × (ListScanned × (Listed × Unit {0})))
-    for-answers-of = (r₁, (r₂, (r₃, (r₄, tt))))
+  module _ (r₁ : Translated) (r₂ : LadderScanned) (r₃ : ListScanned) (r₄ : Listed) (r₅ : List Rung) (v₁ v₂ v₃ v₄ v₅ : Val) where
+    abbrev for-answers-of : Translated × (LadderScanned × (ListScanned × (Listed × (List Rung × Unit {0}))))
+    for-answers-of = (r₁, (r₂, (r₃, (r₄, (r₅, tt)))))
 
     abbrev tokens-answers-of : Item 𝓤
     tokens-answers-of = ‵ ftrue
 
-    abbrev at-answers-of : List Val × (List Val × (List Val × (List Val × Unit {0})))
-    at-answers-of = (v₁ ∷ [], (v₂ ∷ [], (v₃ ∷ [], (v₄ ∷ [], tt))))
+    abbrev at-answers-of : List Val × (List Val × (List Val × (List Val × (List Val × Unit {0}))))
+    at-answers-of = (v₁ ∷ [], (v₂ ∷ [], (v₃ ∷ [], (v₄ ∷ [], (v₅ ∷ [], tt)))))
 
     abbrev to-answers-of : AnswersOf 𝓤 H A at-mem run .Ghost
     to-answers-of = ((tt, tt, tt, for-answers-of, at-answers-of), tt)
 
     abbrev owns-answers-of : Fml
-    owns-answers-of = owns (F.the-row ∷ D.the-row ∷ I.the-row ∷ L.the-row ∷ []) for-answers-of at-answers-of
+    owns-answers-of = owns (F.the-row ∷ D.the-row ∷ I.the-row ∷ L.the-row ∷ Row ∷ []) for-answers-of at-answers-of
 
     goes-answers-of : ent 𝓤 (⋆ 𝓤 H A (tokens-answers-of ∷ ‵ owns-answers-of ∷ [])) (AnswersOf 𝓤 H A at-mem run .pre to-answers-of)
     goes-answers-of = qed W (tokens-answers-of ∷ ‵ owns-answers-of ∷ []) ∵ join ! $ frame ! $ done !
@@ -351,14 +354,14 @@ module _ {M : Type 1} (𝓤 : URA M) (H : Heap 𝓤) (A : Atoms 𝓤) (W : Given
         alloc1 ! (λ l₉. alloc1 ! (λ l₁₀. alloc1 ! (λ l₁₁. alloc1 ! (λ l₁₂. alloc1 ! (λ l₁₃. alloc1 ! (λ l₁₄. alloc1 ! (λ l₁₅. alloc1 ! (λ l₁₆.
         alloc1 ! (λ l₁₇. alloc1 ! (λ l₁₈. alloc1 ! (λ l₁₉. alloc1 ! (λ l₂₀. alloc1 ! (λ l₂₁. alloc1 ! (λ l₂₂. alloc1 ! (λ l₂₃. alloc1 ! (λ l₂₄.
         alloc1 ! (λ l₂₅. alloc1 ! (λ l₂₆. alloc1 ! (λ l₂₇. alloc1 ! (λ l₂₈. alloc1 ! (λ l₂₉. alloc1 ! (λ l₃₀. alloc1 ! (λ l₃₁. alloc0 ! $ params1 ! $
-        pass1 ! (init ! 60 refl (typed-row is-row)) $ pass1 ! (init ! 58 refl (tt, (tt, (record { fits = room-words .0 }, tt)))) $
+        pass1 ! (init ! 60 refl (typed-row rungs _ is-row)) $ pass1 ! (init ! 58 refl (tt, (tt, (record { fits = room-words .0 }, tt)))) $
         pass1 ! (init ! 56 refl (tt, (tt, (record { fits = room-code .0 }, tt)))) $
         pass1 ! (init ! 54 refl (tt, (tt, (record { fits = room-ladder-table .0 }, tt)))) $
         pass1 ! (init ! 52 refl (tt, (tt, (record { fits = room-list-table .0 }, tt)))) $
         pass1 ! (init ! 50 refl (tt, (tt, (record { fits = room-lines .0 }, tt)))) $ pass0 ! $
-        assigns ! (of-opd ! (load ! (from ! (stop !)) (look ! 60 refl))) (from ! (stop !)) (init ! 48 refl (typed-row is-row)) $
-        assigns ! (of-opd ! (load ! (from ! (stop !)) (look ! 48 refl))) (from ! (stop !)) (init ! 36 refl (typed-row is-row)) $
-        assigns ! (of-opd ! (load ! (from ! (stop !)) (look ! 36 refl))) (from ! (stop !)) (init ! 46 refl (typed-row is-row)) $
+        assigns ! (of-opd ! (load ! (from ! (stop !)) (look ! 60 refl))) (from ! (stop !)) (init ! 48 refl (typed-row rungs _ is-row)) $
+        assigns ! (of-opd ! (load ! (from ! (stop !)) (look ! 48 refl))) (from ! (stop !)) (init ! 36 refl (typed-row rungs _ is-row)) $
+        assigns ! (of-opd ! (load ! (from ! (stop !)) (look ! 36 refl))) (from ! (stop !)) (init ! 46 refl (typed-row rungs _ is-row)) $
         assigns ! (addr ! (from ! (stop !))) (from ! (stop !)) (init ! 34 refl (tt, tt)) $
         assigns ! (agg ! (and-then ! (load ! (from ! (stop !)) (look ! 34 refl)) (and-then ! (lit ! tt) (no-more !)))) (from ! (stop !))
         (init ! 32 refl (tt, (tt, (record { fits = lit< tt }, tt)))) $
@@ -403,16 +406,14 @@ module _ {M : Type 1} (𝓤 : URA M) (H : Heap 𝓤) (A : Atoms 𝓤) (W : Given
         -- `ladder_scan`
         -- [_8; κ₁'s token; α's; κ₀'s; the code's last list; the row, lent; the words; the lender's part of the row; _31; …; _0; …; the lines;
         -- the list's table; the ladder's table; κ₄'s token; κ₃'s; κ₂'s]
-        move ! (5 ∷ []) $ use1 W (‵ (Own-row l₇ α δ) ⊛ ‵ (Own-row l₇ α δ))
-        (shr-slice-copy 𝓤 H A W (named 0) (α ∷ []) T.the-row .twice (row-ref l₇ α δ) (s-row l₇ α δ ∷ [])) $ split ! $
-        move ! (7 ∷ []) $ use1 W (‵ Own-words ⊛ ‵ Own-words) (shr-slice-copy 𝓤 H A W (named 0) κ₀ u32 .twice words (s-words ∷ [])) $ split ! $
-        nothing ! $ owned ! u32 (Is u32) (uint-makes 𝓤 H A W w32) 2 _ (refl, lit< tt) $ fjoin ! $ move ! (75 ∷ 0 ∷ []) $ fjoin ! $ move ! (3 ∷ 0 ∷ []) $
+        move ! (6 ∷ []) $ use1 W (‵ Own-words ⊛ ‵ Own-words) (shr-slice-copy 𝓤 H A W (named 0) κ₀ u32 .twice words (s-words ∷ [])) $ split ! $
+        nothing ! $ owned ! u32 (Is u32) (uint-makes 𝓤 H A W w32) 2 _ (refl, lit< tt) $ fjoin ! $ move ! (74 ∷ 0 ∷ []) $ fjoin ! $ move ! (8 ∷ 0 ∷ []) $
         fjoin ! $ move ! (1 ∷ 0 ∷ []) $ fjoin ! $ owned ! u32 (Is u32) (uint-makes 𝓤 H A W w32) 5 _ (refl, lit< tt) $ fjoin ! $ nothing ! $
-        move ! (76 ∷ 0 ∷ []) $ join ! $ move ! (6 ∷ 0 ∷ []) $ join ! $ move ! (6 ∷ 0 ∷ []) $ join ! $
+        move ! (75 ∷ 0 ∷ []) $ join ! $ move ! (5 ∷ 0 ∷ []) $ join ! $ move ! (5 ∷ 0 ∷ []) $ join ! $
         use2 W (raw (LadderScan 𝓤 H A at-mem run .pre (to-ladder-scan l₇ α δ))) (goes-ladder-scan l₇ α δ) $
         calls-at ! fm (LadderScan 𝓤 H A at-mem run) known-ladder-scan (to-ladder-scan l₇ α δ)
-        (and-then ! (lit ! tt) (and-then ! (load ! (from ! (stop !)) (look ! 63 refl)) (and-then ! (load ! (from ! (stop !)) (look ! 27 refl))
-        (and-then ! (load ! (from ! (stop !)) (look ! 23 refl)) (and-then ! (lit ! tt) (no-more !)))))) (λ v₂.
+        (and-then ! (lit ! tt) (and-then ! (load ! (from ! (stop !)) (look ! 62 refl)) (and-then ! (load ! (from ! (stop !)) (look ! 26 refl))
+        (and-then ! (load ! (from ! (stop !)) (look ! 22 refl)) (and-then ! (lit ! tt) (no-more !)))))) (λ v₂.
         use1 W (later (some (λ (r₂ : LadderScanned). (after-ladder-scan l₇ α δ) v₂ r₂))) (id⊢ 𝓤 _) $ await ! tt $ pick ! (λ r₂. split ! $ move ! (1 ∷ []) $
         use1 W (some (λ (zs₂ : Unit {0} × (Unit {0} × (Unit {0} × (List ℕ × (Unit {0} × Unit {0}))))).
         ‵ (lasts ladder-scan.ended (κ₀, (α ∷ [], (κ₂, tt))) (for-ladder-scan l₇ α δ) zs₂)))
@@ -421,7 +422,8 @@ module _ {M : Type 1} (𝓤 : URA M) (H : Heap 𝓤) (A : Atoms 𝓤) (W : Given
         drop ! $ drop ! $ move ! (1 ∷ []) $ split ! $ split ! $ move ! (1 ∷ []) $ split ! $ move ! (1 ∷ []) $ split ! $ move ! (1 ∷ []) $ drop ! $
         move ! (3 ∷ []) $
         peeks ! D.the-row (Is D.the-row) (shows 𝓤 H A D.the-row) r₂ (v₂ ∷ []) (λ is₂.
-        land ! (from ! (stop !)) (init ! 53 refl (EL.lawful D.the-type D′.the-laws 𝓤 H A W tt .typed r₂ _ is₂ .0)) $ drop ! $
+        land ! (from ! (stop !)) (init ! 52 refl (EL.lawful D.the-type D′.the-laws 𝓤 H A W tt .typed r₂ _ is₂ .0)) $ drop ! $
+        move ! (1 ∷ 8 ∷ []) $ shared-back row-array l₇ rungs ! tt (λ _. lend row-array l₇ rungs ! tt (λ ε δ₂.
         assigns ! (addr ! (from ! (stop !))) (from ! (stop !)) (init ! 24 refl (tt, tt)) $
         assigns ! (agg ! (and-then ! (load ! (from ! (stop !)) (look ! 24 refl)) (and-then ! (lit ! tt) (no-more !)))) (from ! (stop !))
         (init ! 22 refl (tt, (tt, (record { fits = lit< tt }, tt)))) $
@@ -429,27 +431,27 @@ module _ {M : Type 1} (𝓤 : URA M) (H : Heap 𝓤) (A : Atoms 𝓤) (W : Given
         assigns ! (agg ! (and-then ! (load ! (from ! (stop !)) (look ! 20 refl)) (and-then ! (load ! (from ! (fld ! refl (stop !)))
         (look-in ! 60 (sub ! 1 refl (whole !)))) (no-more !)))) (from ! (stop !)) (init ! 18 refl (tt, (tt, (record { fits = room-list-table .0 }, tt)))) $
         -- `list_scan`
-        -- [κ₂'s token; α's; κ₀'s; the ladder table's last list; the words; the row, lent; _8; κ₁'s token; the code's last list; the lender's part of
-        -- the row; _31; …; _0; …; the lines; the list's table; κ₄'s token; κ₃'s]
-        move ! (4 ∷ []) $ use1 W (‵ Own-words ⊛ ‵ Own-words) (shr-slice-copy 𝓤 H A W (named 0) κ₀ u32 .twice words (s-words ∷ [])) $ split ! $
-        move ! (6 ∷ []) $ use1 W (‵ (Own-row l₇ α δ) ⊛ ‵ (Own-row l₇ α δ))
-        (shr-slice-copy 𝓤 H A W (named 0) (α ∷ []) T.the-row .twice (row-ref l₇ α δ) (s-row l₇ α δ ∷ [])) $ split ! $
-        nothing ! $ owned ! u32 (Is u32) (uint-makes 𝓤 H A W w32) 20 _ (refl, lit< tt) $ fjoin ! $ move ! (76 ∷ 0 ∷ []) $ fjoin ! $ move ! (1 ∷ 0 ∷ []) $
-        fjoin ! $ move ! (2 ∷ 0 ∷ []) $ fjoin ! $ owned ! u32 (Is u32) (uint-makes 𝓤 H A W w32) 5 _ (refl, lit< tt) $ fjoin ! $ nothing ! $
-        move ! (76 ∷ 0 ∷ []) $ join ! $ move ! (5 ∷ 0 ∷ []) $ join ! $ move ! (5 ∷ 0 ∷ []) $ join ! $
-        use2 W (raw (ListScan 𝓤 H A at-mem run .pre (to-list-scan l₇ α δ))) (goes-list-scan l₇ α δ) $
-        calls-at ! fm (ListScan 𝓤 H A at-mem run) known-list-scan (to-list-scan l₇ α δ)
-        (and-then ! (lit ! tt) (and-then ! (load ! (from ! (stop !)) (look ! 65 refl)) (and-then ! (load ! (from ! (stop !)) (look ! 21 refl))
-        (and-then ! (load ! (from ! (stop !)) (look ! 17 refl)) (and-then ! (lit ! tt) (no-more !)))))) (λ v₃.
-        use1 W (later (some (λ (r₃ : ListScanned). (after-list-scan l₇ α δ) v₃ r₃))) (id⊢ 𝓤 _) $ await ! tt $ pick ! (λ r₃. split ! $ move ! (1 ∷ []) $
-        use1 W (some (λ (zs₃ : Unit {0} × (Unit {0} × (Unit {0} × (List ℕ × (Unit {0} × Unit {0}))))).
-        ‵ (lasts list-scan.ended (κ₀, (α ∷ [], (κ₃, tt))) (for-list-scan l₇ α δ) zs₃)))
-        (left 𝓤 H A list-scan.ended (list-scan.clauses 𝓤 H A at-mem run) (κ₀, (α ∷ [], (κ₃, tt))) (for-list-scan l₇ α δ) tt r₃) $ pick ! (λ zs₃.
-        fsplit ! $ drop ! $ fsplit ! $ drop ! $ fsplit ! $ drop ! $ fsplit ! $ fsplit ! $ move ! (1 ∷ []) $ feqL ! (λ long₃. move ! (1 ∷ []) $ fsplit ! $
-        drop ! $ drop ! $ move ! (1 ∷ []) $ split ! $ split ! $ move ! (1 ∷ []) $ split ! $ move ! (1 ∷ []) $ split ! $ move ! (1 ∷ []) $ drop ! $
+        -- [ε's token; the row, lent; the lender's part of it; κ₂'s token; κ₀'s; the ladder table's last list; the words; _8; κ₁'s token; the code's last list;
+        -- _31; …; _0; …; the lines; the list's table; κ₄'s token; κ₃'s]
+        move ! (6 ∷ []) $ use1 W (‵ Own-words ⊛ ‵ Own-words) (shr-slice-copy 𝓤 H A W (named 0) κ₀ u32 .twice words (s-words ∷ [])) $ split ! $
+        nothing ! $ owned ! u32 (Is u32) (uint-makes 𝓤 H A W w32) 20 _ (refl, lit< tt) $ fjoin ! $ move ! (75 ∷ 0 ∷ []) $ fjoin ! $ move ! (4 ∷ 0 ∷ []) $
+        fjoin ! $ move ! (1 ∷ 0 ∷ []) $ fjoin ! $ owned ! u32 (Is u32) (uint-makes 𝓤 H A W w32) 5 _ (refl, lit< tt) $ fjoin ! $ nothing ! $
+        move ! (75 ∷ 0 ∷ []) $ join ! $ move ! (3 ∷ 0 ∷ []) $ join ! $ move ! (5 ∷ 0 ∷ []) $ join ! $
+        use2 W (raw (ListScan 𝓤 H A at-mem run .pre (to-list-scan l₇ ε δ₂))) (goes-list-scan l₇ ε δ₂) $
+        calls-at ! fm (ListScan 𝓤 H A at-mem run) known-list-scan (to-list-scan l₇ ε δ₂)
+        (and-then ! (lit ! tt) (and-then ! (load ! (from ! (stop !)) (look ! 64 refl)) (and-then ! (load ! (from ! (stop !)) (look ! 20 refl))
+        (and-then ! (load ! (from ! (stop !)) (look ! 16 refl)) (and-then ! (lit ! tt) (no-more !)))))) (λ v₃.
+        use1 W (later (some (λ (r₃ : ListScanned). (after-list-scan l₇ ε δ₂) v₃ r₃))) (id⊢ 𝓤 _) $ await ! tt $ pick ! (λ r₃. split ! $ move ! (1 ∷ []) $
+        use1 W (some (λ (zs₃ : Unit {0} × (Unit {0} × (List Rung × (List ℕ × (Unit {0} × Unit {0}))))).
+        ‵ (lasts list-scan.ended (κ₀, (ε ∷ [], (κ₃, tt))) (for-list-scan l₇ ε δ₂) zs₃)))
+        (left 𝓤 H A list-scan.ended (list-scan.clauses 𝓤 H A at-mem run) (κ₀, (ε ∷ [], (κ₃, tt))) (for-list-scan l₇ ε δ₂) tt r₃) $ pick ! (λ zs₃.
+        fsplit ! $ drop ! $ fsplit ! $ drop ! $ fsplit ! $ fsplit ! $ move ! (1 ∷ []) $ feqL ! (λ _. move ! (1 ∷ []) $ fsplit ! $
+        fsplit ! $ move ! (1 ∷ []) $ feqL ! (λ long₃. move ! (1 ∷ []) $ fsplit ! $ drop ! $ drop ! $ move ! (2 ∷ []) $ split ! $ split ! $
+        move ! (1 ∷ []) $ split ! $ move ! (1 ∷ []) $ split ! $ move ! (1 ∷ []) $ drop ! $
         move ! (3 ∷ []) $
         peeks ! I.the-row (Is I.the-row) (shows 𝓤 H A I.the-row) r₃ (v₃ ∷ []) (λ is₃.
         land ! (from ! (stop !)) (init ! 53 refl (EL.lawful I.the-type I′.the-laws 𝓤 H A W tt .typed r₃ _ is₃ .0)) $ drop ! $
+        move ! (1 ∷ 6 ∷ 4 ∷ []) $ comes-back row-array l₇ (zs₃ .1 .1 .0) ! tt (λ _. share row-array l₇ (zs₃ .1 .1 .0) ! tt (λ ζ δ₃.
         assigns ! (addr ! (from ! (stop !))) (from ! (stop !)) (init ! 18 refl (tt, tt)) $
         assigns ! (agg ! (and-then ! (load ! (from ! (stop !)) (look ! 18 refl)) (and-then ! (lit ! tt) (no-more !)))) (from ! (stop !))
         (init ! 16 refl (tt, (tt, (record { fits = lit< tt }, tt)))) $
@@ -457,36 +459,41 @@ module _ {M : Type 1} (𝓤 : URA M) (H : Heap 𝓤) (A : Atoms 𝓤) (W : Given
         assigns ! (agg ! (and-then ! (load ! (from ! (stop !)) (look ! 14 refl)) (and-then ! (load ! (from ! (fld ! refl (stop !)))
         (look-in ! 60 (sub ! 1 refl (whole !)))) (no-more !)))) (from ! (stop !)) (init ! 12 refl (tt, (tt, (record { fits = room-lines .0 }, tt)))) $
         -- `listing`
-        -- [κ₃'s token; α's; κ₀'s; the list table's last list; the row, lent; the words; κ₂'s token; the ladder table's last list; _8; κ₁'s token;
-        -- the code's last list; the lender's part of the row; _31; …; _0; …; the lines; κ₄'s token]
-        nothing ! $ move ! (75 ∷ 0 ∷ []) $ fjoin ! $ move ! (5 ∷ 0 ∷ []) $ fjoin ! $ move ! (5 ∷ 0 ∷ []) $ fjoin ! $
-        owned ! u32 (Is u32) (uint-makes 𝓤 H A W w32) 5 _ (refl, lit< tt) $ fjoin ! $ nothing ! $ move ! (74 ∷ 0 ∷ []) $ join ! $ move ! (3 ∷ 0 ∷ []) $
-        join ! $ move ! (3 ∷ 0 ∷ []) $ join ! $
-        use2 W (raw (Lists 𝓤 H A at-mem run .pre (to-listing l₇ α δ))) (goes-listing l₇ α δ) $
-        calls-at ! fm (Lists 𝓤 H A at-mem run) known-listing (to-listing l₇ α δ)
+        -- [ζ's token; the row, lent; the lender's part of it; κ₃'s token; κ₀'s; the list table's last list; the words; κ₂'s token; the ladder table's last list;
+        -- _8; κ₁'s token; the code's last list; _31; …; _0; …; the lines; κ₄'s token]
+        nothing ! $ move ! (75 ∷ 0 ∷ []) $ fjoin ! $ move ! (2 ∷ 0 ∷ []) $ fjoin ! $ move ! (6 ∷ 0 ∷ []) $ fjoin ! $
+        owned ! u32 (Is u32) (uint-makes 𝓤 H A W w32) 5 _ (refl, lit< tt) $ fjoin ! $ nothing ! $ move ! (74 ∷ 0 ∷ []) $ join ! $ move ! (2 ∷ 0 ∷ []) $
+        join ! $ move ! (4 ∷ 0 ∷ []) $ join ! $
+        use2 W (raw (Lists 𝓤 H A at-mem run .pre (to-listing l₇ ζ δ₃ (zs₃ .1 .1 .0)))) (goes-listing l₇ ζ δ₃ (zs₃ .1 .1 .0)) $
+        calls-at ! fm (Lists 𝓤 H A at-mem run) known-listing (to-listing l₇ ζ δ₃ (zs₃ .1 .1 .0))
         (and-then ! (lit ! tt) (and-then ! (load ! (from ! (stop !)) (look ! 65 refl)) (and-then ! (load ! (from ! (stop !)) (look ! 13 refl))
         (and-then ! (load ! (from ! (stop !)) (look ! 9 refl)) (no-more !))))) (λ v₄.
-        use1 W (later (some (λ (r₄ : Listed). (after-listing l₇ α δ) v₄ r₄))) (id⊢ 𝓤 _) $ await ! tt $ pick ! (λ r₄. split ! $ move ! (1 ∷ []) $
+        use1 W (later (some (λ (r₄ : Listed). (after-listing l₇ ζ δ₃ (zs₃ .1 .1 .0)) v₄ r₄))) (id⊢ 𝓤 _) $ await ! tt $ pick ! (λ r₄. split ! $
+        move ! (1 ∷ []) $
         use1 W (some (λ (zs₄ : Unit {0} × (Unit {0} × (Unit {0} × (List ℕ × Unit {0})))).
-        ‵ (lasts listing.ended (κ₀, (α ∷ [], (κ₄, tt))) (for-listing l₇ α δ) zs₄)))
-        (left 𝓤 H A listing.ended (listing.clauses 𝓤 H A at-mem run) (κ₀, (α ∷ [], (κ₄, tt))) (for-listing l₇ α δ) tt r₄) $ pick ! (λ zs₄.
+        ‵ (lasts listing.ended (κ₀, (ζ ∷ [], (κ₄, tt))) (for-listing l₇ ζ δ₃ (zs₃ .1 .1 .0)) zs₄)))
+        (left 𝓤 H A listing.ended (listing.clauses 𝓤 H A at-mem run) (κ₀, (ζ ∷ [], (κ₄, tt))) (for-listing l₇ ζ δ₃ (zs₃ .1 .1 .0)) tt r₄) $ pick ! (λ zs₄.
         fsplit ! $ drop ! $ fsplit ! $ drop ! $ fsplit ! $ drop ! $ fsplit ! $ fsplit ! $ move ! (1 ∷ []) $ feqL ! (λ long₄. move ! (1 ∷ []) $ drop ! $
         move ! (1 ∷ []) $ split ! $ split ! $ move ! (1 ∷ []) $ split ! $ move ! (1 ∷ []) $ split ! $ move ! (1 ∷ []) $ drop ! $ move ! (3 ∷ []) $
         peeks ! L.the-row (Is L.the-row) (shows 𝓤 H A L.the-row) r₄ (v₄ ∷ []) (λ is₄.
         land ! (from ! (stop !)) (init ! 51 refl (EL.lawful L.the-type L′.the-laws 𝓤 H A W tt .typed r₄ _ is₄ .0)) $ drop ! $
-        move ! (1 ∷ 11 ∷ []) $ shared-back row-array l₇ rungs ! tt (λ _. move ! (1 ∷ []) $ drop ! $
+        move ! (1 ∷ 4 ∷ []) $ shared-back row-array l₇ (zs₃ .1 .1 .0) ! tt (λ v₅. move ! (1 ∷ []) $
+        peeks ! Row (Is Row) (shows 𝓤 H A Row) (zs₃ .1 .1 .0) (v₅ ∷ []) (λ is₅.
+        assigns ! (of-opd ! (load ! (from ! (stop !)) (look ! 1 refl))) (from ! (stop !)) (store ! 48 refl (typed-row (zs₃ .1 .1 .0) _ is₅)) $
         -- `long_answers_of`
-        -- [_7; κ₄'s token; κ₀'s; the lines' last list; κ₃'s token; the list table's last list; κ₂'s token; the ladder table's last list; _8;
+        -- [the row; _7; κ₄'s token; κ₀'s; the lines' last list; κ₃'s token; the list table's last list; κ₂'s token; the ladder table's last list; _8;
         -- κ₁'s token; the code's last list; _31; …; _0; …]
-        nothing ! $ owned ! L.the-row (Is L.the-row) (EL.makes L.the-type L′.the-plain 𝓤 H A) r₄ _ is₄ $ fjoin ! $
+        nothing ! $ move ! (1 ∷ 0 ∷ []) $ fjoin ! $ owned ! L.the-row (Is L.the-row) (EL.makes L.the-type L′.the-plain 𝓤 H A) r₄ _ is₄ $ fjoin ! $
         owned ! I.the-row (Is I.the-row) (EL.makes I.the-type I′.the-plain 𝓤 H A) r₃ _ is₃ $ fjoin ! $
         owned ! D.the-row (Is D.the-row) (EL.makes D.the-type D′.the-plain 𝓤 H A) r₂ _ is₂ $ fjoin ! $
         owned ! F.the-row (Is F.the-row) (EL.makes F.the-type F′.the-plain 𝓤 H A) r₁ _ is₁ $ fjoin ! $ nothing ! $
-        use2 W (raw (AnswersOf 𝓤 H A at-mem run .pre (to-answers-of r₁ r₂ r₃ r₄ v₁ v₂ v₃ v₄))) (goes-answers-of r₁ r₂ r₃ r₄ v₁ v₂ v₃ v₄) $
-        calls-at ! fm (AnswersOf 𝓤 H A at-mem run) known-answers-of (to-answers-of r₁ r₂ r₃ r₄ v₁ v₂ v₃ v₄)
+        use2 W (raw (AnswersOf 𝓤 H A at-mem run .pre (to-answers-of r₁ r₂ r₃ r₄ (zs₃ .1 .1 .0) v₁ v₂ v₃ v₄ v₅))) (goes-answers-of r₁ r₂ r₃ r₄ (zs₃ .1 .1 .0) v₁ v₂ v₃ v₄ v₅) $
+        calls-at ! fm (AnswersOf 𝓤 H A at-mem run) known-answers-of (to-answers-of r₁ r₂ r₃ r₄ (zs₃ .1 .1 .0) v₁ v₂ v₃ v₄ v₅)
         (and-then ! (load ! (from ! (stop !)) (look ! 56 refl)) (and-then ! (load ! (from ! (stop !)) (look ! 54 refl))
-        (and-then ! (load ! (from ! (stop !)) (look ! 52 refl)) (and-then ! (load ! (from ! (stop !)) (look ! 50 refl)) (no-more !))))) (λ v.
-        use1 W (later (some (λ (r : LongAnswers). (after-answers-of r₁ r₂ r₃ r₄ v₁ v₂ v₃ v₄) v r))) (id⊢ 𝓤 _) $ await ! tt $ pick ! (λ r. split ! $
+        (and-then ! (load ! (from ! (stop !)) (look ! 52 refl)) (and-then ! (load ! (from ! (stop !)) (look ! 50 refl))
+        (and-then ! (load ! (from ! (stop !)) (look ! 48 refl)) (no-more !)))))) (λ v.
+        use1 W (later (some (λ (r : LongAnswers). (after-answers-of r₁ r₂ r₃ r₄ (zs₃ .1 .1 .0) v₁ v₂ v₃ v₄ v₅) v r))) (id⊢ 𝓤 _) $ await ! tt $
+        pick ! (λ r. split ! $
         move ! (1 ∷ []) $
         drop ! $ split ! $ drop ! $ peeks ! N.the-row (Is N.the-row) (shows 𝓤 H A N.the-row) r (v ∷ []) (λ is.
         land ! (from ! (stop !)) (init ! 72 refl (LL.lawful N.the-type N′.the-laws 𝓤 H A W .typed r _ is .0)) $ returns ! (look ! 72 refl) $
@@ -505,7 +512,7 @@ module _ {M : Type 1} (𝓤 : URA M) (H : Heap 𝓤) (A : Atoms 𝓤) (W : Given
         move ! (16 ∷ 17 ∷ []) $ free1 ! $ move ! (14 ∷ 15 ∷ []) $ free1 ! $ move ! (12 ∷ 13 ∷ []) $ free1 ! $ move ! (10 ∷ 11 ∷ []) $ free1 ! $ free0 ! $
         keep ! (2 ∷ 8 ∷ 6 ∷ 4 ∷ 1 ∷ 9 ∷ 7 ∷ 5 ∷ 3 ∷ 0 ∷ []) $
         by ! (exits r v (zs₁ .1 .1 .1 .0) long₁ (zs₂ .1 .1 .1 .0) long₂ (zs₃ .1 .1 .1 .0) long₃ (zs₄ .1 .1 .1 .0) long₄)
-        ))))))))))))))))))))))))))))))))))))))))))))))))))))))))))))
+        ))))))))))))))))))))))))))))))))))))))))))))))))))))))))))))))))))
 
 module _ {M : Type 1} (𝓤 : URA M) (H : Heap 𝓤) (A : Atoms 𝓤) (W : Given 𝓤 H A) (at-mem : Memory → SProp 𝓤) (run : Routine → Fun 𝓤) (𝓣 : Tables 𝓤 H)
     (known-translate : Triple 𝓤 (𝓣 .C #translation-rows·translate) (Translate 𝓤 H A at-mem run))

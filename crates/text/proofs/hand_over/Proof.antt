@@ -1,9 +1,9 @@
--- `text::hand_over` meets its contract: questions 4 to 9 by `ladder_answer`, question 13 buffer by buffer, and then four copies. Assumes nothing.
+-- `text::hand_over` meets its contract: questions 4 to 9 by `ladder_answer`, question 13 buffer by buffer, and then five copies. Assumes nothing.
 use mathlib.Core.Path.{_∙_}
 use Rattle.questions.specs.Laws.Answers.{verdict-refused, verdict-accepted}
 use native.Mathlib.Omega.{arith}
 use Rattle.text.proofs.Answers.{over-refused, over-short, over-kept}
-use Rattle.rungs.specs.Laws.Filling.{written-sets, written-all, short-words, short-labels, short-offsets, short-lengths, enough}
+use Rattle.rungs.specs.Laws.Filling.{written-sets, written-all, short-words, short-labels, short-offsets, short-lengths, short-times, enough}
 use borrow.Author.Needs.{needs}
 use Rattle.text.proofs.hand_over.Statement.{statement}
 use Rattle.text.proofs.hand_over.Tie as tie
@@ -32,6 +32,9 @@ returns-4 c = over-short _ _ _ (verdict-accepted (c .before .before .before .bef
 returns-5 : tie.Need-returns-5
 returns-5 c = over-short _ _ _ (verdict-accepted (c .before .before .before .before .before .before .ladder-answer .ensures) (c .before .before .before .before .enum-told .given .1)) (short-lengths _ _ (c .before .before .before .if1 .left) (c .before .before .if2 .left) (c .before .if3 .left) (c .if4 .taken))
 
+returns-6 : tie.Need-returns-6
+returns-6 c = over-short _ _ _ (verdict-accepted (c .before .before .before .before .before .before .before .ladder-answer .ensures) (c .before .before .before .before .before .enum-told .given .1)) (short-times _ _ (c .before .before .before .before .if1 .left) (c .before .before .before .if2 .left) (c .before .before .if3 .left) (c .before .if4 .left) (c .if5 .taken))
+
 copy-words-requires : tie.Need-copy-words-requires
 copy-words-requires c κs = search needs
 
@@ -39,10 +42,13 @@ copy-labels-requires : tie.Need-copy-labels-requires
 copy-labels-requires c κs = search needs
 
 copy-words-requires-2 : tie.Need-copy-words-requires-2
-copy-words-requires-2 c κs = search needs
+copy-words-requires-2 c κs = omega (arith, c .before .before .before .before .before .before .before .before .before .before .before .before .before .before .before .before .before .before .before .before .before .before .before .before .before .before .before .good .1 .1 .1 .0 .0)
 
 copy-words-requires-3 : tie.Need-copy-words-requires-3
-copy-words-requires-3 c κs = omega (arith, c .before .before .before .before .before .before .before .before .before .before .before .before .before .before .before .before .before .before .before .before .before .before .before .before .before .before .before .before .good .1 .1 .1 .1 .0 .0)
+copy-words-requires-3 c κs = omega (arith, c .before .before .before .before .before .before .before .before .before .before .before .before .before .before .before .before .before .before .before .before .before .before .before .before .before .before .before .before .before .before .before .good .1 .1 .1 .1 .0 .0)
+
+copy-words-requires-4 : tie.Need-copy-words-requires-4
+copy-words-requires-4 c κs = omega (arith, c .before .before .before .before .before .before .before .before .before .before .before .before .before .before .before .before .before .before .before .before .before .before .before .before .before .before .before .before .before .before .before .before .before .before .before .good .1 .1 .1 .1 .1 .0 .0)
 
 same-length : tie.Need-same-length
 same-length c = search needs
@@ -56,11 +62,15 @@ same-length-3 c = search needs
 same-length-4 : tie.Need-same-length-4
 same-length-4 c = search needs
 
-returns-6 : tie.Need-returns-6
-returns-6 c = over-kept _ _ _ (verdict-accepted (c .before .before .before .before .before .before .before .before .before .before .before .before .before .before .before .before .before .before .before .before .before .before .ladder-answer .ensures) (c .before .before .before .before .before .before .before .before .before .before .before .before .before .before .before .before .before .before .before .before .enum-told .given .1))
-    (enough _ _ (c .before .before .before .before .before .before .before .before .before .before .before .before .before .before .before .before .before .before .before .if1 .left) (c .before .before .before .before .before .before .before .before .before .before .before .before .before .before .before .before .before .before .if2 .left) (c .before .before .before .before .before .before .before .before .before .before .before .before .before .before .before .before .before .if3 .left) (c .before .before .before .before .before .before .before .before .before .before .before .before .before .before .before .before .if4 .left))
-    _ (written-all _ _ _ (c .before .before .before .before .before .before .before .before .before .before .before .before .before .before .before .before .before .before .before .if1 .left) (c .before .before .before .before .before .before .before .before .before .before .before .before .before .before .copy-words .ensures)) (c .before .before .before .before .before .before .before .before .before .before .copy-labels .ensures ∙ written-sets _ _ (c .before .before .before .before .before .before .before .before .before .before .before .before .before .before .before .before .before .before .if2 .left))
-    (written-all _ _ _ (c .before .before .before .before .before .before .before .before .before .before .before .before .before .before .before .before .before .if3 .left) (c .before .before .before .before .before .before .copy-words2 .ensures)) (written-all _ _ _ (c .before .before .before .before .before .before .before .before .before .before .before .before .before .before .before .before .if4 .left) (c .before .before .copy-words3 .ensures))
+same-length-5 : tie.Need-same-length-5
+same-length-5 c = search needs
+
+returns-7 : tie.Need-returns-7
+returns-7 c = over-kept _ _ _ (verdict-accepted (c .before .before .before .before .before .before .before .before .before .before .before .before .before .before .before .before .before .before .before .before .before .before .before .before .before .before .before .ladder-answer .ensures) (c .before .before .before .before .before .before .before .before .before .before .before .before .before .before .before .before .before .before .before .before .before .before .before .before .before .enum-told .given .1))
+    (enough _ _ (c .before .before .before .before .before .before .before .before .before .before .before .before .before .before .before .before .before .before .before .before .before .before .before .before .if1 .left) (c .before .before .before .before .before .before .before .before .before .before .before .before .before .before .before .before .before .before .before .before .before .before .before .if2 .left) (c .before .before .before .before .before .before .before .before .before .before .before .before .before .before .before .before .before .before .before .before .before .before .if3 .left) (c .before .before .before .before .before .before .before .before .before .before .before .before .before .before .before .before .before .before .before .before .before .if4 .left) (c .before .before .before .before .before .before .before .before .before .before .before .before .before .before .before .before .before .before .before .before .if5 .left))
+    _ (written-all _ _ _ (c .before .before .before .before .before .before .before .before .before .before .before .before .before .before .before .before .before .before .before .before .before .before .before .before .if1 .left) (c .before .before .before .before .before .before .before .before .before .before .before .before .before .before .before .before .before .before .copy-words .ensures)) (c .before .before .before .before .before .before .before .before .before .before .before .before .before .before .copy-labels .ensures ∙ written-sets _ _ (c .before .before .before .before .before .before .before .before .before .before .before .before .before .before .before .before .before .before .before .before .before .before .before .if2 .left))
+    (written-all _ _ _ (c .before .before .before .before .before .before .before .before .before .before .before .before .before .before .before .before .before .before .before .before .before .before .if3 .left) (c .before .before .before .before .before .before .before .before .before .before .copy-words2 .ensures)) (written-all _ _ _ (c .before .before .before .before .before .before .before .before .before .before .before .before .before .before .before .before .before .before .before .before .before .if4 .left) (c .before .before .before .before .before .before .copy-words3 .ensures))
+    (written-all _ _ _ (c .before .before .before .before .before .before .before .before .before .before .before .before .before .before .before .before .before .before .before .before .if5 .left) (c .before .before .copy-words4 .ensures))
 
 pub hand-over-spec : {M : Type 1} → statement M
 hand-over-spec =
@@ -74,12 +84,15 @@ hand-over-spec =
     returns-3
     returns-4
     returns-5
+    returns-6
     copy-words-requires
     copy-labels-requires
     copy-words-requires-2
     copy-words-requires-3
+    copy-words-requires-4
     same-length
     same-length-2
     same-length-3
     same-length-4
-    returns-6)
+    same-length-5
+    returns-7)

@@ -72,6 +72,12 @@ array-share-prefix-new-lengths c = omega (arith, fits-room _ (sym (c .before .be
 slice-aggregate-hand-over-4 : tie.Need-slice-aggregate-hand-over-4
 slice-aggregate-hand-over-4 c = sym (length-take-le _ _ (omega (arith, fits-room _ (sym (c .before .before .before .before .before .sizes-in-range .ensures) ∙ not-false _ (c .before .before .before .before .if3 .left)) .rungs, c .before .before .before .before .before .before .before .before .before .new-lengths2 .given)))
 
+array-share-prefix-new-times : tie.Need-array-share-prefix-new-times
+array-share-prefix-new-times c = omega (arith, fits-room _ (sym (c .before .before .before .before .before .sizes-in-range .ensures) ∙ not-false _ (c .before .before .before .before .if3 .left)) .rungs)
+
+slice-aggregate-hand-over-5 : tie.Need-slice-aggregate-hand-over-5
+slice-aggregate-hand-over-5 c = sym (length-take-le _ _ (omega (arith, fits-room _ (sym (c .before .before .before .before .before .before .sizes-in-range .ensures) ∙ not-false _ (c .before .before .before .before .before .if3 .left)) .rungs)))
+
 hand-over-requires : tie.Need-hand-over-requires
 hand-over-requires c κs = search needs
 
@@ -91,10 +97,13 @@ same-length-3 c = search needs
 same-length-4 : tie.Need-same-length-4
 same-length-4 c = search needs
 
+same-length-5 : tie.Need-same-length-5
+same-length-5 c = search needs
+
 returns-5 : tie.Need-returns-5
-returns-5 c = read-done _ _ _ (sym (c .before .before .before .before .before .before .before .before .before .before .before .before .before .before .before .before .before .before .before .before .before .before .before .before .before .before .before .before .before .before .before .before .before .before .vars-in-range .ensures) ∙ not-false _ (c .before .before .before .before .before .before .before .before .before .before .before .before .before .before .before .before .before .before .before .before .before .before .before .before .before .before .before .before .before .before .before .before .before .if1 .left)) (sym (c .before .before .before .before .before .before .before .before .before .before .before .before .before .before .before .before .before .before .before .before .before .before .before .before .before .before .before .before .before .before .before .before .length-in-range .ensures) ∙ not-false _ (c .before .before .before .before .before .before .before .before .before .before .before .before .before .before .before .before .before .before .before .before .before .before .before .before .before .before .before .before .before .before .before .if2 .left))
-    _ _ _ (c .before .before .before .before .before .before .before .before .before .before .before .before .before .before .before .before .before .before .before .before .before .before .before .before .before .before .lines .ensures) _ (c .before .before .before .before .before .before .before .before .before .before .before .before .before .before .before .before .before .before .before .before .sizes .given .1) (sym (c .before .before .before .before .before .before .before .before .before .before .before .before .before .before .before .before .before .before .sizes-in-range .ensures) ∙ not-false _ (c .before .before .before .before .before .before .before .before .before .before .before .before .before .before .before .before .before .if3 .left))
-    (record { words = refl; labels = refl; offsets = refl; lengths = refl }) _ _ (c .before .before .before .before .before .before .before .before .hand-over .ensures)
+returns-5 c = read-done _ _ _ (sym (c .before .before .before .before .before .before .before .before .before .before .before .before .before .before .before .before .before .before .before .before .before .before .before .before .before .before .before .before .before .before .before .before .before .before .before .before .before .before .vars-in-range .ensures) ∙ not-false _ (c .before .before .before .before .before .before .before .before .before .before .before .before .before .before .before .before .before .before .before .before .before .before .before .before .before .before .before .before .before .before .before .before .before .before .before .before .before .if1 .left)) (sym (c .before .before .before .before .before .before .before .before .before .before .before .before .before .before .before .before .before .before .before .before .before .before .before .before .before .before .before .before .before .before .before .before .before .before .before .before .length-in-range .ensures) ∙ not-false _ (c .before .before .before .before .before .before .before .before .before .before .before .before .before .before .before .before .before .before .before .before .before .before .before .before .before .before .before .before .before .before .before .before .before .before .before .if2 .left))
+    _ _ _ (c .before .before .before .before .before .before .before .before .before .before .before .before .before .before .before .before .before .before .before .before .before .before .before .before .before .before .before .before .before .before .lines .ensures) _ (c .before .before .before .before .before .before .before .before .before .before .before .before .before .before .before .before .before .before .before .before .before .before .before .before .sizes .given .1) (sym (c .before .before .before .before .before .before .before .before .before .before .before .before .before .before .before .before .before .before .before .before .before .before .sizes-in-range .ensures) ∙ not-false _ (c .before .before .before .before .before .before .before .before .before .before .before .before .before .before .before .before .before .before .before .before .before .if3 .left))
+    (record { words = refl; labels = refl; offsets = refl; lengths = refl }) _ _ (c .before .before .before .before .before .before .before .before .before .before .hand-over .ensures)
 
 pub read-spec : {M : Type 1} → statement M
 read-spec =
@@ -121,10 +130,13 @@ read-spec =
     slice-aggregate-hand-over-3
     array-share-prefix-new-lengths
     slice-aggregate-hand-over-4
+    array-share-prefix-new-times
+    slice-aggregate-hand-over-5
     hand-over-requires
     returns-4
     same-length
     same-length-2
     same-length-3
     same-length-4
+    same-length-5
     returns-5)

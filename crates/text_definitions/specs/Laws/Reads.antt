@@ -7,10 +7,10 @@ use mathlib.Core.List.{List, [], _∷_}
 use lib.ListN.{length, take}
 use Rattle.questions.specs.Questions.{Refusal, Answer, firstNo, question1, question2, question13}
 use Rattle.questions.specs.Laws.Answers.{first-yes, later-yes}
-use Rattle.rungs.specs.Records.{rowOf}
-use Rattle.rungs.specs.Buffers.{Buffers, asBuffers, needs, written, writtenOver, writtenWords, writtenRecords}
+use Rattle.rungs.specs.Records.{rowOf, noneEntered}
+use Rattle.rungs.specs.Buffers.{Buffers, asBuffers, needs, writtenOver, writtenWords, writtenRecords}
 use Rattle.rungs.specs.Laws.Layout.{lay-length}
-use Rattle.rungs.specs.Laws.Filling.{written-first, row-of-buffers, labels-count, offsets-count, lengths-count, roomy}
+use Rattle.rungs.specs.Laws.Filling.{written-first, first-written, row-of-new, labels-count, offsets-count, lengths-count, times-count, roomy}
 use Rattle.ladder_definitions.specs.Tree.{Ladder}
 use Rattle.ladder_definitions.specs.Kept.{rungWords, encode}
 use Rattle.ladder_definitions.specs.Questions.{question5, question6, question7, question8, ladderAnswer, Accepted}
@@ -30,24 +30,26 @@ module _ (gs : Ladder) (lent : Buffers) where
   unfolding encode
   rungs-laid = lay-length (λ g. g .label) (λ g. length (rungWords g)) 0 gs
 
-  taken-first : (n : ℕ) (xs out : List ℕ) → length xs ≡ n → take n (written xs out) ≡ xs
-  taken-first n xs out e = rw (← e) (written-first xs out)
-
   row-first : writtenRecords (writtenOver new lent) (length gs) ≡ encode gs .records
   unfolding writtenOver writtenRecords
   row-first =
-      let l = taken-first (length gs) (new .labels) (lent .labels) (labels-count (encode gs .words) (encode gs .records) ∙ rungs-laid) in
-      let o = taken-first (length gs) (new .offsets) (lent .offsets) (offsets-count (encode gs .words) (encode gs .records) ∙ rungs-laid) in
-      let n = taken-first (length gs) (new .lengths) (lent .lengths) (lengths-count (encode gs .words) (encode gs .records) ∙ rungs-laid) in
-      (λ i. rowOf (l i) (o i) (n i)) ∙ row-of-buffers (encode gs .words) (encode gs .records)
+      let l = first-written (length gs) (new .labels) (lent .labels) (labels-count (encode gs .words) (encode gs .records) _ ∙ rungs-laid) in
+      let o = first-written (length gs) (new .offsets) (lent .offsets) (offsets-count (encode gs .words) (encode gs .records) _ ∙ rungs-laid) in
+      let n = first-written (length gs) (new .lengths) (lent .lengths) (lengths-count (encode gs .words) (encode gs .records) _ ∙ rungs-laid) in
+      let t = first-written (length gs) (new .times) (lent .times) (times-count (encode gs .words) (encode gs .records) ∙ rungs-laid) in
+      (λ i. rowOf (l i) (o i) (n i) (t i)) ∙ row-of-new (encode gs .words) (encode gs .records)
+
+  times-first : take (length gs) (writtenOver new lent .times) ≡ noneEntered (length gs)
+  unfolding writtenOver asBuffers
+  times-first = first-written (length gs) (new .times) (lent .times) (times-count (encode gs .words) (encode gs .records) ∙ rungs-laid) ∙ ap noneEntered rungs-laid
 
   words-first : writtenWords (writtenOver new lent) (length (new .words)) ≡ encode gs .words
   unfolding writtenOver writtenWords asBuffers
   words-first = written-first (encode gs .words) (lent .words)
 
-  first-written : writtenKept (writtenOver new lent) (length (new .words)) (length gs) ≡ encode gs
+  kept-first : writtenKept (writtenOver new lent) (length (new .words)) (length gs) ≡ encode gs
   unfolding writtenKept
-  first-written i = record { words = words-first i; records = row-first i }
+  kept-first i = record { words = words-first i; records = row-first i }
 
 -- ---- the call, by its answer
 
@@ -131,10 +133,13 @@ module _ (vars : ℕ) (text : List ℕ) (lent : Buffers) where
     written-room =
         let gs = textLadder text in
         let r = roomy (keptBuffers gs) lent (first-yes _ _ (later-yes (before vars text) _ all-yes)) in
-        (omega (arith, r .words, words-count), omega (arith, r .labels, rungs-count, labels-count (encode gs .words) (encode gs .records), rungs-laid gs lent))
+        (omega (arith, r .words, words-count), omega (arith, r .labels, rungs-count, labels-count (encode gs .words) (encode gs .records) (noneEntered (length (encode gs .records))), rungs-laid gs lent))
 
     pub first-encoded : writtenKept (readText vars text lent .buffers) words rungs ≡ encode (textLadder text)
-    first-encoded = rw (call-kept all-yes, words-count, rungs-count) (first-written (textLadder text) lent)
+    first-encoded = rw (call-kept all-yes, words-count, rungs-count) (kept-first (textLadder text) lent)
+
+    pub no-times : take rungs (readText vars text lent .buffers .times) ≡ noneEntered rungs
+    no-times = rw (call-kept all-yes, rungs-count) (times-first (textLadder text) lent)
 
     pub in-grammar : IsText text (textLadder text)
     in-grammar = yes-ladder text (first-yes (question3 text) _ (later-yes (question2 (length text)) _ (later-yes (question1 vars) _ yes-before)))

@@ -1,7 +1,7 @@
 -- `text_rows::read` meets its contract: a walk of its MIR, by hand. `read_fields` reads the text into the lent words and into fields by value, these are scattered into the row, and the answer is taken out of what `read_fields` gave. Of the callees the proof knows only that they meet their contracts.
 -- The two `&mut` are needed once each: each goes to its callee at its own lifetime, share and name. The text is Copy: one copy goes to `read_fields` and the other is kept.
 -- Assumes nothing.
-use mathlib.Core.Path.{_≡_, refl, sym, subst}
+use mathlib.Core.Path.{_≡_, refl}
 use Prim.Native.Nat.{ℕ, _<_, _≤_, _^_}
 use mathlib.Core.List.{[], _∷_, List}
 use lib.Dec.{T as Holds}
@@ -39,11 +39,11 @@ use denote.Triple.Statement.{Contract, Triple}
 use denote.Triple.Table.{entered, cited}
 use denote.Triple.Walked.{says, Stays, stay-none, stay-none-slice, gave-slice, walkOf, goes-none, goes-none-slice, goes-gave-slice, Walks, ends-at, walked, walk-meets}
 use denote.Exit.{yes}
-use Rattle.rungs.specs.Records.{RungRecord}
-use Rattle.rungs.specs.Buffers.{asBuffers}
-use Rattle.rows.specs.Rows.{recordsOf}
+use Rattle.rungs.specs.Records.{noneEntered}
+use Rattle.rungs.specs.Buffers.{asBuffers, written}
+use Rattle.rows.specs.Rows.{recordsOf, timesOf}
 use Rattle.rows.specs.Parts.{scattered}
-use Rattle.rows.specs.Laws.Records.{records-length}
+use Rattle.rows.specs.Laws.Records.{records-length, times-records}
 use Rattle.rows.specs.declared.Rung.{Rung}
 use Rattle.rows.specs.declared.Rows.{Rows}
 use Rattle.text_definitions.specs.Read.{readText, ReadDone}
@@ -205,13 +205,18 @@ module _ {M : Type 1} (𝓤 : URA M) (H : Heap 𝓤) (A : Atoms 𝓤) (W : Given
   abbrev Said : ReadFields → List ℕ → Type 0
   Said r after = FieldsRead vars (text .now) (words .now) lent r after
 
-  -- what is promised, from what `read_fields` and `scatter` say
-  read-done : (r : ReadFields) (zs : List ℕ) (os : List Rung) → Said r zs → recordsOf os ≡ scattered (r .rows .kept) (r .rows) (recordsOf (row .now))
-      → ReadDone (readText vars (text .now) (asBuffers (words .now) (recordsOf (row .now)))) (r .answer) (asBuffers zs (recordsOf os))
-  read-done r zs os e eo = subst (λ (rs : List RungRecord). ReadDone (readText vars (text .now) (asBuffers (words .now) (recordsOf (row .now)))) (r .answer) (asBuffers zs rs)) (sym eo) (e .same (recordsOf (row .now)) (records-length (row .now)))
+  abbrev Promised : TextRead → List ℕ → List Rung → Type 0
+  Promised a zs os = ReadDone (readText vars (text .now) (asBuffers (words .now) (recordsOf (row .now)) (timesOf (row .now)))) a (asBuffers zs (recordsOf os) (timesOf os))
 
-  exits : (a : TextRead) (v : Val) (zs : List ℕ) (os : List Rung) → ReadDone (readText vars (text .now) (asBuffers (words .now) (recordsOf (row .now)))) a (asBuffers zs (recordsOf os))
-      → length zs ≡ length (words .now) → length os ≡ lent → Is E.the-row a (v ∷ [])
+  -- the row, with the fields that are kept scattered into it
+  abbrev Scattered : ReadFields → List Rung → Type 0
+  Scattered r os = (recordsOf os ≡ scattered (r .rows .kept) (r .rows) (recordsOf (row .now))) × (timesOf os ≡ written (noneEntered (r .rows .kept)) (timesOf (row .now)))
+
+  -- what is promised, from what `read_fields` and `scatter` say
+  read-done : (r : ReadFields) (zs : List ℕ) (os : List Rung) → Said r zs → Scattered r os → Promised (r .answer) zs os
+  read-done r zs os e eo = rw (eo .0, eo .1) (e .same (recordsOf (row .now)) (timesOf (row .now)) (records-length (row .now)) (times-records (row .now)))
+
+  exits : (a : TextRead) (v : Val) (zs : List ℕ) (os : List Rung) → Promised a zs os → length zs ≡ length (words .now) → length os ≡ lent → Is E.the-row a (v ∷ [])
       → ent 𝓤 (⋆ 𝓤 H A (tokens ∷ token κ₂ q₂ ∷ ‵ Own-text ∷ ‵ (finally u32 (words .name) zs) ∷ ‵ (finally T.the-row (row .name) os) ∷ [])) (Post v)
   exits a v zs os e lz lo is =
       qed W (tokens ∷ token κ₂ q₂ ∷ ‵ Own-text ∷ ‵ (finally u32 (words .name) zs) ∷ ‵ (finally T.the-row (row .name) os) ∷ []) ∵
@@ -264,8 +269,8 @@ module _ {M : Type 1} (𝓤 : URA M) (H : Heap 𝓤) (A : Atoms 𝓤) (W : Given
         move ! (30 ∷ 29 ∷ []) $ use2 W (raw (Scatter 𝓤 H A at-mem run .pre (to-scatter (r .rows) w k))) (goes-scatter (r .rows) w k is-rows is-kept (e .few, e .within)) $
         calls-at ! fm (Scatter 𝓤 H A at-mem run) known-scatter (to-scatter (r .rows) w k) (and-then ! (load ! (from ! (stop !)) (look ! 5 refl)) (and-then ! (load ! (from ! (stop !)) (look ! 3 refl)) (and-then ! (load ! (from ! (stop !)) (look ! 11 refl)) (no-more !)))) (λ u.
         use1 W (later (some (λ (n : Unit {0}). (token κ₂ q₂ ⊛ ‵ (unit .own n (u ∷ []))) ⊛ raw (ensured 𝓤 H A scatter.ended (scatter.clauses 𝓤 H A at-mem run) (κ₂, tt) (for-scatter (r .rows)) tt n)))) (id⊢ 𝓤 _) $ await ! tt $ pick ! (λ n.
-        split ! $ move ! (1 ∷ []) $ use1 W (some (λ (os : List Rung × (Unit {0} × (Unit {0} × Unit {0}))). ‵ (lasts scatter.ended (κ₂, tt) (for-scatter (r .rows)) os) ⊛ raw (fact 𝓤 (recordsOf (os .0) ≡ scattered (r .rows .kept) (r .rows) (recordsOf (row .now)))))) (id⊢ 𝓤 _) $ pick ! (λ os.
-        split ! $ move ! (1 ∷ []) $ heard ! (recordsOf (os .0) ≡ scattered (r .rows .kept) (r .rows) (recordsOf (row .now))) (λ eo. fsplit ! $ fsplit ! $ move ! (1 ∷ []) $ feqL ! (λ lo. move ! (1 ∷ []) $ drop ! $
+        split ! $ move ! (1 ∷ []) $ use1 W (some (λ (os : List Rung × (Unit {0} × (Unit {0} × Unit {0}))). ‵ (lasts scatter.ended (κ₂, tt) (for-scatter (r .rows)) os) ⊛ raw (fact 𝓤 (Scattered r (os .0))))) (id⊢ 𝓤 _) $ pick ! (λ os.
+        split ! $ move ! (1 ∷ []) $ heard ! (Scattered r (os .0)) (λ eo. fsplit ! $ fsplit ! $ move ! (1 ∷ []) $ feqL ! (λ lo. move ! (1 ∷ []) $ drop ! $
         move ! (1 ∷ []) $ split ! $ move ! (1 ∷ []) $ facts ! unit (Is unit) (shows 𝓤 H A unit) n (u ∷ []) (λ is-unit.
         -- [κ₂'s token; the row's last list; the tokens of κ₀ and κ₁; the words' last list; _12; …; _11; …; _10; …; _9; …; _8; …; _7; …; _6; …; _5; …; _4; …; _3; …; _2; …; _1; …; _0; …; the text]
         land ! (from ! (stop !)) (init ! 10 refl (nothing-lawful 𝓤 H A W .typed n _ is-unit .0)) $

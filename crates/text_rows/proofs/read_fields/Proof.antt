@@ -28,6 +28,12 @@ array-borrow-prefix-lengths c = search needs
 slice-aggregate-read-3 : tie.Need-slice-aggregate-read-3
 slice-aggregate-read-3 c = sym (length-take-le _ _ (room-few _ _ (c .before .before .before .before .room .ensures)))
 
+array-borrow-prefix-times : tie.Need-array-borrow-prefix-times
+array-borrow-prefix-times c = search needs
+
+slice-aggregate-read-4 : tie.Need-slice-aggregate-read-4
+slice-aggregate-read-4 c = sym (length-take-le _ _ (room-few _ _ (c .before .before .before .before .before .room .ensures)))
+
 read-requires : tie.Need-read-requires
 read-requires c κs = search needs
 
@@ -41,13 +47,13 @@ same-length : tie.Need-same-length
 same-length c = search needs
 
 returns : tie.Need-returns
-returns c = read-kept _ _ _ _ _ _ _ (length-take-le _ _ (room-few _ _ (c .before .before .before .before .before .before .before .before .before .before .before .before .before .room .ensures)) ∙ c .before .before .before .before .before .before .before .before .before .before .before .before .before .room .ensures) (length-take-le _ _ (room-few _ _ (c .before .before .before .before .before .before .before .before .before .before .before .before .before .room .ensures)) ∙ c .before .before .before .before .before .before .before .before .before .before .before .before .before .room .ensures) (length-take-le _ _ (room-few _ _ (c .before .before .before .before .before .before .before .before .before .before .before .before .before .room .ensures)) ∙ c .before .before .before .before .before .before .before .before .before .before .before .before .before .room .ensures) _ _ _ _ _ (c .before .before .before .before .before .before .before .before .read .ensures) _ _ (c .before .answer .given .1) (c .before .before .before .before .before .before .before .before .read .kept .1 .1 .1 .0) (c .before .before .before .before .before .before .before .before .read .kept .1 .1 .1 .1 .0) (c .before .before .before .before .before .before .before .before .read .kept .1 .1 .1 .1 .1 .0)
+returns c = read-kept _ _ _ _ _ _ _ _ (length-take-le _ _ (room-few _ _ (c .before .before .before .before .before .before .before .before .before .before .before .before .before .before .before .room .ensures)) ∙ c .before .before .before .before .before .before .before .before .before .before .before .before .before .before .before .room .ensures) (length-take-le _ _ (room-few _ _ (c .before .before .before .before .before .before .before .before .before .before .before .before .before .before .before .room .ensures)) ∙ c .before .before .before .before .before .before .before .before .before .before .before .before .before .before .before .room .ensures) (length-take-le _ _ (room-few _ _ (c .before .before .before .before .before .before .before .before .before .before .before .before .before .before .before .room .ensures)) ∙ c .before .before .before .before .before .before .before .before .before .before .before .before .before .before .before .room .ensures) (length-take-le _ _ (room-few _ _ (c .before .before .before .before .before .before .before .before .before .before .before .before .before .before .before .room .ensures)) ∙ c .before .before .before .before .before .before .before .before .before .before .before .before .before .before .before .room .ensures) _ _ _ _ _ _ (c .before .before .before .before .before .before .before .before .before .read .ensures) _ _ (c .before .answer .given .1) (c .before .before .before .before .before .before .before .before .before .read .kept .1 .1 .1 .0) (c .before .before .before .before .before .before .before .before .before .read .kept .1 .1 .1 .1 .0) (c .before .before .before .before .before .before .before .before .before .read .kept .1 .1 .1 .1 .1 .0)
 
 same-length-2 : tie.Need-same-length-2
 same-length-2 c = search needs
 
 returns-2 : tie.Need-returns-2
-returns-2 c = read-refused _ _ _ _ _ _ _ (length-take-le _ _ (room-few _ _ (c .before .before .before .before .before .before .before .before .before .before .before .before .room .ensures)) ∙ c .before .before .before .before .before .before .before .before .before .before .before .before .room .ensures) (length-take-le _ _ (room-few _ _ (c .before .before .before .before .before .before .before .before .before .before .before .before .room .ensures)) ∙ c .before .before .before .before .before .before .before .before .before .before .before .before .room .ensures) (length-take-le _ _ (room-few _ _ (c .before .before .before .before .before .before .before .before .before .before .before .before .room .ensures)) ∙ c .before .before .before .before .before .before .before .before .before .before .before .before .room .ensures) _ _ _ _ _ (c .before .before .before .before .before .before .before .read .ensures) _ _ (c .enum-told .given .1)
+returns-2 c = read-refused _ _ _ _ _ _ _ _ (length-take-le _ _ (room-few _ _ (c .before .before .before .before .before .before .before .before .before .before .before .before .before .before .room .ensures)) ∙ c .before .before .before .before .before .before .before .before .before .before .before .before .before .before .room .ensures) (length-take-le _ _ (room-few _ _ (c .before .before .before .before .before .before .before .before .before .before .before .before .before .before .room .ensures)) ∙ c .before .before .before .before .before .before .before .before .before .before .before .before .before .before .room .ensures) (length-take-le _ _ (room-few _ _ (c .before .before .before .before .before .before .before .before .before .before .before .before .before .before .room .ensures)) ∙ c .before .before .before .before .before .before .before .before .before .before .before .before .before .before .room .ensures) (length-take-le _ _ (room-few _ _ (c .before .before .before .before .before .before .before .before .before .before .before .before .before .before .room .ensures)) ∙ c .before .before .before .before .before .before .before .before .before .before .before .before .before .before .room .ensures) _ _ _ _ _ _ (c .before .before .before .before .before .before .before .before .read .ensures) _ _ (c .enum-told .given .1)
 
 pub read-fields-spec : {M : Type 1} → statement M
 read-fields-spec =
@@ -60,6 +66,8 @@ read-fields-spec =
     slice-aggregate-read-2
     array-borrow-prefix-lengths
     slice-aggregate-read-3
+    array-borrow-prefix-times
+    slice-aggregate-read-4
     read-requires
     enum-known-answer
     enum-told

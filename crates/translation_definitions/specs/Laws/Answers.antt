@@ -4,11 +4,12 @@ use native.Mathlib.Omega.{arith}
 use mathlib.Core.Path.{_≡_, refl, sym, ap, _∙_}
 use mathlib.Core.Option.{none, some}
 use mathlib.Core.List.{[], _∷_, map}
-use lib.ListN.{length, length-map}
+use lib.ListN.{length, take, length-map, length-replicate}
 use Rattle.questions.specs.Questions.{Answer, Refusal, firstNo, question13}
 use Rattle.questions.specs.Laws.Answers.{first-yes, later-yes}
+use Rattle.rungs.specs.Records.{noneEntered}
 use Rattle.rungs.specs.Buffers.{Buffers, asBuffers, needs, writtenOver}
-use Rattle.rungs.specs.Laws.Filling.{labels-count, offsets-count, lengths-count, roomy}
+use Rattle.rungs.specs.Laws.Filling.{first-written, labels-count, offsets-count, lengths-count, times-count, roomy}
 use Rattle.ladder_definitions.specs.Kept.{Kept}
 use Rattle.ladder_definitions.specs.Questions.{ladderOf, ladderAnswer}
 use Rattle.ladder_definitions.specs.Laws.Accepting.{ladder-first}
@@ -61,6 +62,7 @@ module _ (vars : ℕ) (k : Kept) (lent : Buffers) where
 
     -- what was written has room
     pub written-room : (c .instructions ≤ length (lent .words)) × (c .rungs ≤ length (lent .labels)) × (c .rungs ≤ length (lent .offsets)) × (c .rungs ≤ length (lent .lengths))
+        × (c .rungs ≤ length (lent .times))
     unfolding countsOf asBuffers translate
     written-room =
         let r = roomy (listBuffers list) lent (first-yes _ _ (later-yes (ladderAnswer vars k) _ all-yes)) in
@@ -68,7 +70,14 @@ module _ (vars : ℕ) (k : Kept) (lent : Buffers) where
         let g = ap (λ d. d .rungs) counts-are in
         let m = length-map (list .code) instrWord in (
           omega (arith, r .words),
-          omega (arith, r .labels, labels-count (map instrWord (list .code)) (list .records)),
-          omega (arith, r .offsets, offsets-count (map instrWord (list .code)) (list .records)),
-          omega (arith, r .lengths, lengths-count (map instrWord (list .code)) (list .records)),
+          omega (arith, r .labels, labels-count (map instrWord (list .code)) (list .records) (noneEntered (length (list .records)))),
+          omega (arith, r .offsets, offsets-count (map instrWord (list .code)) (list .records) (noneEntered (length (list .records)))),
+          omega (arith, r .lengths, lengths-count (map instrWord (list .code)) (list .records) (noneEntered (length (list .records)))),
+          omega (arith, r .times, times-count (map instrWord (list .code)) (list .records)),
         )
+
+    -- its records have been entered no times
+    pub no-times : take (c .rungs) (translateKept vars k lent .buffers .times) ≡ noneEntered (c .rungs)
+    unfolding writtenOver countsOf asBuffers
+    no-times = rw (call-written all-yes, counts-are)
+        (first-written (length (list .records)) (noneEntered (length (list .records))) (lent .times) (length-replicate {A = ℕ} (length (list .records)) 0))

@@ -1,32 +1,35 @@
 -- Demand 3 over the code, from demand 3 over the calls' definitions. Assumes nothing.
-use Prim.Native.Nat.{ℕ, _*_}
+use Prim.Native.Nat.{ℕ, _*_, _≤_}
 use native.Mathlib.Omega.{arith}
 use mathlib.Core.Path.{_≡_, refl, sym, ap, _∙_}
 use mathlib.Core.Option.{none, some}
-use mathlib.Core.List.{List, [], _∷_, _++_}
+use mathlib.Core.List.{List, [], _∷_, _++_, map}
 use borrow.Author.Tests.{eq-eqb}
 use lib.Dec.{eqb→eq}
-use lib.ListN.{length}
+use lib.ListN.{length, take}
 use Rattle.questions.specs.Questions.{Refusal, Answer, firstNo, ask, question12, question13, mostRungWatchdog, mostInstructionWatchdog}
 use Rattle.questions.specs.Laws.Answers.{ask-passed, first-yes, later-yes, watchdog-in-range, in-range-watchdog}
 use Rattle.table.specs.Halt.{Halt, Ended, Stopped}
 use Rattle.table.specs.State.{stateOf}
-use Rattle.rungs.specs.Records.{longest}
-use Rattle.rungs.specs.Buffers.{needs, writtenOver}
+use Rattle.rungs.specs.Records.{longest, sum}
+use Rattle.rungs.specs.Buffers.{asBuffers, needs, writtenOver}
+use Rattle.rungs.specs.Laws.Filling.{first-written}
 use Rattle.ladder_definitions.specs.Kept.{Kept}
 use Rattle.ladder_definitions.specs.Meaning.{LadderResult, scanLadder}
+use Rattle.ladder_definitions.specs.Entries.{timesEntered}
 use Rattle.ladder_definitions.specs.Questions.{ladderOf, ladderAnswer}
 use Rattle.ladder_definitions.specs.LadderScan.{LadderCounts, countsOf as ladderCountsOf, scanned as ladderScanned, scanEnds as ladderEnds}
 use Rattle.ladder_definitions.specs.Laws.Accepting.{accepted, ladder-first}
 use Rattle.ladder_definitions.specs.Laws.Watchdog.{stopped-rungs, few-rungs}
-use Rattle.list_definitions.specs.Machine.{scanList}
-use Rattle.list_definitions.specs.ListScan.{countsOf as listCountsOf, scanEnds as listEnds}
+use Rattle.list_definitions.specs.Instruction.{instrWord}
+use Rattle.list_definitions.specs.Machine.{InstructionList, ListResult, scanList}
+use Rattle.list_definitions.specs.ListScan.{ListScanCall, callListScan, countsOf as listCountsOf, scanEnds as listEnds}
 use Rattle.translation_definitions.specs.Translate.{translate}
 use Rattle.translation_definitions.specs.TranslateKept.{countsOf, listBuffers}
-use Rattle.translation_definitions.specs.Calls.{CallsAlike, CallsSums}
-use Rattle.translation_definitions.specs.BothScans.{Lent, lends, BothEnds, BothAnswer, both, refused, copyQuestion, tablesQuestions, bothQuestions, bothScans, instructionWatchdog, pairedWatchdog}
+use Rattle.translation_definitions.specs.Calls.{CallsAlike, CallsSums, CallsTimes}
+use Rattle.translation_definitions.specs.BothScans.{Lent, lends, scannedBuffers, BothEnds, BothAnswer, both, refused, copyQuestion, tablesQuestions, bothQuestions, bothScans, instructionWatchdog, pairedWatchdog}
 use Rattle.translation_definitions.specs.BothAgree.{BothGiven, BothRan, BothAgree, PairedAgree}
-use Rattle.translation_definitions.specs.Laws.Calls.{ladder-call, list-call, translate-call, scans-alike}
+use Rattle.translation_definitions.specs.Laws.Calls.{ladder-call, list-call, list-times, translate-call, scans-alike}
 use Rattle.translation_definitions.specs.Laws.Legal.{watchdog-in-range as most-in-range}
 
 -- ---- the questions
@@ -65,7 +68,7 @@ module _ (vars : ℕ) (kept : Kept) (table : List ℕ) (lent : Lent) (n : ℕ) w
   unfoldable pub both-left : ℕ → Lent
   both-left w =
       lends (scanLadder (ladderOf kept) n (stateOf vars table) .state .bytes) (scanList (translate vars (ladderOf kept)) w (stateOf vars table) .state .bytes)
-      (writtenOver (listBuffers (translate vars (ladderOf kept))) (lent .buffers))
+      (writtenOver (scannedBuffers (translate vars (ladderOf kept)) (scanList (translate vars (ladderOf kept)) w (stateOf vars table) .counts .times)) (lent .buffers))
 
   pub both-refused : (w : ℕ) (r : Refusal) → firstNo (bothQuestions vars kept table lent n w) ≡ some r → bothScans vars kept table lent n w ≡ record { answer = refused r; lent = lent }
   unfolding bothScans
@@ -146,30 +149,60 @@ module _ (vars : ℕ) (kept : Kept) (table : List ℕ) (lent : Lent) (n : ℕ) (
     is : bothScans vars kept table lent n w ≡ record { answer = both (both-ends vars kept table lent n w); lent = both-left vars kept table lent n w }
     is = both-scanned vars kept table lent n w (asked-yes w h)
 
+    abbrev list : InstructionList
+    list = translate vars (ladderOf kept)
+
+    abbrev scan : ListResult
+    scan = scanList list w (stateOf vars table)
+
+    called : callListScan vars (map instrWord (list .code)) (list .records) table w ≡ listEnds scan
+    called = list-call vars kept table n (given .given .accepted) (given .given .legal) (given .given .watchdog) w h
+
+    times-told : (length (scan .counts .times) ≡ length (list .records)) × (sum (scan .counts .times) ≡ scan .counts .rungs)
+    times-told = list-times vars kept table n (given .given .accepted) (given .given .legal) (given .given .watchdog) w h
+
+    -- the times stand first in their buffer
+    taken-times : take (length (list .records)) (both-left vars kept table lent n w .buffers .times) ≡ scan .counts .times
+    unfolding both-left writtenOver asBuffers
+    taken-times = first-written (length (list .records)) (scan .counts .times) (lent .buffers .times) (times-told .0)
+
     ran : BothRan vars kept (lent .buffers) n (bothScans vars kept table lent n w .answer) (bothScans vars kept table lent n w .lent)
-    unfolding both-ends both-left
+    unfolding both-ends both-left writtenOver asBuffers countsOf
     ran =
+        let t = translate-call vars kept (lent .buffers) (given .given .accepted) (given .given .room) in
         record {
           ends = both-ends vars kept table lent n w;
           answered = ap (λ c. c .answer) is;
-          translated = translate-call vars kept (lent .buffers) (given .given .accepted) (given .given .room) ∙ rw is refl;
+          translated = ap (λ c. c .answer) t;
+          same-list = rw (is, t) refl;
+          times-add-up = rw is (ap sum taken-times ∙ times-told .1);
           stopped-at = stopped-rungs (ladderOf kept) n (stateOf vars table);
         }
 
-    pub both-alike : BothAgree vars kept (lent .buffers) n w (bothScans vars kept table lent n w .answer) (bothScans vars kept table lent n w .lent)
-    unfolding ran both-ends both-left CallsAlike CallsSums ladderEnds listEnds countsOf
+    times-are : scanLadder (ladderOf kept) n (stateOf vars table) .halt ≡ Ended → scanLadder (ladderOf kept) n (stateOf vars table) .rungs * longest (list .records) ≤ w
+        → scan .counts .times ≡ timesEntered (ladderOf kept) n (stateOf vars table)
+    unfolding CallsTimes ladderEnds listEnds
+    times-are e room =
+        let s = scans-alike vars kept table n (given .given .accepted) (given .given .legal) (given .given .watchdog) in
+        let c : LadderCounts = ladderCountsOf (scanLadder (ladderOf kept) n (stateOf vars table)) in
+        let ladder = ladder-call vars kept table n (given .given .accepted) (given .given .legal) (given .given .watchdog) in
+        let answer = ap (λ x. x .answer) ladder ∙ ap (λ g. ladderScanned g c) e in
+        sym (ap (λ (x : ListScanCall). x .times []) called) ∙ s .times w c answer h room []
+
+    pub both-alike : BothAgree vars kept table (lent .buffers) n w (bothScans vars kept table lent n w .answer) (bothScans vars kept table lent n w .lent)
+    unfolding ran both-ends both-left CallsAlike CallsSums CallsTimes ladderEnds listEnds countsOf
     both-alike =
         let s = scans-alike vars kept table n (given .given .accepted) (given .given .legal) (given .given .watchdog) in
         let ladder = ladder-call vars kept table n (given .given .accepted) (given .given .legal) (given .given .watchdog) in
         let list = list-call vars kept table n (given .given .accepted) (given .given .legal) (given .given .watchdog) w h in
         let a = rw (ladder, list) at (s .alike w) in
         let b = rw (ladder, list) at (s .sums w) in
-        record { ran = ran; alike = rw is a; sums = b }
+        record { ran = ran; alike = rw is a; sums = b; times = λ e room. rw is (taken-times ∙ times-are e room) }
 
   pub both-runs : (w : ℕ) → question12 mostInstructionWatchdog w ≡ none → (e : BothEnds) × (bothScans vars kept table lent n w .answer ≡ both e)
   both-runs w h = (both-ends vars kept table lent n w, ap (λ c. c .answer) (both-scanned vars kept table lent n w (asked-yes w h)))
 
-  pub paired-alike : PairedAgree vars kept (lent .buffers) n (bothScans vars kept table lent n (pairedWatchdog vars kept table n) .answer)
+  pub paired-alike : PairedAgree vars kept table (lent .buffers) n (bothScans vars kept table lent n (pairedWatchdog vars kept table n) .answer)
       (bothScans vars kept table lent n (pairedWatchdog vars kept table n) .lent)
   unfolding ran both-alike both-ends pairedWatchdog instructionWatchdog
   paired-alike =
@@ -180,5 +213,6 @@ module _ (vars : ℕ) (kept : Kept) (table : List ℕ) (lent : Lent) (n : ℕ) (
         ran = a .ran;
         ended = λ e. a .alike .ended c (ap (λ g. ladderScanned g c) e) h (rw e (omega arith));
         same-sum = λ e. a .sums .ended c (ap (λ g. ladderScanned g c) e) h (rw e (omega arith));
+        times = λ e. a .times e (rw e (omega arith));
         stopped = λ e. a .alike .stopped c (ap (λ g. ladderScanned g c) e) (rw e (omega arith));
       }

@@ -4,18 +4,19 @@ use native.Mathlib.Omega.{arith}
 use mathlib.Core.Path.{_≡_, ap, _∙_}
 use mathlib.Core.Option.{none}
 use mathlib.Core.List.{List, [], _∷_, map}
-use lib.ListN.{length, take, length-map}
+use lib.ListN.{length, length-map}
 use Rattle.questions.specs.Questions.{firstNo, question1, question12, question13, mostRungWatchdog, mostInstructionWatchdog}
 use Rattle.questions.specs.Laws.Answers.{watchdog-in-range, in-range-watchdog}
 use Rattle.table.specs.State.{State, stateOf}
 use Rattle.table.specs.Halt.{Halt, Ended, Stopped}
 use Rattle.table.specs.Questions.{question11}
 use Rattle.table.specs.Laws.Alike.{alike-self, same-tables}
-use Rattle.rungs.specs.Records.{longest}
-use Rattle.rungs.specs.Buffers.{Buffers, asBuffers, needs, written, writtenOver, writtenWords, writtenRecords}
-use Rattle.rungs.specs.Laws.Filling.{written-first, row-of-buffers, labels-count, offsets-count, lengths-count}
+use Rattle.rungs.specs.Records.{longest, sum, rowOf}
+use Rattle.rungs.specs.Buffers.{Buffers, asBuffers, needs, writtenOver, writtenWords, writtenRecords}
+use Rattle.rungs.specs.Laws.Filling.{written-first, first-written, row-of-new, labels-count, offsets-count, lengths-count, times-count}
 use Rattle.ladder_definitions.specs.Tree.{Ladder}
 use Rattle.ladder_definitions.specs.Meaning.{scanLadder}
+use Rattle.ladder_definitions.specs.Entries.{timesEntered}
 use Rattle.ladder_definitions.specs.Kept.{Kept}
 use Rattle.ladder_definitions.specs.Questions.{ladderOf, ladderAnswer, Accepted}
 use Rattle.ladder_definitions.specs.LadderScan.{LadderCounts, countsOf as ladderCountsOf, callLadderScan, scanned as ladderScanned, scanEnds as ladderEnds, scanQuestions as ladderScanQuestions}
@@ -26,15 +27,16 @@ use Rattle.ladder_definitions.specs.Laws.Watchdog.{stopped-rungs, few-rungs}
 use Rattle.list_definitions.specs.Instruction.{instrWord, codeOf}
 use Rattle.list_definitions.specs.Machine.{InstructionList, scanList}
 use Rattle.list_definitions.specs.Questions.{question10, listAnswer}
-use Rattle.list_definitions.specs.ListScan.{listOf, callListScan, scanEnds as listEnds, scanQuestions}
+use Rattle.list_definitions.specs.Theorems.{call-times-add-up}
+use Rattle.list_definitions.specs.ListScan.{ListScanCall, countsOf as listCountsOf, listOf, callListScan, scanEnds as listEnds, scanQuestions}
 use Rattle.list_definitions.specs.Laws.Writes.{list-vars}
 use Rattle.translation_definitions.specs.Translate.{translate}
 use Rattle.translation_definitions.specs.TranslateKept.{countsOf, listBuffers, translated, translateKept}
 use Rattle.translation_definitions.specs.Demand3.{EndedAlike, SameSum, StoppedAlike}
-use Rattle.translation_definitions.specs.Agreement.{Agreement, SumsAgree}
-use Rattle.translation_definitions.specs.Calls.{Given, CallsAlike, CallsSums, ScansAgree, CallsAgree}
+use Rattle.translation_definitions.specs.Agreement.{Agreement, SumsAgree, TimesAgree}
+use Rattle.translation_definitions.specs.Calls.{Given, CallsAlike, CallsSums, CallsTimes, ScansAgree, CallsAgree}
 use Rattle.translation_definitions.specs.Laws.Answers.{call-written}
-use Rattle.translation_definitions.specs.Laws.Lists.{below-all, translated-agrees, translated-sums}
+use Rattle.translation_definitions.specs.Laws.Lists.{below-all, translated-agrees, translated-sums, translated-times}
 use Rattle.translation_definitions.specs.Laws.Legal.{list-in-range, list-decodes, watchdog-in-range as most-in-range}
 
 -- ---- both scans, where the list is the ladder's
@@ -65,6 +67,9 @@ module _ (vars : ℕ) (kept : Kept) (table : List ℕ) (n : ℕ)
   sums : SumsAgree gs list s n
   sums = translated-sums vars gs taken s n (alike-self s (record { table = legal }))
 
+  times : TimesAgree gs list s n
+  times = translated-times vars gs taken s n (alike-self s (record { table = legal }))
+
   pub ladder-call : callLadderScan vars kept table n ≡ ladderEnds (scanLadder gs n s)
   unfolding callLadderScan ladderScanQuestions firstNo
   ladder-call =
@@ -83,6 +88,14 @@ module _ (vars : ℕ) (kept : Kept) (table : List ℕ) (n : ℕ)
       let q : firstNo (question1 vars ∷ question10 vars words (list .records) ∷ question11 s ∷ question12 mostInstructionWatchdog w ∷ []) ≡ none
       = rw (taken .range, list-in-range vars gs taken, legal, h) in
       rw (q, callListScan) (ap (λ l. listEnds (scanList l w s)) list-held)
+
+  -- a field for each record, and together the rungs entered
+  pub list-times : (w : ℕ) → question12 mostInstructionWatchdog w ≡ none
+      → (length (scanList list w s .counts .times) ≡ length (list .records)) × (sum (scanList list w s .counts .times) ≡ scanList list w s .counts .rungs)
+  unfolding listEnds
+  list-times w h =
+      let x = scanList list w s in
+      rw (list-call w h) at (call-times-add-up vars words (list .records) table w (x .halt) (listCountsOf x) (ap (λ c. c .answer) (list-call w h)) [])
 
   -- what the ladder scan's answer tells
   answered : (h : Halt) (c : LadderCounts) → callLadderScan vars kept table n .answer ≡ ladderScanned h c
@@ -113,6 +126,13 @@ module _ (vars : ℕ) (kept : Kept) (table : List ℕ) (n : ℕ)
       let a = answered Ended c e in
       rw (list-call w h, ← (a .2)) (sums .ended w (a .0) (rw (a .1) room))
 
+  times-calls : (w : ℕ) (c : LadderCounts) → callLadderScan vars kept table n .answer ≡ ladderScanned Ended c → question12 mostInstructionWatchdog w ≡ none → c .rungs * most ≤ w
+      → (before : List ℕ) → callListScan vars words (list .records) table w .times before ≡ timesEntered gs n s
+  unfolding listEnds
+  times-calls w c e h room before =
+      let a = answered Ended c e in
+      ap (λ (x : ListScanCall). x .times before) (list-call w h) ∙ times .ended w (a .0) (rw (a .1) room)
+
   stopped-calls : (w : ℕ) (c : LadderCounts) → callLadderScan vars kept table n .answer ≡ ladderScanned Stopped c → w ≤ 2 * n
       → StoppedAlike (callListScan vars words (list .records) table w .answer)
   stopped-calls w c e few =
@@ -120,7 +140,7 @@ module _ (vars : ℕ) (kept : Kept) (table : List ℕ) (n : ℕ)
       rw (list-call w (in-range-watchdog mostInstructionWatchdog w (omega arith))) (agrees .stopped w (answered Stopped c e .0) few)
 
   pub scans-alike : ScansAgree vars kept words (list .records) most table n
-  unfolding listAnswer firstNo ladderEnds CallsAlike CallsSums
+  unfolding listAnswer firstNo ladderEnds CallsAlike CallsSums CallsTimes
   scans-alike =
       let few = few-rungs gs n s in
       let most = watchdog-in-range mostRungWatchdog n watchdog in
@@ -134,6 +154,7 @@ module _ (vars : ℕ) (kept : Kept) (table : List ℕ) (n : ℕ)
         stopped-at = stopped-rungs gs n s;
         alike = λ w. record { ended = λ c. ended-calls w c; stopped = λ c. stopped-calls w c };
         sums = λ w. record { ended = λ c. sums-calls w c };
+        times = times-calls;
       }
 
 -- ---- what Translate wrote, taken out again
@@ -152,13 +173,11 @@ module _ (list : InstructionList) (lent : Buffers) where
   pub records-out : writtenRecords (writtenOver (listBuffers list) lent) (countsOf list .rungs) ≡ list .records
   unfolding writtenRecords writtenOver countsOf
   records-out =
-      let ls : take (length (list .records)) (written (new .labels) (lent .labels)) ≡ new .labels
-      = rw (← (labels-count wrote (list .records))) (written-first (new .labels) (lent .labels)) in
-      let os : take (length (list .records)) (written (new .offsets) (lent .offsets)) ≡ new .offsets
-      = rw (← (offsets-count wrote (list .records))) (written-first (new .offsets) (lent .offsets)) in
-      let ns : take (length (list .records)) (written (new .lengths) (lent .lengths)) ≡ new .lengths
-      = rw (← (lengths-count wrote (list .records))) (written-first (new .lengths) (lent .lengths)) in
-      rw (ls, os, ns) (row-of-buffers wrote (list .records))
+      let ls = first-written (length (list .records)) (new .labels) (lent .labels) (labels-count wrote (list .records) _) in
+      let os = first-written (length (list .records)) (new .offsets) (lent .offsets) (offsets-count wrote (list .records) _) in
+      let ns = first-written (length (list .records)) (new .lengths) (lent .lengths) (lengths-count wrote (list .records) _) in
+      let ts = first-written (length (list .records)) (new .times) (lent .times) (times-count wrote (list .records)) in
+      (λ i. rowOf (ls i) (os i) (ns i) (ts i)) ∙ row-of-new wrote (list .records)
 
 pub translate-call : (vars : ℕ) (k : Kept) (lent : Buffers) → ladderAnswer vars k ≡ none → question13 (needs (listBuffers (translate vars (ladderOf k))) lent) ≡ none
     → translateKept vars k lent ≡ record { answer = translated (countsOf (translate vars (ladderOf k))); buffers = writtenOver (listBuffers (translate vars (ladderOf k))) lent }

@@ -3,17 +3,18 @@ use mathlib.Core.Path.{_≡_, refl, ap, _∙_}
 use mathlib.Core.Bool.{Bool, true, false, cond}
 use mathlib.Core.Option.{Option, none, some}
 use mathlib.Core.List.{List, [], _∷_, _++_}
-use Prim.Native.Nat.{ℕ, zero, suc, _+_}
+use Prim.Native.Nat.{ℕ, zero, suc, _+_, _≤_}
 use native.Mathlib.Nat.{zero-add, add-assoc}
 use native.Mathlib.Numerals.{add-one, one-add}
 use native.Mathlib.Omega.{arith}
-use lib.ListN.{drop, getElem?}
+use lib.ListN.{length, drop, getElem?}
 use Rattle.questions.specs.Tests.{bit}
 use Rattle.table.specs.State.{State}
-use Rattle.rungs.specs.Records.{isStart}
+use Rattle.rungs.specs.Records.{isStart, enter}
 use Rattle.ladder_definitions.specs.Meaning.{Run, onward, jumped, left}
 use Rattle.list_definitions.specs.Instruction.{Instr, LD, LDN, ST, STN, AND, ANDN, OR, ORN, XOR, XORN, NOT, JMP, JMPC, JMPCN, S, R}
 use Rattle.list_definitions.specs.Machine.{InstructionList, Counts, Machine, ListResult, does, count, step, scanMachine}
+use Rattle.list_definitions.specs.Laws.Times.{enter-length, enter-none}
 use Rattle.list_definitions.specs.Laws.Watchdog.{scan-step}
 
 -- how many instructions were carried out, the accumulator, and whether the stretch was left by a jump, and to which index
@@ -147,6 +148,27 @@ module _ (l : InstructionList) where
   unfolding counted count entered
   counted-rungs pc zero c = omega arith
   counted-rungs pc (suc n) c = counted-rungs (suc pc) n (count (l .records) pc c) ∙ omega arith
+
+  -- no record is entered where no instruction stands at an offset
+  counted-quiet : (pc n : ℕ) (c : Counts) → entered pc n ≡ 0 → length (c .times) ≡ length (l .records) → counted pc n c .times ≡ c .times
+  unfolding counted count entered
+  counted-quiet pc zero c e k = refl
+  counted-quiet pc (suc n) c e k =
+      go (isStart (l .records) pc) refl (λ f. counted-quiet (suc pc) n (count (l .records) pc c) f (enter-length (l .records) pc (c .times) k))
+    where
+      go : (b : Bool) → isStart (l .records) pc ≡ b → (entered (suc pc) n ≡ 0 → counted (suc pc) n (count (l .records) pc c) .times ≡ enter (l .records) pc (c .times))
+          → counted pc (suc n) c .times ≡ c .times
+      go true q ih = let z = rw q at e in absurd (omega arith)
+      go false q ih = ih (rw (q, zero-add) at e) ∙ enter-none (l .records) pc (c .times) q k
+
+  -- where the first of some instructions alone stands at a record's offset, that record is entered
+  pub counted-times : (pc n : ℕ) (c : Counts) → 1 ≤ n → isStart (l .records) pc ≡ true → entered pc n ≡ 1 → length (c .times) ≡ length (l .records)
+      → counted pc n c .times ≡ enter (l .records) pc (c .times)
+  unfolding counted count entered
+  counted-times pc zero c h q e k = absurd (omega arith)
+  counted-times pc (suc n) c h q e k =
+      let once = rw q at e in
+      counted-quiet (suc pc) n (count (l .records) pc c) (omega arith) (enter-length (l .records) pc (c .times) k)
 
   unfoldable pub resumes : ℕ → ℕ → Counts → Out → ListResult
   resumes k pc c o = scanMachine l k (machine (o .accumulator) (landing pc (o .run) (o .count)) (counted pc (o .count) c)) (left (o .run))

@@ -19,10 +19,10 @@ use Rattle.ladder_definitions.specs.Meaning.{runRung}
 use Rattle.ladder_definitions.specs.Questions.{rungBelow, rungLeads, rungScratch, question6, question8, scratchInRange, question9, Accepted}
 use Rattle.list_definitions.specs.Instruction.{Instr}
 use Rattle.translation_definitions.specs.Translate.{rungCode, listRecords, translate}
-use Rattle.translation_definitions.specs.Agreement.{Agreement, SumsAgree}
+use Rattle.translation_definitions.specs.Agreement.{Agreement, SumsAgree, TimesAgree}
 use Rattle.translation_definitions.specs.Laws.Places.{labelOf, sizeBy, listOf, first}
 use Rattle.translation_definitions.specs.Laws.Parts.{same-length, rung-did}
-use Rattle.translation_definitions.specs.Laws.Scans.{RungDid, agrees, sums-agree}
+use Rattle.translation_definitions.specs.Laws.Scans.{RungDid, agrees, sums-agree, times-agree}
 
 -- what questions 6, 8 and 9 tell of every rung
 pub below-all : (vars : ℕ) (gs : Ladder) → Accepted vars gs → T (all (rungBelow vars) gs)
@@ -80,3 +80,6 @@ module _ (vars : ℕ) (gs : Ladder) where
 
     pub translated-sums : (s : State) (n : ℕ) → Alike vars s s → SumsAgree gs (translate vars gs) s n
     translated-sums s n alike = rw translate-is (sums-agree (Alike vars) (λ a b p. alike-same p) 2 code gs (omega arith) did s n alike (λ a b p. p .same-moved))
+
+    pub translated-times : (s : State) (n : ℕ) → Alike vars s s → TimesAgree gs (translate vars gs) s n
+    translated-times s n alike = rw translate-is (times-agree (Alike vars) (λ a b p. alike-same p) 2 code gs (omega arith) did s n alike (a .differ))

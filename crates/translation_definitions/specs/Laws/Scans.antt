@@ -7,21 +7,24 @@ use mathlib.Core.List.{List, [], _∷_, _++_, flatMap}
 use Prim.Native.Nat.{ℕ, zero, suc, _+_, _-_, _*_, _≤_}
 use native.Mathlib.Nat.{zero-add, add-assoc}
 use native.Mathlib.Omega.{arith}
-use lib.ListN.{length, getElem?, length-append}
+use lib.ListN.{length, getElem?, length-append, replicate, length-replicate}
 use Rattle.table.specs.State.{State, SameButScratch}
 use Rattle.table.specs.Halt.{Halt, Ended, Stopped}
-use Rattle.rungs.specs.Records.{longest}
-use Rattle.rungs.specs.Laws.Layout.{sizes, drop-pieces, longest-at}
+use Rattle.rungs.specs.Records.{lay, longest}
+use Rattle.rungs.specs.Laws.Layout.{sizes, lay-length, drop-pieces, longest-at}
 use Rattle.ladder_definitions.specs.Tree.{Rung, Ladder}
+use Rattle.ladder_definitions.specs.Questions.{question7}
+use Rattle.ladder_definitions.specs.Entries.{entriesFrom, rungsEntered, timesEntered}
 use Rattle.ladder_definitions.specs.Meaning.{Run, left, runRung, follow, LadderResult, scanFrom, scanLadder}
 use Rattle.list_definitions.specs.Instruction.{Instr}
 use Rattle.list_definitions.specs.Machine.{InstructionList, Counts, Machine, fresh, begin, halted, scanMachine, scanList}
 use Rattle.list_definitions.specs.Laws.Watchdog.{scan-end, scan-stop, stops-sooner}
 use Rattle.list_definitions.specs.ListScan.{countsOf, scanEnds, scanned as listScanned}
 use Rattle.translation_definitions.specs.Demand3.{EndedAlike, StoppedAlike}
-use Rattle.translation_definitions.specs.Agreement.{Agreement, SumsAgree}
+use Rattle.translation_definitions.specs.Agreement.{Agreement, SumsAgree, TimesAgree}
 use Rattle.translation_definitions.specs.Laws.Exec.{Out, exec, machine, drop-head, drop-none, same-machine, counted, counted-instructions, counted-rungs, landing, resumes, exec-run}
 use Rattle.translation_definitions.specs.Laws.Places.{labelOf, sizeBy, listOf, followIndex, following, entered-once}
+use Rattle.translation_definitions.specs.Laws.Times.{tallied, tallied-none, tallied-more, tallied-zeros, rung-entered, rung-fields}
 
 -- From accumulator v and state t the code, which stands at index pc, does what the run x of its rung says, in `least` instructions or more.
 pub record RungDid (Alike : State → State → Type 0) (least : ℕ) (codeOf : Rung → List Instr) (gs : Ladder) (pc : ℕ) (code : List Instr) (v : Bool) (t : State) (x : Run) : Type 0 where
@@ -37,8 +40,9 @@ Standing : Halt → Option Instr → Type 0
 Standing Ended o = o ≡ none
 Standing Stopped o = (i : Instr) × (o ≡ some i)
 
--- From accumulator v, index pc, counts c and state t, the scan of l comes to where the ladder scan x, counted from k, halts.
-record Reached (Alike : State → State → Type 0) (least : ℕ) (l : InstructionList) (k : ℕ) (c : Counts) (pc : ℕ) (v : Bool) (t : State) (x : LadderResult) : Type 0 where
+-- From accumulator v, index pc, counts c and state t, the scan of l comes to where the ladder scan x of gs, counted from k, halts, once it has entered the rungs
+-- with the labels ls.
+record Reached (Alike : State → State → Type 0) (least : ℕ) (gs : Ladder) (l : InstructionList) (k : ℕ) (c : Counts) (pc : ℕ) (v : Bool) (t : State) (ls : List ℕ) (x : LadderResult) : Type 0 where
   instructions : ℕ
   entries : ℕ
   accumulator : Bool
@@ -49,6 +53,7 @@ record Reached (Alike : State → State → Type 0) (least : ℕ) (l : Instructi
   rungs : x .rungs ≡ k + entries
   counts-instructions : counts .instructions ≡ c .instructions + instructions
   counts-rungs : counts .rungs ≡ c .rungs + entries
+  counts-times : question7 gs ≡ none → length (c .times) ≡ length gs → counts .times ≡ tallied gs ls (c .times)
   low : entries * least ≤ instructions
   high : instructions ≤ entries * longest (l .records)
   runs : (j : ℕ) → scanMachine l (instructions + j) (machine v pc c) t ≡ scanMachine l j (machine accumulator index counts) state
@@ -74,7 +79,7 @@ module _ (Alike : State → State → Type 0) (equal : (s t : State) → Alike s
 
   -- a scan that halts here
   here : (k : ℕ) (c : Counts) (v : Bool) (pc : ℕ) (s t : State) (h : Halt) → Alike s t → Standing h (getElem? (flatMap code gs) pc)
-      → Reached Alike least (listOf code gs) k c pc v t (record { halt = h; rungs = k; state = s })
+      → Reached Alike least gs (listOf code gs) k c pc v t [] (record { halt = h; rungs = k; state = s })
   unfolding listOf
   here k c v pc s t h p st = record {
     instructions = 0;
@@ -87,6 +92,7 @@ module _ (Alike : State → State → Type 0) (equal : (s t : State) → Alike s
     rungs = omega arith;
     counts-instructions = omega arith;
     counts-rungs = omega arith;
+    counts-times = λ differ many. sym (tallied-none gs (c .times) many);
     low = omega arith;
     high = omega arith;
     runs = λ j. rw zero-add refl;
@@ -101,10 +107,17 @@ module _ (Alike : State → State → Type 0) (equal : (s t : State) → Alike s
   rung-step pre g post v t o e x c j =
       rw x at (exec-run (listOf code gs) (code g) (flatMap code post) (place pre) (drop-pieces code gs pre (g ∷ post) e) j v t c)
 
+  -- every rung has an instruction
+  some-code : (s t : State) (v : Bool) → Alike s t → (pre : Ladder) (g : Rung) (post : Ladder) → gs ≡ pre ++ g ∷ post → 1 ≤ length (code g)
+  some-code s t v p pre g post e =
+      let d = did pre g post e s t v p in
+      let low = d .low in let high = d .high in
+      omega arith
+
   -- the scan from the rungs `rest` on
   reached : (n k : ℕ) (c : Counts) (v : Bool) (pre rest : Ladder) (s t : State) → gs ≡ pre ++ rest → Alike s t
-      → Reached Alike least (listOf code gs) k c (place pre) v t (scanFrom gs n k rest s)
-  unfolding scanFrom flatMap Standing listOf
+      → Reached Alike least gs (listOf code gs) k c (place pre) v t (entriesFrom gs n rest s) (scanFrom gs n k rest s)
+  unfolding scanFrom entriesFrom flatMap Standing listOf
   reached zero k c v pre [] s t e p = here k c v (place pre) s t Ended p (drop-none (flatMap code gs) (place pre) (drop-pieces code gs pre [] e))
   reached zero k c v pre (g ∷ rest) s t e p =
       let d = did pre g rest e s t v p in
@@ -137,6 +150,11 @@ module _ (Alike : State → State → Type 0) (equal : (s t : State) → Alike s
         rungs = yr ∙ omega arith;
         counts-instructions = omega arith;
         counts-rungs = omega arith;
+        counts-times = λ differ many.
+            let long = some-code s t v p in
+            y .counts-times differ (rung-fields code gs differ long pre g rest e m c (omega arith) high many)
+            ∙ ap (tallied gs (entriesFrom gs n (follow gs rest x) (left x))) (rung-entered code gs differ long pre g rest e m c (omega arith) high many)
+            ∙ tallied-more gs (g .label) (entriesFrom gs n (follow gs rest x) (left x)) (c .times);
         low = omega arith;
         high = omega arith;
         runs = λ j. ap (λ i. scanMachine (listOf code gs) i (machine v (place pre) c) t) (add-assoc m (y .instructions) j)
@@ -147,8 +165,8 @@ module _ (Alike : State → State → Type 0) (equal : (s t : State) → Alike s
       }
 
   module _ (s : State) (n : ℕ) (alike : Alike s s) where
-    both : Reached Alike least (listOf code gs) 0 (begin (listOf code gs) .counts) 0 false s (scanLadder gs n s)
-    unfolding scanLadder sizes
+    both : Reached Alike least gs (listOf code gs) 0 (begin (listOf code gs) .counts) 0 false s (rungsEntered gs n s) (scanLadder gs n s)
+    unfolding scanLadder rungsEntered sizes
     both = reached n 0 (begin (listOf code gs) .counts) false [] gs s s refl alike
 
     abbrev last : Machine
@@ -215,4 +233,16 @@ module _ (Alike : State → State → Type 0) (equal : (s t : State) → Alike s
             ended = ap (λ x. scanEnds x .answer) (ended-at w e h);
             same = sym (moved _ _ (both .alike));
           };
+        }
+
+    -- where no two rungs have one label
+    pub times-agree : question7 gs ≡ none → TimesAgree gs (listOf code gs) s n
+    unfolding halted begin fresh listOf timesEntered
+    times-agree differ =
+        let many = lay-length labelOf (sizeBy code) 0 gs in
+        record {
+          ended = λ w e h. ap (λ x. x .counts .times) (ended-at w e h)
+              ∙ both .counts-times differ (length-replicate (length (lay labelOf (sizeBy code) 0 gs)) 0 ∙ many)
+              ∙ ap (λ (m : ℕ). tallied gs (rungsEntered gs n s) (replicate m 0)) many
+              ∙ tallied-zeros gs (rungsEntered gs n s);
         }

@@ -1,7 +1,7 @@
 -- `translation_rows::translate` meets its contract: a walk of its MIR, by hand. `long_holds` and `gather` look at the row, `translate_fields` translates into the lent code and into fields by value, these are scattered into the code's row, and the answer is taken out of what `translate_fields` gave. Of the callees the proof knows only that they meet their contracts.
 -- The two `&mut` are needed once each: each goes to its callee at its own lifetime, share and name. The words and the row are Copy: two copies of each go to callees and the third is kept.
 -- Assumes nothing.
-use mathlib.Core.Path.{_≡_, refl, sym, subst}
+use mathlib.Core.Path.{_≡_, refl}
 use mathlib.Core.Bool.{Bool}
 use Prim.Native.Nat.{ℕ, _<_, _≤_, _^_}
 use mathlib.Core.List.{[], _∷_, List}
@@ -40,11 +40,11 @@ use denote.Triple.Statement.{Contract, Triple}
 use denote.Triple.Table.{entered, cited}
 use denote.Triple.Walked.{says, Stays, stay-none, stay-none-slice, gave-slice, walkOf, goes-none, goes-none-slice, goes-gave-slice, Walks, ends-at, walked, walk-meets}
 use denote.Exit.{yes}
-use Rattle.rungs.specs.Records.{RungRecord}
-use Rattle.rungs.specs.Buffers.{asBuffers}
-use Rattle.rows.specs.Rows.{recordsOf}
+use Rattle.rungs.specs.Records.{noneEntered}
+use Rattle.rungs.specs.Buffers.{asBuffers, written}
+use Rattle.rows.specs.Rows.{recordsOf, timesOf}
 use Rattle.rows.specs.Parts.{gathered, scattered}
-use Rattle.rows.specs.Laws.Records.{records-length}
+use Rattle.rows.specs.Laws.Records.{records-length, times-records}
 use Rattle.rows.specs.declared.Rung.{Rung}
 use Rattle.rows.specs.declared.Rows.{Rows}
 use Rattle.ladder_rows.specs.Parts.{longHolds}
@@ -249,15 +249,20 @@ module _ {M : Type 1} (𝓤 : URA M) (H : Heap 𝓤) (A : Atoms 𝓤) (W : Given
   abbrev Said : Rows → Bool → TranslatedFields → List ℕ → Type 0
   Said g l r after = FieldsTranslated vars (words .now) g l (code .now) lent r after
 
-  abbrev Promised : Translated → List ℕ → List RungRecord → Type 0
-  Promised a after rs = TranslateDone (translateKept vars (record { words = words .now; records = recordsOf (row .now) }) (asBuffers (code .now) (recordsOf (code-row .now)))) a (asBuffers after rs)
+  abbrev Promised : Translated → List ℕ → List Rung → Type 0
+  Promised a zs os = TranslateDone (translateKept vars (record { words = words .now; records = recordsOf (row .now) }) (asBuffers (code .now) (recordsOf (code-row .now)) (timesOf (code-row .now)))) a (asBuffers zs (recordsOf os) (timesOf os))
+
+  -- the code's row, with the fields that are kept scattered into it
+  abbrev Scattered : TranslatedFields → List Rung → Type 0
+  Scattered r os = (recordsOf os ≡ scattered (r .rows .kept) (r .rows) (recordsOf (code-row .now))) × (timesOf os ≡ written (noneEntered (r .rows .kept)) (timesOf (code-row .now)))
 
   -- what is promised, from what the callees say
   translate-done : (g : Rows) (l : Bool) (r : TranslatedFields) (zs : List ℕ) (os : List Rung) → g ≡ gathered (recordsOf (row .now)) → l ≡ longHolds (words .now) (recordsOf (row .now)) → Said g l r zs
-      → recordsOf os ≡ scattered (r .rows .kept) (r .rows) (recordsOf (code-row .now)) → Promised (r .answer) zs (recordsOf os)
-  translate-done g l r zs os eg el e eo = subst (λ (rs : List RungRecord). Promised (r .answer) zs rs) (sym eo) (e .same (recordsOf (row .now)) eg el (recordsOf (code-row .now)) (records-length (code-row .now)))
+      → Scattered r os → Promised (r .answer) zs os
+  translate-done g l r zs os eg el e eo =
+      rw (eo .0, eo .1) (e .same (recordsOf (row .now)) eg el (recordsOf (code-row .now)) (timesOf (code-row .now)) (records-length (code-row .now)) (times-records (code-row .now)))
 
-  exits : (a : Translated) (v : Val) (zs : List ℕ) (os : List Rung) → Promised a zs (recordsOf os) → length zs ≡ length (code .now) → length os ≡ lent → Is E.the-row a (v ∷ [])
+  exits : (a : Translated) (v : Val) (zs : List ℕ) (os : List Rung) → Promised a zs os → length zs ≡ length (code .now) → length os ≡ lent → Is E.the-row a (v ∷ [])
       → ent 𝓤 (⋆ 𝓤 H A (tokens ∷ token κ₁ q₁ ∷ token κ₃ q₃ ∷ ‵ Own-words ∷ ‵ Own-row ∷ ‵ (finally u32 (code .name) zs) ∷ ‵ (finally T.the-row (code-row .name) os) ∷ [])) (Post v)
   exits a v zs os e lz lo is =
       qed W (tokens ∷ token κ₁ q₁ ∷ token κ₃ q₃ ∷ ‵ Own-words ∷ ‵ Own-row ∷ ‵ (finally u32 (code .name) zs) ∷ ‵ (finally T.the-row (code-row .name) os) ∷ []) ∵
@@ -337,8 +342,8 @@ module _ {M : Type 1} (𝓤 : URA M) (H : Heap 𝓤) (A : Atoms 𝓤) (W : Given
         move ! (36 ∷ 35 ∷ []) $ use2 W (raw (Scatter 𝓤 H A at-mem run .pre (to-scatter (r .rows) w k))) (goes-scatter (r .rows) w k is-rows is-kept (e .few, e .within)) $
         calls-at ! fm (Scatter 𝓤 H A at-mem run) known-scatter (to-scatter (r .rows) w k) (and-then ! (load ! (from ! (stop !)) (look ! 4 refl)) (and-then ! (load ! (from ! (stop !)) (look ! 16 refl)) (and-then ! (load ! (from ! (stop !)) (look ! 10 refl)) (no-more !)))) (λ u.
         use1 W (later (some (λ (n : Unit {0}). (token κ₃ q₃ ⊛ ‵ (unit .own n (u ∷ []))) ⊛ raw (ensured 𝓤 H A scatter.ended (scatter.clauses 𝓤 H A at-mem run) (κ₃, tt) (for-scatter (r .rows)) tt n)))) (id⊢ 𝓤 _) $ await ! tt $ pick ! (λ n.
-        split ! $ move ! (1 ∷ []) $ use1 W (some (λ (os : List Rung × (Unit {0} × (Unit {0} × Unit {0}))). ‵ (lasts scatter.ended (κ₃, tt) (for-scatter (r .rows)) os) ⊛ raw (fact 𝓤 (recordsOf (os .0) ≡ scattered (r .rows .kept) (r .rows) (recordsOf (code-row .now)))))) (id⊢ 𝓤 _) $ pick ! (λ os.
-        split ! $ move ! (1 ∷ []) $ heard ! (recordsOf (os .0) ≡ scattered (r .rows .kept) (r .rows) (recordsOf (code-row .now))) (λ eo. fsplit ! $ fsplit ! $ move ! (1 ∷ []) $ feqL ! (λ lo. move ! (1 ∷ []) $ drop ! $
+        split ! $ move ! (1 ∷ []) $ use1 W (some (λ (os : List Rung × (Unit {0} × (Unit {0} × Unit {0}))). ‵ (lasts scatter.ended (κ₃, tt) (for-scatter (r .rows)) os) ⊛ raw (fact 𝓤 (Scattered r (os .0))))) (id⊢ 𝓤 _) $ pick ! (λ os.
+        split ! $ move ! (1 ∷ []) $ heard ! (Scattered r (os .0)) (λ eo. fsplit ! $ fsplit ! $ move ! (1 ∷ []) $ feqL ! (λ lo. move ! (1 ∷ []) $ drop ! $
         move ! (1 ∷ []) $ split ! $ move ! (1 ∷ []) $ facts ! unit (Is unit) (shows 𝓤 H A unit) n (u ∷ []) (λ is-unit.
         -- [κ₃'s token; the code's row's last list; the tokens of κ₀ and κ₂; the code's last list; κ₁'s token; _14; …; _0; …; the row; the words]
         land ! (from ! (stop !)) (init ! 9 refl (nothing-lawful 𝓤 H A W .typed n _ is-unit .0)) $

@@ -3,7 +3,7 @@ use mathlib.Core.Path.{sym, _∙_}
 use lib.Seq.{length-take-le}
 use Rattle.rows.proofs.Fields.{within}
 use Rattle.rows.specs.Laws.Written.{room-few}
-use Rattle.translation_rows.proofs.Answers.{long-refused, fields-refused, fields-written}
+use Rattle.translation_rows.proofs.Answers.{long-refused, fields-done}
 use borrow.Author.Needs.{needs}
 use Rattle.translation_rows.proofs.translate_fields.Statement.{statement}
 use Rattle.translation_rows.proofs.translate_fields.Tie as tie
@@ -38,44 +38,47 @@ array-share-prefix-lengths c = within (c .before .before .before .before .before
 slice-aggregate-translate-3 : tie.Need-slice-aggregate-translate-3
 slice-aggregate-translate-3 c = sym (length-take-le _ _ (within (c .before .before .before .before .before .before .before .before .before .before .before .args .rows) _ (c .before .before .before .before .before .before .before .before .before .before .before .good .1 .1 .0) (c .before .before .before .before .before .before .before .if1 .left) .lengths))
 
-array-borrow-prefix-code-labels : tie.Need-array-borrow-prefix-code-labels
-array-borrow-prefix-code-labels c = search needs
+array-share-prefix-times : tie.Need-array-share-prefix-times
+array-share-prefix-times c = c .before .before .before .before .before .before .before .if1 .left
 
 slice-aggregate-translate-4 : tie.Need-slice-aggregate-translate-4
-slice-aggregate-translate-4 c = sym (length-take-le _ _ (room-few _ _ (c .before .before .before .before .before .room .ensures)))
+slice-aggregate-translate-4 c = sym (length-take-le _ _ (c .before .before .before .before .before .before .before .before .if1 .left))
 
-array-borrow-prefix-code-offsets : tie.Need-array-borrow-prefix-code-offsets
-array-borrow-prefix-code-offsets c = search needs
+array-borrow-prefix-code-labels : tie.Need-array-borrow-prefix-code-labels
+array-borrow-prefix-code-labels c = search needs
 
 slice-aggregate-translate-5 : tie.Need-slice-aggregate-translate-5
 slice-aggregate-translate-5 c = sym (length-take-le _ _ (room-few _ _ (c .before .before .before .before .before .before .room .ensures)))
 
-array-borrow-prefix-code-lengths : tie.Need-array-borrow-prefix-code-lengths
-array-borrow-prefix-code-lengths c = search needs
+array-borrow-prefix-code-offsets : tie.Need-array-borrow-prefix-code-offsets
+array-borrow-prefix-code-offsets c = search needs
 
 slice-aggregate-translate-6 : tie.Need-slice-aggregate-translate-6
 slice-aggregate-translate-6 c = sym (length-take-le _ _ (room-few _ _ (c .before .before .before .before .before .before .before .room .ensures)))
 
+array-borrow-prefix-code-lengths : tie.Need-array-borrow-prefix-code-lengths
+array-borrow-prefix-code-lengths c = search needs
+
+slice-aggregate-translate-7 : tie.Need-slice-aggregate-translate-7
+slice-aggregate-translate-7 c = sym (length-take-le _ _ (room-few _ _ (c .before .before .before .before .before .before .before .before .room .ensures)))
+
+array-borrow-prefix-code-times : tie.Need-array-borrow-prefix-code-times
+array-borrow-prefix-code-times c = search needs
+
+slice-aggregate-translate-8 : tie.Need-slice-aggregate-translate-8
+slice-aggregate-translate-8 c = sym (length-take-le _ _ (room-few _ _ (c .before .before .before .before .before .before .before .before .before .room .ensures)))
+
 translate-requires : tie.Need-translate-requires
 translate-requires c κs = search needs
 
-enum-known-answer : tie.Need-enum-known-answer
-enum-known-answer c = search needs
-
-enum-told : tie.Need-enum-told
-enum-told c = search needs
+rungs-in-requires : tie.Need-rungs-in-requires
+rungs-in-requires c κs = search needs
 
 same-length : tie.Need-same-length
 same-length c = search needs
 
 returns-2 : tie.Need-returns-2
-returns-2 c = fields-written _ _ _ _ _ _ (c .before .before .before .before .before .before .before .before .before .before .before .before .before .before .before .before .before .before .before .before .if1 .left) _ _ _ (length-take-le _ _ (room-few _ _ (c .before .before .before .before .before .before .before .before .before .before .before .before .before .before .before .before .room .ensures)) ∙ c .before .before .before .before .before .before .before .before .before .before .before .before .before .before .before .before .room .ensures) (length-take-le _ _ (room-few _ _ (c .before .before .before .before .before .before .before .before .before .before .before .before .before .before .before .before .room .ensures)) ∙ c .before .before .before .before .before .before .before .before .before .before .before .before .before .before .before .before .room .ensures) (length-take-le _ _ (room-few _ _ (c .before .before .before .before .before .before .before .before .before .before .before .before .before .before .before .before .room .ensures)) ∙ c .before .before .before .before .before .before .before .before .before .before .before .before .before .before .before .before .room .ensures) _ _ _ _ _ _ (c .before .before .before .before .before .before .before .before .translate .ensures) _ (c .before .answer .given .1) (c .before .before .before .before .before .before .before .before .translate .kept .1 .1 .1 .1 .1 .1 .0) (c .before .before .before .before .before .before .before .before .translate .kept .1 .1 .1 .1 .1 .1 .1 .0) (c .before .before .before .before .before .before .before .before .translate .kept .1 .1 .1 .1 .1 .1 .1 .1 .0)
-
-same-length-2 : tie.Need-same-length-2
-same-length-2 c = search needs
-
-returns-3 : tie.Need-returns-3
-returns-3 c = fields-refused _ _ _ _ _ _ (c .before .before .before .before .before .before .before .before .before .before .before .before .before .before .before .before .before .before .before .if1 .left) _ _ _ (length-take-le _ _ (room-few _ _ (c .before .before .before .before .before .before .before .before .before .before .before .before .before .before .before .room .ensures)) ∙ c .before .before .before .before .before .before .before .before .before .before .before .before .before .before .before .room .ensures) (length-take-le _ _ (room-few _ _ (c .before .before .before .before .before .before .before .before .before .before .before .before .before .before .before .room .ensures)) ∙ c .before .before .before .before .before .before .before .before .before .before .before .before .before .before .before .room .ensures) (length-take-le _ _ (room-few _ _ (c .before .before .before .before .before .before .before .before .before .before .before .before .before .before .before .room .ensures)) ∙ c .before .before .before .before .before .before .before .before .before .before .before .before .before .before .before .room .ensures) _ _ _ _ _ _ (c .before .before .before .before .before .before .before .translate .ensures) _ (c .enum-told .given .1)
+returns-2 c = rw (c .rungs-in .ensures) (fields-done _ _ _ _ _ _ (c .before .before .before .before .before .before .before .before .before .before .before .before .before .before .before .before .before .before .before .before .before .if1 .left) _ (length-take-le _ _ (within (c .before .before .before .before .before .before .before .before .before .before .before .before .before .before .before .before .before .before .before .before .before .before .before .before .before .args .rows) _ (c .before .before .before .before .before .before .before .before .before .before .before .before .before .before .before .before .before .before .before .before .before .before .before .before .before .good .1 .1 .0) (c .before .before .before .before .before .before .before .before .before .before .before .before .before .before .before .before .before .before .before .before .before .if1 .left) .labels) ∙ sym (length-take-le _ _ (c .before .before .before .before .before .before .before .before .before .before .before .before .before .before .before .before .before .before .before .before .before .if1 .left))) _ _ _ _ (length-take-le _ _ (room-few _ _ (c .before .before .before .before .before .before .before .before .before .before .before .before .before .before .before .before .before .room .ensures)) ∙ c .before .before .before .before .before .before .before .before .before .before .before .before .before .before .before .before .before .room .ensures) (length-take-le _ _ (room-few _ _ (c .before .before .before .before .before .before .before .before .before .before .before .before .before .before .before .before .before .room .ensures)) ∙ c .before .before .before .before .before .before .before .before .before .before .before .before .before .before .before .before .before .room .ensures) (length-take-le _ _ (room-few _ _ (c .before .before .before .before .before .before .before .before .before .before .before .before .before .before .before .before .before .room .ensures)) ∙ c .before .before .before .before .before .before .before .before .before .before .before .before .before .before .before .before .before .room .ensures) (length-take-le _ _ (room-few _ _ (c .before .before .before .before .before .before .before .before .before .before .before .before .before .before .before .before .before .room .ensures)) ∙ c .before .before .before .before .before .before .before .before .before .before .before .before .before .before .before .before .before .room .ensures) _ _ _ _ _ _ _ (c .before .before .before .before .before .before .before .translate .ensures) (c .before .before .before .before .before .before .before .translate .kept .1 .1 .1 .1 .1 .1 .1 .0) (c .before .before .before .before .before .before .before .translate .kept .1 .1 .1 .1 .1 .1 .1 .1 .0) (c .before .before .before .before .before .before .before .translate .kept .1 .1 .1 .1 .1 .1 .1 .1 .1 .0))
 
 pub translate-fields-spec : {M : Type 1} → statement M
 translate-fields-spec =
@@ -91,16 +94,17 @@ translate-fields-spec =
     slice-aggregate-translate-2
     array-share-prefix-lengths
     slice-aggregate-translate-3
-    array-borrow-prefix-code-labels
+    array-share-prefix-times
     slice-aggregate-translate-4
-    array-borrow-prefix-code-offsets
+    array-borrow-prefix-code-labels
     slice-aggregate-translate-5
-    array-borrow-prefix-code-lengths
+    array-borrow-prefix-code-offsets
     slice-aggregate-translate-6
+    array-borrow-prefix-code-lengths
+    slice-aggregate-translate-7
+    array-borrow-prefix-code-times
+    slice-aggregate-translate-8
     translate-requires
-    enum-known-answer
-    enum-told
+    rungs-in-requires
     same-length
-    returns-2
-    same-length-2
-    returns-3)
+    returns-2)

@@ -1,36 +1,23 @@
--- `answers::ladders::answer_scan` meets its contract. The loop counts the turns down and keeps the lengths. Assumes nothing.
-use mathlib.Core.Path.{_≡_, refl, sym}
+-- `answers::ladders::answer_scan` is safe and ends: the loop counts the turns down and keeps the lengths. Assumes nothing.
+use mathlib.Core.Path.{_≡_, refl}
 use Prim.Native.Nat.{_≤_}
 use lib.ListN.{length}
 use native.Mathlib.Omega.{arith}
-use lib.Seq.{length-take-le}
 use borrow.Author.Needs.{needs}
 use Rattle.test_answers.proofs.ladders.answer_scan.Statement.{statement}
 use Rattle.test_answers.proofs.ladders.answer_scan.Tie as tie
 
 abbrev Inv-loop : tie.InvT-loop
-Inv-loop room placed lent words labels offsets lengths given table₀ watchdog turns n m answer₀ left₀ table answer left = (left ≤ turns) × (length table ≡ length table₀)
+Inv-loop room placed vars words labels offsets lengths times given table₀ watchdog turns answer₀ left₀ table answer left = (left ≤ turns) × (length table ≡ length table₀)
 
 abbrev μ-loop : tie.MeasureT-loop
-μ-loop room placed lent words labels offsets lengths given table₀ watchdog turns n m answer₀ left₀ table answer left = left
+μ-loop room placed vars words labels offsets lengths times given table₀ watchdog turns answer₀ left₀ table answer left = left
 
 loop-holds : tie.Need-loop-holds Inv-loop μ-loop
 loop-holds c = (omega arith, refl)
 
 copy-bytes-requires : tie.Need-copy-bytes-requires Inv-loop μ-loop
 copy-bytes-requires c κs = search needs
-
-slice-aggregate-ladder-scan : tie.Need-slice-aggregate-ladder-scan Inv-loop μ-loop
-slice-aggregate-ladder-scan c = sym (length-take-le _ _ (search needs))
-
-slice-aggregate-ladder-scan-2 : tie.Need-slice-aggregate-ladder-scan-2 Inv-loop μ-loop
-slice-aggregate-ladder-scan-2 c = sym (length-take-le _ _ (search needs))
-
-slice-aggregate-ladder-scan-3 : tie.Need-slice-aggregate-ladder-scan-3 Inv-loop μ-loop
-slice-aggregate-ladder-scan-3 c = sym (length-take-le _ _ (search needs))
-
-slice-aggregate-ladder-scan-4 : tie.Need-slice-aggregate-ladder-scan-4 Inv-loop μ-loop
-slice-aggregate-ladder-scan-4 c = sym (length-take-le _ _ (search needs))
 
 ladder-scan-requires : tie.Need-ladder-scan-requires Inv-loop μ-loop
 ladder-scan-requires c κs = search needs
@@ -70,10 +57,6 @@ answer-scan-spec =
     μ-loop
     loop-holds
     copy-bytes-requires
-    slice-aggregate-ladder-scan
-    slice-aggregate-ladder-scan-2
-    slice-aggregate-ladder-scan-3
-    slice-aggregate-ladder-scan-4
     ladder-scan-requires
     sub-left
     loop-less

@@ -1,6 +1,5 @@
--- `answers::ladders::scan_request` meets its contract. Counts that were read stay within the arrays that are lent. Assumes nothing.
+-- `answers::ladders::scan_request` is safe and ends: counts that were read stay within the arrays that are lent. Assumes nothing.
 use mathlib.Core.Path.{sym}
-use native.Mathlib.Omega.{arith}
 use lib.Seq.{length-take-le}
 use borrow.Author.Needs.{needs}
 use Rattle.test_answers.proofs.ladders.scan_request.Statement.{statement}
@@ -18,68 +17,53 @@ slice-aggregate-read-lent-3 c = search needs
 slice-aggregate-read-lent-4 : tie.Need-slice-aggregate-read-lent-4
 slice-aggregate-read-lent-4 c = search needs
 
+slice-aggregate-read-lent-5 : tie.Need-slice-aggregate-read-lent-5
+slice-aggregate-read-lent-5 c = search needs
+
 read-lent-requires : tie.Need-read-lent-requires
 read-lent-requires c κs = search needs
 
-slice-aggregate-read-table : tie.Need-slice-aggregate-read-table
-slice-aggregate-read-table c = search needs
+array-share-prefix-words : tie.Need-array-share-prefix-words
+array-share-prefix-words c = search needs
 
-read-table-requires : tie.Need-read-table-requires
-read-table-requires c κs = search needs
+slice-aggregate-scan-lent : tie.Need-slice-aggregate-scan-lent
+slice-aggregate-scan-lent c = sym (length-take-le _ _ (search needs))
 
-more-requires : tie.Need-more-requires
-more-requires c κs = search needs
+array-share-prefix-labels : tie.Need-array-share-prefix-labels
+array-share-prefix-labels c = search needs
 
-is-line-end-requires : tie.Need-is-line-end-requires
-is-line-end-requires c κs = search needs
+slice-aggregate-scan-lent-2 : tie.Need-slice-aggregate-scan-lent-2
+slice-aggregate-scan-lent-2 c = sym (length-take-le _ _ (search needs))
 
-refuse-requires : tie.Need-refuse-requires
-refuse-requires c κs = search needs
+array-share-prefix-offsets : tie.Need-array-share-prefix-offsets
+array-share-prefix-offsets c = search needs
+
+slice-aggregate-scan-lent-3 : tie.Need-slice-aggregate-scan-lent-3
+slice-aggregate-scan-lent-3 c = sym (length-take-le _ _ (search needs))
+
+array-share-prefix-lengths : tie.Need-array-share-prefix-lengths
+array-share-prefix-lengths c = search needs
+
+slice-aggregate-scan-lent-4 : tie.Need-slice-aggregate-scan-lent-4
+slice-aggregate-scan-lent-4 c = sym (length-take-le _ _ (search needs))
+
+array-share-prefix-times : tie.Need-array-share-prefix-times
+array-share-prefix-times c = search needs
+
+slice-aggregate-scan-lent-5 : tie.Need-slice-aggregate-scan-lent-5
+slice-aggregate-scan-lent-5 c = sym (length-take-le _ _ (search needs))
+
+scan-lent-requires : tie.Need-scan-lent-requires
+scan-lent-requires c κs = search needs
 
 same-length : tie.Need-same-length
 same-length c = search needs
 
+same-length-2 : tie.Need-same-length-2
+same-length-2 c = search needs
+
 returns : tie.Need-returns
 returns c = search needs
-
-slice-aggregate-answer-scan : tie.Need-slice-aggregate-answer-scan
-slice-aggregate-answer-scan c = search needs
-
-slice-aggregate-answer-scan-2 : tie.Need-slice-aggregate-answer-scan-2
-slice-aggregate-answer-scan-2 c = search needs
-
-slice-aggregate-answer-scan-3 : tie.Need-slice-aggregate-answer-scan-3
-slice-aggregate-answer-scan-3 c = search needs
-
-slice-aggregate-answer-scan-4 : tie.Need-slice-aggregate-answer-scan-4
-slice-aggregate-answer-scan-4 c = search needs
-
-array-share-prefix-given : tie.Need-array-share-prefix-given
-array-share-prefix-given c = search needs
-
-slice-aggregate-answer-scan-5 : tie.Need-slice-aggregate-answer-scan-5
-slice-aggregate-answer-scan-5 c = sym (length-take-le _ _ (search needs))
-
-array-borrow-prefix-table : tie.Need-array-borrow-prefix-table
-array-borrow-prefix-table c = search needs
-
-slice-aggregate-answer-scan-6 : tie.Need-slice-aggregate-answer-scan-6
-slice-aggregate-answer-scan-6 c = sym (length-take-le _ _ (search needs))
-
-answer-scan-requires : tie.Need-answer-scan-requires
-answer-scan-requires c κs = search needs
-
-same-length-2 : tie.Need-same-length-2
-same-length-2 c =
-    let more = c .before .before .before .before .before .before .before .before .before .before .before .before .before .before .before in
-    let table = more .before .before .before .before .before in
-    omega (arith, more .more .kept, table .read-table .kept, table .before .before .before .before .before .before .before .before .before .read-lent .kept)
-
-same-length-3 : tie.Need-same-length-3
-same-length-3 c = search needs
-
-returns-2 : tie.Need-returns-2
-returns-2 c = search needs
 
 pub scan-request-spec : {M : Type 1} → statement M
 scan-request-spec =
@@ -89,23 +73,19 @@ scan-request-spec =
     slice-aggregate-read-lent-2
     slice-aggregate-read-lent-3
     slice-aggregate-read-lent-4
+    slice-aggregate-read-lent-5
     read-lent-requires
-    slice-aggregate-read-table
-    read-table-requires
-    more-requires
-    is-line-end-requires
-    refuse-requires
+    array-share-prefix-words
+    slice-aggregate-scan-lent
+    array-share-prefix-labels
+    slice-aggregate-scan-lent-2
+    array-share-prefix-offsets
+    slice-aggregate-scan-lent-3
+    array-share-prefix-lengths
+    slice-aggregate-scan-lent-4
+    array-share-prefix-times
+    slice-aggregate-scan-lent-5
+    scan-lent-requires
     same-length
-    returns
-    slice-aggregate-answer-scan
-    slice-aggregate-answer-scan-2
-    slice-aggregate-answer-scan-3
-    slice-aggregate-answer-scan-4
-    array-share-prefix-given
-    slice-aggregate-answer-scan-5
-    array-borrow-prefix-table
-    slice-aggregate-answer-scan-6
-    answer-scan-requires
     same-length-2
-    same-length-3
-    returns-2)
+    returns)

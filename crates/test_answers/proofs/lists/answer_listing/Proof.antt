@@ -1,33 +1,20 @@
--- `answers::lists::answer_listing` meets its contract. The loop counts the turns down and keeps the lengths. Assumes nothing.
-use mathlib.Core.Path.{_≡_, refl, sym}
+-- `answers::lists::answer_listing` is safe and ends: the loop counts the turns down and keeps the lengths. Assumes nothing.
+use mathlib.Core.Path.{_≡_, refl}
 use Prim.Native.Nat.{_≤_}
 use lib.ListN.{length}
 use native.Mathlib.Omega.{arith}
-use lib.Seq.{length-take-le}
 use borrow.Author.Needs.{needs}
 use Rattle.test_answers.proofs.lists.answer_listing.Statement.{statement}
 use Rattle.test_answers.proofs.lists.answer_listing.Tie as tie
 
 abbrev Inv-loop : tie.InvT-loop
-Inv-loop room placed lent code labels offsets lengths out₀ turns n m answer₀ left₀ out answer left = (left ≤ turns) × (length out ≡ length out₀)
+Inv-loop room placed vars code labels offsets lengths times out₀ turns answer₀ left₀ out answer left = (left ≤ turns) × (length out ≡ length out₀)
 
 abbrev μ-loop : tie.MeasureT-loop
-μ-loop room placed lent code labels offsets lengths out₀ turns n m answer₀ left₀ out answer left = left
+μ-loop room placed vars code labels offsets lengths times out₀ turns answer₀ left₀ out answer left = left
 
 loop-holds : tie.Need-loop-holds Inv-loop μ-loop
 loop-holds c = (omega arith, refl)
-
-slice-aggregate-listing : tie.Need-slice-aggregate-listing Inv-loop μ-loop
-slice-aggregate-listing c = sym (length-take-le _ _ (search needs))
-
-slice-aggregate-listing-2 : tie.Need-slice-aggregate-listing-2 Inv-loop μ-loop
-slice-aggregate-listing-2 c = sym (length-take-le _ _ (search needs))
-
-slice-aggregate-listing-3 : tie.Need-slice-aggregate-listing-3 Inv-loop μ-loop
-slice-aggregate-listing-3 c = sym (length-take-le _ _ (search needs))
-
-slice-aggregate-listing-4 : tie.Need-slice-aggregate-listing-4 Inv-loop μ-loop
-slice-aggregate-listing-4 c = sym (length-take-le _ _ (search needs))
 
 listing-requires : tie.Need-listing-requires Inv-loop μ-loop
 listing-requires c κs = search needs
@@ -66,10 +53,6 @@ answer-listing-spec =
     Inv-loop
     μ-loop
     loop-holds
-    slice-aggregate-listing
-    slice-aggregate-listing-2
-    slice-aggregate-listing-3
-    slice-aggregate-listing-4
     listing-requires
     sub-left
     loop-less

@@ -1,12 +1,9 @@
--- `answers::lists::listing_request` meets its contract. Counts that were read stay within the arrays that are lent. Assumes nothing.
+-- `answers::lists::listing_request` is safe and ends: counts that were read stay within the arrays that are lent. Assumes nothing.
 use mathlib.Core.Path.{sym}
 use lib.Seq.{length-take-le}
 use borrow.Author.Needs.{needs}
 use Rattle.test_answers.proofs.lists.listing_request.Statement.{statement}
 use Rattle.test_answers.proofs.lists.listing_request.Tie as tie
-
-blank-listing-requires : tie.Need-blank-listing-requires
-blank-listing-requires c κs = search needs
 
 slice-aggregate-read-lent : tie.Need-slice-aggregate-read-lent
 slice-aggregate-read-lent c = search needs
@@ -20,80 +17,75 @@ slice-aggregate-read-lent-3 c = search needs
 slice-aggregate-read-lent-4 : tie.Need-slice-aggregate-read-lent-4
 slice-aggregate-read-lent-4 c = search needs
 
+slice-aggregate-read-lent-5 : tie.Need-slice-aggregate-read-lent-5
+slice-aggregate-read-lent-5 c = search needs
+
 read-lent-requires : tie.Need-read-lent-requires
 read-lent-requires c κs = search needs
 
-limited-requires : tie.Need-limited-requires
-limited-requires c κs = search needs
+array-share-prefix-code : tie.Need-array-share-prefix-code
+array-share-prefix-code c = search needs
 
-is-line-end-requires : tie.Need-is-line-end-requires
-is-line-end-requires c κs = search needs
+slice-aggregate-listing-lent : tie.Need-slice-aggregate-listing-lent
+slice-aggregate-listing-lent c = sym (length-take-le _ _ (search needs))
 
-refuse-requires : tie.Need-refuse-requires
-refuse-requires c κs = search needs
+array-share-prefix-labels : tie.Need-array-share-prefix-labels
+array-share-prefix-labels c = search needs
+
+slice-aggregate-listing-lent-2 : tie.Need-slice-aggregate-listing-lent-2
+slice-aggregate-listing-lent-2 c = sym (length-take-le _ _ (search needs))
+
+array-share-prefix-offsets : tie.Need-array-share-prefix-offsets
+array-share-prefix-offsets c = search needs
+
+slice-aggregate-listing-lent-3 : tie.Need-slice-aggregate-listing-lent-3
+slice-aggregate-listing-lent-3 c = sym (length-take-le _ _ (search needs))
+
+array-share-prefix-lengths : tie.Need-array-share-prefix-lengths
+array-share-prefix-lengths c = search needs
+
+slice-aggregate-listing-lent-4 : tie.Need-slice-aggregate-listing-lent-4
+slice-aggregate-listing-lent-4 c = sym (length-take-le _ _ (search needs))
+
+array-share-prefix-times : tie.Need-array-share-prefix-times
+array-share-prefix-times c = search needs
+
+slice-aggregate-listing-lent-5 : tie.Need-slice-aggregate-listing-lent-5
+slice-aggregate-listing-lent-5 c = sym (length-take-le _ _ (search needs))
+
+listing-lent-requires : tie.Need-listing-lent-requires
+listing-lent-requires c κs = search needs
 
 same-length : tie.Need-same-length
 same-length c = search needs
 
-returns : tie.Need-returns
-returns c = search needs
-
-cast-bytes : tie.Need-cast-bytes
-cast-bytes c = search needs
-
-slice-aggregate-answer-listing : tie.Need-slice-aggregate-answer-listing
-slice-aggregate-answer-listing c = search needs
-
-slice-aggregate-answer-listing-2 : tie.Need-slice-aggregate-answer-listing-2
-slice-aggregate-answer-listing-2 c = search needs
-
-slice-aggregate-answer-listing-3 : tie.Need-slice-aggregate-answer-listing-3
-slice-aggregate-answer-listing-3 c = search needs
-
-slice-aggregate-answer-listing-4 : tie.Need-slice-aggregate-answer-listing-4
-slice-aggregate-answer-listing-4 c = search needs
-
-array-borrow-prefix-out : tie.Need-array-borrow-prefix-out
-array-borrow-prefix-out c = search needs
-
-slice-aggregate-answer-listing-5 : tie.Need-slice-aggregate-answer-listing-5
-slice-aggregate-answer-listing-5 c = sym (length-take-le _ _ (search needs))
-
-answer-listing-requires : tie.Need-answer-listing-requires
-answer-listing-requires c κs = search needs
-
 same-length-2 : tie.Need-same-length-2
 same-length-2 c = search needs
 
-same-length-3 : tie.Need-same-length-3
-same-length-3 c = search needs
-
-returns-2 : tie.Need-returns-2
-returns-2 c = search needs
+returns : tie.Need-returns
+returns c = search needs
 
 pub listing-request-spec : {M : Type 1} → statement M
 listing-request-spec =
     tie.close
     (tie.spec
-    blank-listing-requires
     slice-aggregate-read-lent
     slice-aggregate-read-lent-2
     slice-aggregate-read-lent-3
     slice-aggregate-read-lent-4
+    slice-aggregate-read-lent-5
     read-lent-requires
-    limited-requires
-    is-line-end-requires
-    refuse-requires
+    array-share-prefix-code
+    slice-aggregate-listing-lent
+    array-share-prefix-labels
+    slice-aggregate-listing-lent-2
+    array-share-prefix-offsets
+    slice-aggregate-listing-lent-3
+    array-share-prefix-lengths
+    slice-aggregate-listing-lent-4
+    array-share-prefix-times
+    slice-aggregate-listing-lent-5
+    listing-lent-requires
     same-length
-    returns
-    cast-bytes
-    slice-aggregate-answer-listing
-    slice-aggregate-answer-listing-2
-    slice-aggregate-answer-listing-3
-    slice-aggregate-answer-listing-4
-    array-borrow-prefix-out
-    slice-aggregate-answer-listing-5
-    answer-listing-requires
     same-length-2
-    same-length-3
-    returns-2)
+    returns)

@@ -1,4 +1,4 @@
--- `answers::searches::search_request` meets its contract. The records that were read stay within the arrays that are lent. Assumes nothing.
+-- `answers::searches::search_request` is safe and ends: the records that were read stay within the arrays that are lent. Assumes nothing.
 use mathlib.Core.Path.{sym}
 use lib.Seq.{length-take-le}
 use borrow.Author.Needs.{needs}
@@ -13,6 +13,9 @@ slice-aggregate-read-rows-2 c = search needs
 
 slice-aggregate-read-rows-3 : tie.Need-slice-aggregate-read-rows-3
 slice-aggregate-read-rows-3 c = search needs
+
+slice-aggregate-read-rows-4 : tie.Need-slice-aggregate-read-rows-4
+slice-aggregate-read-rows-4 c = search needs
 
 read-rows-requires : tie.Need-read-rows-requires
 read-rows-requires c κs = search needs
@@ -57,6 +60,7 @@ search-request-spec =
     slice-aggregate-read-rows
     slice-aggregate-read-rows-2
     slice-aggregate-read-rows-3
+    slice-aggregate-read-rows-4
     read-rows-requires
     more-requires
     is-line-end-requires

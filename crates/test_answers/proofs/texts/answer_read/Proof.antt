@@ -1,4 +1,4 @@
--- `answers::texts::answer_read` meets its contract. The loop counts the turns down and keeps the lengths. Assumes nothing.
+-- `answers::texts::answer_read` is safe and ends: the loop counts the turns down and keeps the lengths. Assumes nothing.
 use mathlib.Core.Path.{_≡_, refl}
 use Prim.Native.Nat.{_≤_}
 use lib.ListN.{length}
@@ -8,13 +8,13 @@ use Rattle.test_answers.proofs.texts.answer_read.Statement.{statement}
 use Rattle.test_answers.proofs.texts.answer_read.Tie as tie
 
 abbrev Inv-loop : tie.InvT-loop
-Inv-loop room placed vars text words₀ labels₀ offsets₀ lengths₀ turns answer₀ left₀ words labels offsets lengths answer left = (left ≤ turns) × (length words ≡ length words₀) × (length labels ≡ length labels₀) × (length offsets ≡ length offsets₀) × (length lengths ≡ length lengths₀)
+Inv-loop room placed vars text words₀ labels₀ offsets₀ lengths₀ times₀ turns answer₀ left₀ words labels offsets lengths times answer left = (left ≤ turns) × (length words ≡ length words₀) × (length labels ≡ length labels₀) × (length offsets ≡ length offsets₀) × (length lengths ≡ length lengths₀) × (length times ≡ length times₀)
 
 abbrev μ-loop : tie.MeasureT-loop
-μ-loop room placed vars text words₀ labels₀ offsets₀ lengths₀ turns answer₀ left₀ words labels offsets lengths answer left = left
+μ-loop room placed vars text words₀ labels₀ offsets₀ lengths₀ times₀ turns answer₀ left₀ words labels offsets lengths times answer left = left
 
 loop-holds : tie.Need-loop-holds Inv-loop μ-loop
-loop-holds c = (omega arith, refl, refl, refl, refl)
+loop-holds c = (omega arith, refl, refl, refl, refl, refl)
 
 read-requires : tie.Need-read-requires Inv-loop μ-loop
 read-requires c κs = search needs
@@ -58,6 +58,9 @@ same-length-4 c = omega arith
 same-length-5 : tie.Need-same-length-5 Inv-loop μ-loop
 same-length-5 c = omega arith
 
+same-length-6 : tie.Need-same-length-6 Inv-loop μ-loop
+same-length-6 c = omega arith
+
 returns : tie.Need-returns Inv-loop μ-loop
 returns c = tt
 
@@ -82,4 +85,5 @@ answer-read-spec =
     same-length-3
     same-length-4
     same-length-5
+    same-length-6
     returns)

@@ -1,4 +1,4 @@
--- `answers::texts::read_request` meets its contract. Counts that were read stay within the arrays that are lent. Assumes nothing.
+-- `answers::texts::read_request` is safe and ends: counts that were read stay within the arrays that are lent. Assumes nothing.
 use mathlib.Core.Path.{sym}
 use native.Mathlib.Omega.{arith}
 use lib.Seq.{length-take-le}
@@ -33,48 +33,24 @@ same-length c = search needs
 returns : tie.Need-returns
 returns c = search needs
 
-cast-n : tie.Need-cast-n
-cast-n c = search needs
-
-cast-m : tie.Need-cast-m
-cast-m c = search needs
-
 array-share-prefix-bytes : tie.Need-array-share-prefix-bytes
 array-share-prefix-bytes c = search needs
 
-slice-aggregate-answer-read : tie.Need-slice-aggregate-answer-read
-slice-aggregate-answer-read c = sym (length-take-le _ _ (search needs))
+slice-aggregate-answer-with-room : tie.Need-slice-aggregate-answer-with-room
+slice-aggregate-answer-with-room c = sym (length-take-le _ _ (search needs))
 
-array-borrow-prefix-words : tie.Need-array-borrow-prefix-words
-array-borrow-prefix-words c = search needs
+cast-answer-with-room : tie.Need-cast-answer-with-room
+cast-answer-with-room c = search needs
 
-slice-aggregate-answer-read-2 : tie.Need-slice-aggregate-answer-read-2
-slice-aggregate-answer-read-2 c = sym (length-take-le _ _ (search needs))
+cast-answer-with-room-2 : tie.Need-cast-answer-with-room-2
+cast-answer-with-room-2 c = search needs
 
-array-borrow-prefix-labels : tie.Need-array-borrow-prefix-labels
-array-borrow-prefix-labels c = search needs
-
-slice-aggregate-answer-read-3 : tie.Need-slice-aggregate-answer-read-3
-slice-aggregate-answer-read-3 c = sym (length-take-le _ _ (search needs))
-
-array-borrow-prefix-offsets : tie.Need-array-borrow-prefix-offsets
-array-borrow-prefix-offsets c = search needs
-
-slice-aggregate-answer-read-4 : tie.Need-slice-aggregate-answer-read-4
-slice-aggregate-answer-read-4 c = sym (length-take-le _ _ (search needs))
-
-array-borrow-prefix-lengths : tie.Need-array-borrow-prefix-lengths
-array-borrow-prefix-lengths c = search needs
-
-slice-aggregate-answer-read-5 : tie.Need-slice-aggregate-answer-read-5
-slice-aggregate-answer-read-5 c = sym (length-take-le _ _ (search needs))
-
-answer-read-requires : tie.Need-answer-read-requires
-answer-read-requires c κs = search needs
+answer-with-room-requires : tie.Need-answer-with-room-requires
+answer-with-room-requires c κs = search needs
 
 same-length-2 : tie.Need-same-length-2
 same-length-2 c =
-    let last = c .before .before .before .before .before .before .before .before .before .before .before .before .before .before .before .before .before .before .before in
+    let last = c .before .before .before .before .before .before .before .before .before .before .before in
     let first = last .before .before .before .before in
     let text = first .before .before .before .before .before in
     omega (arith, last .limited2 .kept, first .limited .kept, text .read-text .kept, text .before .before .before .before .before .more .kept)
@@ -98,19 +74,11 @@ read-request-spec =
     refuse-requires
     same-length
     returns
-    cast-n
-    cast-m
     array-share-prefix-bytes
-    slice-aggregate-answer-read
-    array-borrow-prefix-words
-    slice-aggregate-answer-read-2
-    array-borrow-prefix-labels
-    slice-aggregate-answer-read-3
-    array-borrow-prefix-offsets
-    slice-aggregate-answer-read-4
-    array-borrow-prefix-lengths
-    slice-aggregate-answer-read-5
-    answer-read-requires
+    slice-aggregate-answer-with-room
+    cast-answer-with-room
+    cast-answer-with-room-2
+    answer-with-room-requires
     same-length-2
     same-length-3
     returns-2)

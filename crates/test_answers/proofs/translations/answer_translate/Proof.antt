@@ -1,36 +1,23 @@
--- `answers::translations::answer_translate` meets its contract. The loop counts the turns down and keeps the lengths. Assumes nothing.
-use mathlib.Core.Path.{_≡_, refl, sym}
+-- `answers::translations::answer_translate` is safe and ends: the loop counts the turns down and keeps the lengths. Assumes nothing.
+use mathlib.Core.Path.{_≡_, refl}
 use Prim.Native.Nat.{_≤_}
 use lib.ListN.{length}
 use native.Mathlib.Omega.{arith}
-use lib.Seq.{length-take-le}
 use borrow.Author.Needs.{needs}
 use Rattle.test_answers.proofs.translations.answer_translate.Statement.{statement}
 use Rattle.test_answers.proofs.translations.answer_translate.Tie as tie
 
 abbrev Inv-loop : tie.InvT-loop
-Inv-loop room placed lent words labels offsets lengths code₀ code-labels₀ code-offsets₀ code-lengths₀ turns n m answer₀ left₀ code code-labels code-offsets code-lengths answer left = (left ≤ turns) × (length code ≡ length code₀) × (length code-labels ≡ length code-labels₀) × (length code-offsets ≡ length code-offsets₀) × (length code-lengths ≡ length code-lengths₀)
+Inv-loop room placed vars words labels offsets lengths times code₀ new-labels₀ new-offsets₀ new-lengths₀ new-times₀ turns answer₀ left₀ code new-labels new-offsets new-lengths new-times answer left = (left ≤ turns) × (length code ≡ length code₀) × (length new-labels ≡ length new-labels₀) × (length new-offsets ≡ length new-offsets₀) × (length new-lengths ≡ length new-lengths₀) × (length new-times ≡ length new-times₀)
 
 abbrev μ-loop : tie.MeasureT-loop
-μ-loop room placed lent words labels offsets lengths code₀ code-labels₀ code-offsets₀ code-lengths₀ turns n m answer₀ left₀ code code-labels code-offsets code-lengths answer left = left
+μ-loop room placed vars words labels offsets lengths times code₀ new-labels₀ new-offsets₀ new-lengths₀ new-times₀ turns answer₀ left₀ code new-labels new-offsets new-lengths new-times answer left = left
 
 none-translated-requires : tie.Need-none-translated-requires Inv-loop μ-loop
 none-translated-requires c κs = search needs
 
 loop-holds : tie.Need-loop-holds Inv-loop μ-loop
-loop-holds c = (omega arith, refl, refl, refl, refl)
-
-slice-aggregate-translate : tie.Need-slice-aggregate-translate Inv-loop μ-loop
-slice-aggregate-translate c = sym (length-take-le _ _ (search needs))
-
-slice-aggregate-translate-2 : tie.Need-slice-aggregate-translate-2 Inv-loop μ-loop
-slice-aggregate-translate-2 c = sym (length-take-le _ _ (search needs))
-
-slice-aggregate-translate-3 : tie.Need-slice-aggregate-translate-3 Inv-loop μ-loop
-slice-aggregate-translate-3 c = sym (length-take-le _ _ (search needs))
-
-slice-aggregate-translate-4 : tie.Need-slice-aggregate-translate-4 Inv-loop μ-loop
-slice-aggregate-translate-4 c = sym (length-take-le _ _ (search needs))
+loop-holds c = (omega arith, refl, refl, refl, refl, refl)
 
 translate-requires : tie.Need-translate-requires Inv-loop μ-loop
 translate-requires c κs = search needs
@@ -71,6 +58,9 @@ same-length-4 c = omega arith
 same-length-5 : tie.Need-same-length-5 Inv-loop μ-loop
 same-length-5 c = omega arith
 
+same-length-6 : tie.Need-same-length-6 Inv-loop μ-loop
+same-length-6 c = omega arith
+
 returns : tie.Need-returns Inv-loop μ-loop
 returns c = tt
 
@@ -82,10 +72,6 @@ answer-translate-spec =
     μ-loop
     none-translated-requires
     loop-holds
-    slice-aggregate-translate
-    slice-aggregate-translate-2
-    slice-aggregate-translate-3
-    slice-aggregate-translate-4
     translate-requires
     sub-left
     loop-less
@@ -99,4 +85,5 @@ answer-translate-spec =
     same-length-3
     same-length-4
     same-length-5
+    same-length-6
     returns)

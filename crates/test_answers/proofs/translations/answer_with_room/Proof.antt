@@ -11,23 +11,29 @@ array-borrow-prefix-code c = search needs
 slice-aggregate-answer-translate : tie.Need-slice-aggregate-answer-translate
 slice-aggregate-answer-translate c = sym (length-take-le _ _ (search needs))
 
-array-borrow-prefix-code-labels : tie.Need-array-borrow-prefix-code-labels
-array-borrow-prefix-code-labels c = search needs
+array-borrow-prefix-new-labels : tie.Need-array-borrow-prefix-new-labels
+array-borrow-prefix-new-labels c = search needs
 
 slice-aggregate-answer-translate-2 : tie.Need-slice-aggregate-answer-translate-2
 slice-aggregate-answer-translate-2 c = sym (length-take-le _ _ (search needs))
 
-array-borrow-prefix-code-offsets : tie.Need-array-borrow-prefix-code-offsets
-array-borrow-prefix-code-offsets c = search needs
+array-borrow-prefix-new-offsets : tie.Need-array-borrow-prefix-new-offsets
+array-borrow-prefix-new-offsets c = search needs
 
 slice-aggregate-answer-translate-3 : tie.Need-slice-aggregate-answer-translate-3
 slice-aggregate-answer-translate-3 c = sym (length-take-le _ _ (search needs))
 
-array-borrow-prefix-code-lengths : tie.Need-array-borrow-prefix-code-lengths
-array-borrow-prefix-code-lengths c = search needs
+array-borrow-prefix-new-lengths : tie.Need-array-borrow-prefix-new-lengths
+array-borrow-prefix-new-lengths c = search needs
 
 slice-aggregate-answer-translate-4 : tie.Need-slice-aggregate-answer-translate-4
 slice-aggregate-answer-translate-4 c = sym (length-take-le _ _ (search needs))
+
+array-borrow-prefix-new-times : tie.Need-array-borrow-prefix-new-times
+array-borrow-prefix-new-times c = search needs
+
+slice-aggregate-answer-translate-5 : tie.Need-slice-aggregate-answer-translate-5
+slice-aggregate-answer-translate-5 c = sym (length-take-le _ _ (search needs))
 
 answer-translate-requires : tie.Need-answer-translate-requires
 answer-translate-requires c κs = search needs
@@ -44,12 +50,14 @@ answer-with-room-spec =
     (tie.spec
     array-borrow-prefix-code
     slice-aggregate-answer-translate
-    array-borrow-prefix-code-labels
+    array-borrow-prefix-new-labels
     slice-aggregate-answer-translate-2
-    array-borrow-prefix-code-offsets
+    array-borrow-prefix-new-offsets
     slice-aggregate-answer-translate-3
-    array-borrow-prefix-code-lengths
+    array-borrow-prefix-new-lengths
     slice-aggregate-answer-translate-4
+    array-borrow-prefix-new-times
+    slice-aggregate-answer-translate-5
     answer-translate-requires
     same-length
     returns)

@@ -8,13 +8,13 @@ use Rattle.test_requests.proofs.input.read_records.Statement.{statement
 use Rattle.test_requests.proofs.input.read_records.Tie as tie
 
 abbrev Inv-loop : tie.InvT-loop
-Inv-loop chunk₀ labels₀ offsets₀ lengths₀ n input₀ i₀ chunk labels offsets lengths input i = (i ≤ n) × (length chunk ≡ length chunk₀) × (length labels ≡ length labels₀) × (length offsets ≡ length offsets₀) × (length lengths ≡ length lengths₀)
+Inv-loop chunk₀ labels₀ offsets₀ lengths₀ times₀ n input₀ i₀ chunk labels offsets lengths times input i = (i ≤ n) × (length chunk ≡ length chunk₀) × (length labels ≡ length labels₀) × (length offsets ≡ length offsets₀) × (length lengths ≡ length lengths₀) × (length times ≡ length times₀)
 
 abbrev μ-loop : tie.MeasureT-loop
-μ-loop chunk₀ labels₀ offsets₀ lengths₀ n input₀ i₀ chunk labels offsets lengths input i = n - i
+μ-loop chunk₀ labels₀ offsets₀ lengths₀ times₀ n input₀ i₀ chunk labels offsets lengths times input i = n - i
 
 loop-holds : tie.Need-loop-holds Inv-loop μ-loop
-loop-holds c = (omega arith, refl, refl, refl, refl)
+loop-holds c = (omega arith, refl, refl, refl, refl, refl)
 
 read-record-requires : tie.Need-read-record-requires Inv-loop μ-loop
 read-record-requires c κs = search needs
@@ -40,6 +40,9 @@ same-length-3 c = omega arith
 same-length-4 : tie.Need-same-length-4 Inv-loop μ-loop
 same-length-4 c = omega arith
 
+same-length-5 : tie.Need-same-length-5 Inv-loop μ-loop
+same-length-5 c = omega arith
+
 returns : tie.Need-returns Inv-loop μ-loop
 returns c = tt
 
@@ -58,4 +61,5 @@ read-records-spec =
     same-length-2
     same-length-3
     same-length-4
+    same-length-5
     returns)

@@ -8,10 +8,10 @@ use Rattle.test_requests.proofs.output.put_records.Statement.{statement
 use Rattle.test_requests.proofs.output.put_records.Tie as tie
 
 abbrev Inv-loop : tie.InvT-loop
-Inv-loop room₀ from labels offsets lengths k placed₀ i₀ room placed i = (i ≤ k) × (length room ≡ length room₀)
+Inv-loop room₀ from labels offsets lengths times k placed₀ i₀ room placed i = (i ≤ k) × (length room ≡ length room₀)
 
 abbrev μ-loop : tie.MeasureT-loop
-μ-loop room₀ from labels offsets lengths k placed₀ i₀ room placed i = k - i
+μ-loop room₀ from labels offsets lengths times k placed₀ i₀ room placed i = k - i
 
 records-reach-requires : tie.Need-records-reach-requires Inv-loop μ-loop
 records-reach-requires c κs = search needs
@@ -49,6 +49,15 @@ cast-put-next-3 c = omega arith
 put-next-requires-4 : tie.Need-put-next-requires-4 Inv-loop μ-loop
 put-next-requires-4 c κs = search needs
 
+word-at-requires-3 : tie.Need-word-at-requires-3 Inv-loop μ-loop
+word-at-requires-3 c κs = search needs
+
+cast-put-next-4 : tie.Need-cast-put-next-4 Inv-loop μ-loop
+cast-put-next-4 c = omega arith
+
+put-next-requires-5 : tie.Need-put-next-requires-5 Inv-loop μ-loop
+put-next-requires-5 c κs = search needs
+
 add-i : tie.Need-add-i Inv-loop μ-loop
 add-i c = omega arith
 
@@ -61,8 +70,8 @@ loop-again c = omega arith
 sub-put-next : tie.Need-sub-put-next Inv-loop μ-loop
 sub-put-next c = omega arith
 
-put-next-requires-5 : tie.Need-put-next-requires-5 Inv-loop μ-loop
-put-next-requires-5 c κs = search needs
+put-next-requires-6 : tie.Need-put-next-requires-6 Inv-loop μ-loop
+put-next-requires-6 c κs = search needs
 
 same-length : tie.Need-same-length Inv-loop μ-loop
 same-length c = omega arith
@@ -88,10 +97,13 @@ put-records-spec =
     word-at-requires-2
     cast-put-next-3
     put-next-requires-4
+    word-at-requires-3
+    cast-put-next-4
+    put-next-requires-5
     add-i
     loop-less
     loop-again
     sub-put-next
-    put-next-requires-5
+    put-next-requires-6
     same-length
     returns)

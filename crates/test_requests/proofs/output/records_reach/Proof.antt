@@ -7,10 +7,10 @@ use Rattle.test_requests.proofs.output.records_reach.Statement.{stateme
 use Rattle.test_requests.proofs.output.records_reach.Tie as tie
 
 abbrev Inv-loop : tie.InvT-loop
-Inv-loop labels offsets lengths k₀ k = k ≤ length labels
+Inv-loop labels offsets lengths times k₀ k = k ≤ length labels
 
 abbrev μ-loop : tie.MeasureT-loop
-μ-loop labels offsets lengths k₀ k = k
+μ-loop labels offsets lengths times k₀ k = k
 
 loop-holds : tie.Need-loop-holds Inv-loop μ-loop
 loop-holds c = omega arith
