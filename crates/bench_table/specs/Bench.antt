@@ -31,7 +31,7 @@ use Rattle.list_definitions.specs.Questions.{operandInRange, wordInRange, recor
 use Rattle.list_definitions.specs.ListScan.{listOf, callListScan, scanned as listScanned, refused as listRefused, scanEnds as listScanEnds, scanQuestions as listScanQuestions}
 use Rattle.translation_definitions.specs.Translate.{F, R, join, outputCode, rungCode, listRecords, translate}
 use Rattle.translation_definitions.specs.BothScans.{instructionWatchdog}
-use Rattle.translation_definitions.specs.TranslateKept.{Counts, countsOf, translateKept, translated, refused as translateRefused}
+use Rattle.translation_definitions.specs.TranslateKept.{Counts, countsOf, listWritten, translateKept, translated, refused as translateRefused}
 
 -- how a scan halted, its rungs entered, how often variables were turned over, and the variables that it left
 record Scan : Type 0 where
@@ -220,7 +220,7 @@ unfolding asSaid table listA outcomeA latches latchList latched moves stoppedA r
     ladderOf holdsLadder sizesInRange inputBelow namedBelow outputBelow newLabels namedLeads outputLeads joinScratch frontScratch rearScratch rungScratch scratchInRange ladderQuestions ladderAnswer callLadderScan ladderScanQuestions ladderScanEnds
     mapP bind followed digitOf digitsFrom numeralOf chain termBy frontBy factorBy factorOf termOf frontOf opensFactor branchBy rearBy outputAt endBy endOf rearOf lineOf linesOf textOf
     readText writtenKept textLadder operand opOf operandNumber onlyNot ops instrWord decodeInstr decodeCode codeOf scanList scanMachine begin fresh step count does halted
-    operandInRange wordInRange recordsLaid listInRange listOf callListScan listScanQuestions listScanEnds F R join outputCode rungCode listRecords translate countsOf translateKept
+    operandInRange wordInRange recordsLaid listInRange listOf callListScan listScanQuestions listScanEnds F R join outputCode rungCode listRecords translate countsOf listWritten translateKept
 all-tables = (refl, refl, refl)
 
 -- Every row comes out as document 01 says.

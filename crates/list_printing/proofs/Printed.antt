@@ -22,7 +22,7 @@ use Rattle.list_definitions.specs.Instruction.{Instr, LD, LDN, ST, STN, AND, AN
 use Rattle.list_definitions.specs.Laws.Decoding.{instr-decoded}
 use Rattle.list_definitions.specs.Questions.{listInRange}
 use Rattle.list_definitions.specs.ListScan.{listOf}
-use Rattle.list_definitions.specs.Listing.{fixedNames, trimmed, nameOf, operandText, instrLine, labelLine, rungLines, listingLines, ended, listingText}
+use Rattle.list_definitions.specs.Listing.{Names, fixedNames, trimmed, nameOf, operandText, instrLine, labelLine, rungLines, listingLines, ended, listingText}
 use Rattle.rungs.specs.Laws.Rows.{row-length, row-at}
 use Rattle.list_printing.proofs.Accepting.{ListAccepted, list-accepted}
 use Rattle.list_machine.proofs.Steps.{op-known}
@@ -42,9 +42,22 @@ pub name-row : (k : ℕ) → length (getD fixedNames k []) ≤ 6
 unfolding fixedNames bytes all
 name-row k = leb→le (length (getD fixedNames k [])) 6 (all-getD (λ r. leb (length r) 6) fixedNames [] tt tt k)
 
-pub name-long : (op : ℕ) → length (nameOf fixedNames op) ≤ 5
-unfolding fixedNames bytes all nameOf trimmed
-name-long op = leb→le (length (nameOf fixedNames op)) 5 (all-getD (λ r. leb (length (trimmed r)) 5) fixedNames [] tt tt (op - 1))
+trimmed-long : (name : List ℕ) → length (trimmed name) ≤ length name
+unfolding trimmed
+trimmed-long [] = omega arith
+trimmed-long (b ∷ bs) = go (eqb b 0) refl (trimmed-long bs)
+  where
+    go : (t : Bool) → eqb b 0 ≡ t → length (trimmed bs) ≤ length bs → length (trimmed (b ∷ bs)) ≤ suc (length bs)
+    go true e ih = rw (e, trimmed) (omega arith)
+    go false e ih = rw (e, trimmed) (omega arith)
+
+-- names of at most six letters
+abbrev pub Short : Names → Type 0
+Short names = (k : ℕ) → length (getD names k []) ≤ 6
+
+pub name-long : (names : Names) → Short names → (op : ℕ) → length (nameOf names op) ≤ 6
+unfolding nameOf
+name-long names short op = omega (arith, short (op - 1), trimmed-long (getD names (op - 1) []))
 
 trimmed-zero : (name : List ℕ) (k : ℕ) → getD name k 0 ≡ 0 → trimmed (drop k name) ≡ []
 unfolding trimmed
@@ -157,53 +170,54 @@ pub word-op : (w : ℕ) → Decodes w → (1 ≤ numberOf w) × (numberOf w ≤ 
 unfolding fixedNames bytes ops
 word-op w d = let known = op-known w (d .instr) (d .same) in (known .0, omega arith)
 
-pub word-line : (vars w : ℕ) → Decodes w → wordLine vars w ≡ nameOf fixedNames (numberOf w) ++ operandBy vars (numberOf w) (operandOf w) ++ 10 ∷ []
+pub word-line : (names : Names) (vars w : ℕ) → Decodes w → wordLine names vars w ≡ nameOf names (numberOf w) ++ operandBy vars (numberOf w) (operandOf w) ++ 10 ∷ []
 unfolding wordLine instrOf ended instrLine
-word-line vars w d = rw (d .same, instrOf, word-parts w d .0, word-parts w d .1, operand-by-op vars (d .instr))
+word-line names vars w d = rw (d .same, instrOf, word-parts w d .0, word-parts w d .1, operand-by-op vars (d .instr))
 
-no-word-long : (vars w : ℕ) → decodeInstr w ≡ none → length (wordLine vars w) ≤ 14
-unfolding wordLine instrOf ended instrLine operand operandText opOf fixedNames bytes nameOf trimmed
-no-word-long vars w e = rw (e, instrOf) (omega arith)
+module _ (names : Names) (short : Short names) where
+  no-word-long : (vars w : ℕ) → decodeInstr w ≡ none → length (wordLine names vars w) ≤ 14
+  unfolding wordLine instrOf ended instrLine operand operandText opOf
+  no-word-long vars w e = let n = name-long names short 11 in rw (e, instrOf) (simp length-append (omega arith))
 
-pub word-long : (vars w : ℕ) → length (wordLine vars w) ≤ 14
-word-long vars w = go (decodeInstr w) refl
-  where
-    go : (x : Option Instr) → decodeInstr w ≡ x → length (wordLine vars w) ≤ 14
-    go none e = no-word-long vars w e
-    go (some i) e =
-        let n = name-long (numberOf w) in
-        let o = operand-long vars (numberOf w) (operandOf w) (omega arith) in
-        rw (word-line vars w (record { instr = i; same = e }), length-append, length-append) (omega arith)
+  pub word-long : (vars w : ℕ) → length (wordLine names vars w) ≤ 14
+  word-long vars w = go (decodeInstr w) refl
+    where
+      go : (x : Option Instr) → decodeInstr w ≡ x → length (wordLine names vars w) ≤ 14
+      go none e = no-word-long vars w e
+      go (some i) e =
+          let n = name-long names short (numberOf w) in
+          let o = operand-long vars (numberOf w) (operandOf w) (omega arith) in
+          rw (word-line names vars w (record { instr = i; same = e }), length-append, length-append) (omega arith)
 
-pub words-long : (vars : ℕ) (ws : List ℕ) → length (wordLines vars ws) ≤ 14 * length ws
-unfolding wordLines flatMap
-words-long vars [] = omega arith
-words-long vars (w ∷ ws) =
-    let one = word-long vars w in
-    let more = words-long vars ws in
-    rw (length-append (wordLine vars w) (wordLines vars ws)) (omega arith)
+  pub words-long : (vars : ℕ) (ws : List ℕ) → length (wordLines names vars ws) ≤ 14 * length ws
+  unfolding wordLines flatMap
+  words-long vars [] = omega arith
+  words-long vars (w ∷ ws) =
+      let one = word-long vars w in
+      let more = words-long vars ws in
+      rw (length-append (wordLine names vars w) (wordLines names vars ws)) (omega arith)
 
 -- words from one index up to another, of which those below i are printed
-pub record Printing (vars : ℕ) (ws : List ℕ) (from to at : ℕ) (l x : List ℕ) (m i : ℕ) : Type 0 where
-  pub left : Left l at (wordLines vars (slice from to ws)) x m (wordLines vars (slice i to ws))
+pub record Printing (names : Names) (vars : ℕ) (ws : List ℕ) (from to at : ℕ) (l x : List ℕ) (m i : ℕ) : Type 0 where
+  pub left : Left l at (wordLines names vars (slice from to ws)) x m (wordLines names vars (slice i to ws))
   pub within : i ≤ to
   pub room : m + 14 * (to - i) < 500000
 
-pub printing-start : {vars : ℕ} {ws : List ℕ} {from to at : ℕ} (l : List ℕ) → RungReady vars ws from to at → Printing vars ws from to at l l at from
-printing-start {vars} {ws} {from} {to} {at} l h = record { left = all-left l at (wordLines vars (slice from to ws)); within = h .ordered; room = h .room }
+pub printing-start : {names : Names} {vars : ℕ} {ws : List ℕ} {from to at : ℕ} (l : List ℕ) → RungReady vars ws from to at → Printing names vars ws from to at l l at from
+printing-start {names} {vars} {ws} {from} {to} {at} l h = record { left = all-left l at (wordLines names vars (slice from to ws)); within = h .ordered; room = h .room }
 
-module _ {vars : ℕ} {ws : List ℕ} {from to at : ℕ} {l x : List ℕ} {m i : ℕ} (h : Printing vars ws from to at l x m i) where
-  pub printing-more : {r : ℕ} {y : List ℕ} → to ≤ length ws → i < to → Put x m (wordLine vars (getD ws i 0)) r y → Printing vars ws from to at l y r (i + 1)
+module _ {names : Names} {vars : ℕ} {ws : List ℕ} {from to at : ℕ} {l x : List ℕ} {m i : ℕ} (h : Printing names vars ws from to at l x m i) where
+  pub printing-more : Short names → {r : ℕ} {y : List ℕ} → to ≤ length ws → i < to → Put x m (wordLine names vars (getD ws i 0)) r y → Printing names vars ws from to at l y r (i + 1)
   unfolding wordLines flatMap
-  printing-more within lt p =
-      let n = word-long vars (getD ws i 0) in
+  printing-more short within lt p =
+      let n = word-long names short vars (getD ws i 0) in
       record {
         left = rw add-one (left-more (h .left) (rw (slice-cons i to ws 0 lt within)) p);
         within = omega arith;
         room = omega (arith, p .end, h .room);
       }
 
-  pub printing-end : to ≤ i → Put l at (wordLines vars (slice from to ws)) m x
+  pub printing-end : to ≤ i → Put l at (wordLines names vars (slice from to ws)) m x
   unfolding wordLines flatMap
   printing-end le = let e : i ≡ to = omega (arith, h .within) in left-none (h .left) (rw (e, slice-empty to ws))
 
@@ -219,28 +233,28 @@ slice-add zero n ws = rw zero-add
 slice-add (suc o) n [] = rw (suc-add, take-nil)
 slice-add (suc o) n (w ∷ ws) = rw suc-add (slice-add o n ws)
 
-lines-of-words : (vars : ℕ) (ws : List ℕ) → flatMap ended (map (instrLine fixedNames vars) (map instrOf ws)) ≡ wordLines vars ws
+lines-of-words : (names : Names) (vars : ℕ) (ws : List ℕ) → flatMap ended (map (instrLine names vars) (map instrOf ws)) ≡ wordLines names vars ws
 unfolding flatMap wordLines wordLine
-lines-of-words vars [] = refl
-lines-of-words vars (w ∷ ws) = ap (λ l. wordLine vars w ++ l) (lines-of-words vars ws)
+lines-of-words names vars [] = refl
+lines-of-words names vars (w ∷ ws) = ap (λ l. wordLine names vars w ++ l) (lines-of-words names vars ws)
 
 -- a label's line and its words' lines, record by record
-unfoldable pub rungsText : ℕ → List ℕ → List RungRecord → List ℕ
-rungsText vars ws [] = []
-rungsText vars ws (r ∷ rs) = ended (labelLine (r .label)) ++ wordLines vars (slice (r .offset) (r .offset + r .length) ws) ++ rungsText vars ws rs
+unfoldable pub rungsText : Names → ℕ → List ℕ → List RungRecord → List ℕ
+rungsText names vars ws [] = []
+rungsText names vars ws (r ∷ rs) = ended (labelLine (r .label)) ++ wordLines names vars (slice (r .offset) (r .offset + r .length) ws) ++ rungsText names vars ws rs
 
-rung-text : (vars : ℕ) (ws : List ℕ) (r : RungRecord) → codeOf ws ≡ map instrOf ws
-    → flatMap ended (rungLines fixedNames vars (codeOf ws) r) ≡ ended (labelLine (r .label)) ++ wordLines vars (slice (r .offset) (r .offset + r .length) ws)
+rung-text : (names : Names) (vars : ℕ) (ws : List ℕ) (r : RungRecord) → codeOf ws ≡ map instrOf ws
+    → flatMap ended (rungLines names vars (codeOf ws) r) ≡ ended (labelLine (r .label)) ++ wordLines names vars (slice (r .offset) (r .offset + r .length) ws)
 unfolding flatMap rungLines
-rung-text vars ws r e =
-    rw (e, drop-map instrOf (r .offset) ws, take-map instrOf (r .length) (drop (r .offset) ws), slice-add (r .offset) (r .length) ws, lines-of-words vars (take (r .length) (drop (r .offset) ws)))
+rung-text names vars ws r e =
+    rw (e, drop-map instrOf (r .offset) ws, take-map instrOf (r .length) (drop (r .offset) ws), slice-add (r .offset) (r .length) ws, lines-of-words names vars (take (r .length) (drop (r .offset) ws)))
 
-listing-text : (vars : ℕ) (ws : List ℕ) (rs : List RungRecord) → codeOf ws ≡ map instrOf ws → listingText fixedNames vars (listOf ws rs) ≡ rungsText vars ws rs
+listing-text : (names : Names) (vars : ℕ) (ws : List ℕ) (rs : List RungRecord) → codeOf ws ≡ map instrOf ws → listingText names vars (listOf ws rs) ≡ rungsText names vars ws rs
 unfolding listingText listingLines listOf rungsText flatMap
-listing-text vars ws [] e = refl
-listing-text vars ws (r ∷ rs) e =
-    flatMap-append ended (rungLines fixedNames vars (codeOf ws) r) (flatMap (rungLines fixedNames vars (codeOf ws)) rs)
-    ∙ rw (rung-text vars ws r e, listing-text vars ws rs e)
+listing-text names vars ws [] e = refl
+listing-text names vars ws (r ∷ rs) e =
+    flatMap-append ended (rungLines names vars (codeOf ws) r) (flatMap (rungLines names vars (codeOf ws)) rs)
+    ∙ rw (rung-text names vars ws r e, listing-text names vars ws rs e)
 
 laid-next : (start end : ℕ) (r : RungRecord) (rs : List RungRecord) → T (laid start end (r ∷ rs)) → (r .offset ≡ start) × T (laid (start + r .length) end rs)
 unfolding laid
@@ -254,20 +268,20 @@ laid-most start end [] h = omega (arith, eqb→eq start end h)
 laid-most start end (r ∷ rs) h = omega (arith, laid-most (start + r .length) end rs (laid-next start end r rs h .1))
 
 -- records of which the first k are printed
-pub record Listing (vars : ℕ) (ws ls os ns l x : List ℕ) (m start k : ℕ) : Type 0 where
+pub record Listing (names : Names) (vars : ℕ) (ws ls os ns l x : List ℕ) (m start k : ℕ) : Type 0 where
   pub can : ListAccepted vars ws ls os ns
-  pub left : Left l 0 (rungsText vars ws (fieldsOf ls os ns)) x m (rungsText vars ws (drop k (fieldsOf ls os ns)))
+  pub left : Left l 0 (rungsText names vars ws (fieldsOf ls os ns)) x m (rungsText names vars ws (drop k (fieldsOf ls os ns)))
   pub lies : T (laid start (length ws) (drop k (fieldsOf ls os ns)))
   pub within : start ≤ length ws
   pub room : m ≤ 8 * k + 14 * start
   pub passed : k ≤ length ls
 
-pub listing-start : (vars : ℕ) (ws ls os ns l : List ℕ) → T (listInRange vars ws (fieldsOf ls os ns)) → Listing vars ws ls os ns l l 0 0 0
-listing-start vars ws ls os ns l h =
+pub listing-start : (names : Names) (vars : ℕ) (ws ls os ns l : List ℕ) → T (listInRange vars ws (fieldsOf ls os ns)) → Listing names vars ws ls os ns l l 0 0 0
+listing-start names vars ws ls os ns l h =
     let p = list-accepted vars ws ls os ns h in
     record {
       can = p;
-      left = all-left l 0 (rungsText vars ws (fieldsOf ls os ns));
+      left = all-left l 0 (rungsText names vars ws (fieldsOf ls os ns));
       lies = p .lies;
       within = omega arith;
       room = omega arith;
@@ -278,7 +292,7 @@ label-long : (n : ℕ) → n < operands → length (ended (labelLine n)) ≤ 8
 unfolding ended labelLine
 label-long n h = let d = decimal-long n h in simp length-append (omega arith)
 
-module _ {vars : ℕ} {ws ls os ns l x : List ℕ} {m start k : ℕ} (h : Listing vars ws ls os ns l x m start k) (lt : k < length ls) where
+module _ {names : Names} {vars : ℕ} {ws ls os ns l x : List ℕ} {m start k : ℕ} (h : Listing names vars ws ls os ns l x m start k) (lt : k < length ls) where
   next-lies : (getD os k 0 ≡ start) × T (laid (start + getD ns k 0) (length ws) (drop (suc k) (fieldsOf ls os ns)))
   next-lies = laid-next start (length ws) (record { label = getD ls k 0; offset = getD os k 0; length = getD ns k 0 }) (drop (suc k) (fieldsOf ls os ns)) (rw (row-at ls os ns (h .can .even) k lt) at (h .lies))
 
@@ -297,14 +311,14 @@ module _ {vars : ℕ} {ws ls os ns l x : List ℕ} {m start k : ℕ} (h : Listin
           decodes = h .can .decodes;
         }
 
-    pub listing-more : {r : ℕ} {z : List ℕ} → Put y n (wordLines vars (slice start (start + getD ns k 0) ws)) r z → Listing vars ws ls os ns l z r (start + getD ns k 0) (k + 1)
+    pub listing-more : Short names → {r : ℕ} {z : List ℕ} → Put y n (wordLines names vars (slice start (start + getD ns k 0) ws)) r z → Listing names vars ws ls os ns l z r (start + getD ns k 0) (k + 1)
     unfolding rungsText
-    listing-more q =
+    listing-more short q =
         let w = next-within in
         let s = label-long (getD ls k 0) small in
-        let t = words-long vars (slice start (start + getD ns k 0) ws) in
+        let t = words-long names short vars (slice start (start + getD ns k 0) ws) in
         let u = length-slice start (start + getD ns k 0) ws w in
-        let e : rungsText vars ws (drop k (fieldsOf ls os ns)) ≡ ended (labelLine (getD ls k 0)) ++ wordLines vars (slice start (start + getD ns k 0) ws) ++ rungsText vars ws (drop (suc k) (fieldsOf ls os ns)) = rw (row-at ls os ns (h .can .even) k lt, next-lies .0) in
+        let e : rungsText names vars ws (drop k (fieldsOf ls os ns)) ≡ ended (labelLine (getD ls k 0)) ++ wordLines names vars (slice start (start + getD ns k 0) ws) ++ rungsText names vars ws (drop (suc k) (fieldsOf ls os ns)) = rw (row-at ls os ns (h .can .even) k lt, next-lies .0) in
         record {
           can = h .can;
           left = rw add-one (left-more (h .left) e (put-then p q));
@@ -314,7 +328,7 @@ module _ {vars : ℕ} {ws ls os ns l x : List ℕ} {m start k : ℕ} (h : Listin
           passed = omega arith;
         }
 
-pub listing-end : {vars : ℕ} {ws ls os ns l x : List ℕ} {m start k : ℕ} → Listing vars ws ls os ns l x m start k → length ls ≤ k → Put l 0 (listingText fixedNames vars (listOf ws (fieldsOf ls os ns))) m x
+pub listing-end : {names : Names} {vars : ℕ} {ws ls os ns l x : List ℕ} {m start k : ℕ} → Listing names vars ws ls os ns l x m start k → length ls ≤ k → Put l 0 (listingText names vars (listOf ws (fieldsOf ls os ns))) m x
 unfolding rungsText
-listing-end {vars} {ws} {ls} {os} {ns} {l} {x} {m} {start} {k} h le =
-    put-as (listing-text vars ws (fieldsOf ls os ns) (h .can .printed)) (left-none (h .left) (rw (drop-of-length-le (fieldsOf ls os ns) {i = k} (omega (arith, row-length ls os ns (h .can .even))))))
+listing-end {names} {vars} {ws} {ls} {os} {ns} {l} {x} {m} {start} {k} h le =
+    put-as (listing-text names vars ws (fieldsOf ls os ns) (h .can .printed)) (left-none (h .left) (rw (drop-of-length-le (fieldsOf ls os ns) {i = k} (omega (arith, row-length ls os ns (h .can .even))))))

@@ -3,15 +3,15 @@ use Prim.Native.Nat.{ℕ, _+_, _-_, _*_, _≤_, _<_}
 use mathlib.Core.List.{List, [], _∷_, flatMap}
 use lib.ListN.{length, getD}
 use Rattle.list_definitions.specs.Instruction.{Operand, tableIndex, noOperand, instructionIndex, OperandSort, tableSort, nothingSort, instructionSort, noSort, operandSort}
-use Rattle.list_definitions.specs.Listing.{fixedNames, operandText, instrLine, ended}
+use Rattle.list_definitions.specs.Listing.{Names, operandText, instrLine, ended}
 use Rattle.list_definitions.specs.Laws.Words.{instrOf, Decodes}
 
 -- the lines of some words
-unfoldable pub wordLine : ℕ → ℕ → List ℕ
-wordLine vars w = ended (instrLine fixedNames vars (instrOf w))
+unfoldable pub wordLine : Names → ℕ → ℕ → List ℕ
+wordLine names vars w = ended (instrLine names vars (instrOf w))
 
-unfoldable pub wordLines : ℕ → List ℕ → List ℕ
-wordLines vars ws = flatMap (wordLine vars) ws
+unfoldable pub wordLines : Names → ℕ → List ℕ → List ℕ
+wordLines names vars ws = flatMap (wordLine names vars) ws
 
 -- the operand of a number, by its sort
 unfoldable pub operandIn : OperandSort → ℕ → Operand

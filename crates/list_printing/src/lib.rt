@@ -85,7 +85,7 @@ fn put_operand(out: &mut [u8], at: usize, vars: u32, op: u32, operand: u32) -> u
 // The line of an instruction.
 fn put_instruction(out: &mut [u8], at: usize, vars: u32, word: u32) -> usize
     requires { ⌜ (at < 600000) × Decodes word ⌝ }
-    ensures { λ r. ⌜ Put (now (out .entry)) at (wordLine vars word) r (now (out .exit)) ⌝ }
+    ensures { λ r. ⌜ Put (now (out .entry)) at (wordLine fixedNames vars word) r (now (out .exit)) ⌝ }
 {
     let op = word / rungs::OPERANDS;
     let operand = word % rungs::OPERANDS;
@@ -108,7 +108,7 @@ fn put_label(out: &mut [u8], at: usize, label: u16) -> usize
 // The lines of the instructions from one index up to another.
 fn put_rung(out: &mut [u8], at: usize, vars: u32, code: &[u32], from: usize, to: usize) -> usize
     requires { ⌜ RungReady vars (now code) from to at ⌝ }
-    ensures { λ r. ⌜ Put (now (out .entry)) at (wordLines vars (slice from to (now (code .entry)))) r (now (out .exit)) ⌝ }
+    ensures { λ r. ⌜ Put (now (out .entry)) at (wordLines fixedNames vars (slice from to (now (code .entry)))) r (now (out .exit)) ⌝ }
 {
     let mut end = at;
     let mut i = from;

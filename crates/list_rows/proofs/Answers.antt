@@ -148,7 +148,7 @@ module _ (vars : ℕ) (ws : List ℕ) (rows : Rows) (out : List ℕ) where
   listed-long x h r = record {
     same = λ rs e.
         let l = n-lent rows rs e in
-        listing-refused vars ws rs out x (r .same ws rs (omega arith));
+        listing-refused vars ws rs fixedNames out x (r .same ws rs (omega arith));
   }
 
   pub listed-row : (r : Listed) (after : List ℕ) (h : rows .n ≤ mostRecords) (inside : rows .n ≤ length (rows .labels)) (zs : List ℕ) (many : length zs ≡ rows .n)

@@ -22,7 +22,7 @@ use Rattle.list_definitions.specs.Questions.{operandInRange, wordInRange, recor
 use Rattle.list_definitions.specs.ListScan.{listOf}
 use Rattle.list_definitions.specs.Listing.{listing, fixedNames, trimmed, nameOf, operandText, instrLine, labelLine, rungLines, listingLines, ended, listingText}
 use Rattle.translation_definitions.specs.Translate.{F, R, join, outputCode, rungCode, listRecords, translate}
-use Rattle.translation_definitions.specs.TranslateKept.{countsOf, translateKept}
+use Rattle.translation_definitions.specs.TranslateKept.{countsOf, listWritten, translateKept}
 use Rattle.translation_definitions.specs.BothScans.{copyQuestion, bothQuestions, bothScans, instructionWatchdog, pairedWatchdog}
 use Rattle.program_definitions.specs.Lines.{firstLine, textAfter, lineNumber, isBinaryDigit, tableOf}
 use Rattle.program_definitions.specs.Outcome.{outputOf}
@@ -39,7 +39,7 @@ unfolding output outcome textPrinted keptPrinted listPrinted countLine outputOf 
     scratchInRange namedBelow namedLeads ladderQuestions ladderAnswer
     mapP bind followed digitOf digitsFrom numeralOf chain termBy frontBy factorBy factorOf termOf frontOf opensFactor branchBy rearBy outputAt endBy endOf rearOf lineOf linesOf textOf
     readText writtenKept textLadder operand opOf operandNumber onlyNot ops instrWord decodeInstr decodeCode codeOf operandInRange wordInRange recordsLaid listInRange listOf
-    listing fixedNames trimmed nameOf operandText instrLine labelLine rungLines listingLines ended listingText F R join outputCode rungCode listRecords translate countsOf translateKept
+    listing fixedNames trimmed nameOf operandText instrLine labelLine rungLines listingLines ended listingText F R join outputCode rungCode listRecords translate countsOf listWritten translateKept
 A-printed = refl
 
 -- case A with v0 true and a rung watchdog of 2, as README shows it
@@ -56,5 +56,5 @@ unfolding scanOutput scanOutcome textScanned keptScanned reportLines reportOf en
     scratchInRange namedBelow namedLeads ladderQuestions ladderAnswer
     mapP bind followed digitOf digitsFrom numeralOf chain termBy frontBy factorBy factorOf termOf frontOf opensFactor branchBy rearBy outputAt endBy endOf rearOf lineOf linesOf textOf
     readText writtenKept textLadder operand opOf operandNumber onlyNot ops instrWord decodeInstr decodeCode codeOf operandInRange wordInRange recordsLaid listInRange listOf
-    F R join outputCode rungCode listRecords translate countsOf translateKept
+    F R join outputCode rungCode listRecords translate countsOf listWritten translateKept
 A-scanned = refl

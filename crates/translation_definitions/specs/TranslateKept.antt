@@ -4,7 +4,7 @@ use mathlib.Core.Path.{_≡_}
 use mathlib.Core.Option.{none, some}
 use mathlib.Core.List.{[], _∷_, _++_, map}
 use lib.ListN.{length}
-use Rattle.questions.specs.Questions.{Refusal, firstNo, question1, question13}
+use Rattle.questions.specs.Questions.{Refusal, Answer, firstNo, question1, question13}
 use Rattle.questions.specs.Refusals.{refusalOf}
 use Rattle.rungs.specs.Records.{longest}
 use Rattle.rungs.specs.Buffers.{Buffers, newBuffers, needs, writtenOver}
@@ -38,15 +38,17 @@ pub record TranslateCall : Type 0 where
   pub answer : TranslateAnswer
   pub buffers : Buffers
 
--- questions 1, 4 to 9 and 13 in order; a refusal leaves the buffers, and else "writes list and records from the start of two buffers; the rest stays"
+-- a call that writes a list, by the first "no" to its questions: a refusal leaves the buffers, and else it "writes list and records from the start of two
+-- buffers; the rest stays"
+unfoldable pub listWritten : Answer → InstructionList → Buffers → TranslateCall
+listWritten (some refusal) list lent = record { answer = refused refusal; buffers = lent }
+listWritten none list lent = record { answer = translated (countsOf list); buffers = writtenOver (listBuffers list) lent }
+
+-- questions 1, 4 to 9 and 13 in order
 unfoldable pub translateKept : ℕ → Kept → Buffers → TranslateCall
 translateKept vars k lent =
     let list = translate vars (ladderOf k) in
-    let new = listBuffers list in
-    elim (firstNo (question1 vars ∷ ladderQuestions vars k ++ question13 (needs new lent) ∷ [])) [
-      | some refusal ↦ record { answer = refused refusal; buffers = lent }
-      | none ↦ record { answer = translated (countsOf list); buffers = writtenOver new lent }
-    ]
+    listWritten (firstNo (question1 vars ∷ ladderQuestions vars k ++ question13 (needs (listBuffers list) lent) ∷ [])) list lent
 
 -- the counts in the struct Counts
 abbrev pub countsIn : CountsStruct → Counts

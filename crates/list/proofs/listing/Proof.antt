@@ -13,7 +13,7 @@ enum-known-refusal : tie.Need-enum-known-refusal
 enum-known-refusal c = search needs
 
 returns : tie.Need-returns
-returns c = listing-refused _ _ _ _ _ (verdict-refused _ (c .before .before .before .list-answer .ensures) (c .before .refusal .given .1))
+returns c = listing-refused _ _ _ _ _ _ (verdict-refused _ (c .before .before .before .list-answer .ensures) (c .before .refusal .given .1))
 
 enum-told : tie.Need-enum-told
 enum-told c = search needs

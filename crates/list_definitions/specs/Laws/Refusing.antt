@@ -10,7 +10,7 @@ use Rattle.questions.specs.declared.Refusal.{Refusal as RefusalCase}
 use Rattle.rungs.specs.Records.{RungRecord}
 use Rattle.list_definitions.specs.Questions.{question10, listAnswer}
 use Rattle.list_definitions.specs.ListScan.{listOf, scanQuestions, callListScan, listScannedAnswer, ListScanDone}
-use Rattle.list_definitions.specs.Listing.{fixedNames, listingText, listing, listedAnswer, ListingDone}
+use Rattle.list_definitions.specs.Listing.{Names, listingText, listing, listedAnswer, ListingDone}
 use Rattle.list_definitions.specs.declared.Listed.the-variants.{Refused}
 use Rattle.list_definitions.specs.declared.ListScanned.the-variants.{Refused as ScanRefused}
 
@@ -36,9 +36,9 @@ module _ (vars : ℕ) (ws : List ℕ) (rs : List RungRecord) where
   unfolding callListScan listScannedAnswer
   scan-refuses t w refusal times e = record { answer = rw (e, callListScan); same-table = rw (e, callListScan); same-times = rw (e, callListScan) }
 
-  pub listing-refused : (out : List ℕ) (refusal : RefusalCase) → listAnswer vars ws rs ≡ some (refusalOf refusal) → ListingDone (listing fixedNames vars ws rs out) (Refused refusal) out
+  pub listing-refused : (names : Names) (out : List ℕ) (refusal : RefusalCase) → listAnswer vars ws rs ≡ some (refusalOf refusal) → ListingDone (listing names vars ws rs out) (Refused refusal) out
   unfolding listAnswer listing listedAnswer
-  listing-refused out refusal e =
-      let room = question13 (record { needed = length (listingText fixedNames vars (listOf ws rs)); lent = length out } ∷ []) in
+  listing-refused names out refusal e =
+      let room = question13 (record { needed = length (listingText names vars (listOf ws rs)); lent = length out } ∷ []) in
       let q = first-refused (question1 vars) (question10 vars ws rs) (room ∷ []) (refusalOf refusal) e in
       record { answer = rw (q, listing); same-buffer = rw (q, listing) }

@@ -3,18 +3,19 @@
 use Prim.Native.Nat.{_-_}
 use native.Mathlib.Omega.{arith}
 use lib.ListN.{length}
-use Rattle.list_printing.proofs.Printed.{Listing, listing-start, next-within, next-ready, listing-more, listing-end}
+use Rattle.list_definitions.specs.Listing.{fixedNames}
+use Rattle.list_printing.proofs.Printed.{name-row, Listing, listing-start, next-within, next-ready, listing-more, listing-end}
 use Rattle.list_printing.proofs.put_list.Statement.{statement}
 use Rattle.list_printing.proofs.put_list.Tie as tie
 
 abbrev Inv-loop : tie.InvT-loop
-Inv-loop vars code labels offsets lengths out₀ end₀ start₀ k₀ out end start k = Listing vars code labels offsets lengths out₀ out end start k
+Inv-loop vars code labels offsets lengths out₀ end₀ start₀ k₀ out end start k = Listing fixedNames vars code labels offsets lengths out₀ out end start k
 
 abbrev μ-loop : tie.MeasureT-loop
 μ-loop vars code labels offsets lengths out₀ end₀ start₀ k₀ out end start k = length labels - k
 
 loop-holds : tie.Need-loop-holds Inv-loop μ-loop
-loop-holds c = listing-start _ _ _ _ _ _ (c .before .before .before .before .before .pre)
+loop-holds c = listing-start _ _ _ _ _ _ _ (c .before .before .before .before .before .pre)
 
 mul-put-label : tie.Need-mul-put-label Inv-loop μ-loop
 mul-put-label c = omega arith
@@ -51,7 +52,7 @@ loop-less c = omega arith
 
 loop-again : tie.Need-loop-again Inv-loop μ-loop
 loop-again c =
-    listing-more (c .before .before .before .before .before .before .before .before .before .before .before .loop .inv) (c .before .before .before .before .before .before .before .before .before .before .loop-test .taken) (c .before .before .before .before .before .before .before .put-label .ensures) (omega (arith, c .before .before .before .before .before .before .before .before .shared-slice-known5 .given (c .before .before .before .before .before .before .before .before .before .before .before .loop .k))) (c .before .before .put-rung .ensures)
+    listing-more (c .before .before .before .before .before .before .before .before .before .before .before .loop .inv) (c .before .before .before .before .before .before .before .before .before .before .loop-test .taken) (c .before .before .before .before .before .before .before .put-label .ensures) (omega (arith, c .before .before .before .before .before .before .before .before .shared-slice-known5 .given (c .before .before .before .before .before .before .before .before .before .before .before .loop .k))) name-row (c .before .before .put-rung .ensures)
 
 same-length : tie.Need-same-length Inv-loop μ-loop
 same-length c = c .before .loop .inv .left .long

@@ -2,12 +2,13 @@
 -- Assumes nothing.
 use Prim.Native.Nat.{_-_}
 use native.Mathlib.Omega.{arith}
-use Rattle.list_printing.proofs.Printed.{Printing, printing-start, printing-more, printing-end}
+use Rattle.list_definitions.specs.Listing.{fixedNames}
+use Rattle.list_printing.proofs.Printed.{name-row, Printing, printing-start, printing-more, printing-end}
 use Rattle.list_printing.proofs.put_rung.Statement.{statement}
 use Rattle.list_printing.proofs.put_rung.Tie as tie
 
 abbrev Inv-loop : tie.InvT-loop
-Inv-loop out₀ at vars code from to end₀ i₀ out end i = Printing vars code from to at out₀ out end i
+Inv-loop out₀ at vars code from to end₀ i₀ out end i = Printing fixedNames vars code from to at out₀ out end i
 
 abbrev μ-loop : tie.MeasureT-loop
 μ-loop out₀ at vars code from to end₀ i₀ out end i = to - i
@@ -33,7 +34,7 @@ loop-less c = omega arith
 
 loop-again : tie.Need-loop-again Inv-loop μ-loop
 loop-again c =
-    printing-more (c .before .before .before .before .before .before .loop .inv) (c .before .before .before .before .before .before .before .before .before .pre .within) (c .before .before .before .before .before .loop-test .taken) (c .before .before .put-instruction .ensures)
+    printing-more (c .before .before .before .before .before .before .loop .inv) name-row (c .before .before .before .before .before .before .before .before .before .pre .within) (c .before .before .before .before .before .loop-test .taken) (c .before .before .put-instruction .ensures)
 
 same-length : tie.Need-same-length Inv-loop μ-loop
 same-length c = c .before .loop .inv .left .long

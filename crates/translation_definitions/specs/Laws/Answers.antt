@@ -16,7 +16,7 @@ use Rattle.ladder_definitions.specs.Laws.Accepting.{ladder-first}
 use Rattle.list_definitions.specs.Instruction.{instrWord}
 use Rattle.list_definitions.specs.Machine.{InstructionList}
 use Rattle.translation_definitions.specs.Translate.{translate}
-use Rattle.translation_definitions.specs.TranslateKept.{Counts, countsOf, listBuffers, TranslateAnswer, translated, refused, translateKept}
+use Rattle.translation_definitions.specs.TranslateKept.{Counts, countsOf, listBuffers, TranslateAnswer, translated, refused, listWritten, translateKept}
 
 pub not-both : (c : Counts) (r : Refusal) → _≡_ {A = TranslateAnswer} (translated c) (refused r) → ⊥
 not-both c r e = let z : _≡_ {A = ℕ} 0 1 = cc in omega arith
@@ -35,11 +35,11 @@ module _ (vars : ℕ) (k : Kept) (lent : Buffers) where
   room = question13 (needs (listBuffers list) lent)
 
   pub call-refused : (r : Refusal) → asked ≡ some r → translateKept vars k lent ≡ record { answer = refused r; buffers = lent }
-  unfolding translateKept
+  unfolding translateKept listWritten
   call-refused r e = rw (ladder-first vars k (room ∷ []) ∙ e, translateKept)
 
   pub call-written : asked ≡ none → translateKept vars k lent ≡ record { answer = translated (countsOf list); buffers = writtenOver (listBuffers list) lent }
-  unfolding translateKept
+  unfolding translateKept listWritten
   call-written e = rw (ladder-first vars k (room ∷ []) ∙ e, translateKept)
 
   pub refused-same : (r : Refusal) → translateKept vars k lent .answer ≡ refused r → translateKept vars k lent .buffers ≡ lent
