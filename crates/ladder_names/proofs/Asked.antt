@@ -4,7 +4,7 @@ use Prim.Native.Nat.{ℕ, zero, suc, _+_, _-_, _/_, _%_, _≤_, _<_}
 use native.Mathlib.Numerals.{add-one}
 use native.Mathlib.Omega.{arith}
 use mathlib.Core.Path.{_≡_, refl, sym, ap, _∙_}
-use mathlib.Core.Bool.{Bool, true, false, true≢false, not, _&&_, _||_, and-assoc, and-true, and-false}
+use mathlib.Core.Bool.{Bool, true, false, true≢false, not, _&&_, and-assoc, and-true, and-false, _||_}
 use mathlib.Core.Option.{none, some}
 use mathlib.Core.List.{List, [], _∷_, _++_, map, flatMap, append-assoc, append-nil}
 use lib.Dec.{T, leb, ltb, ltb→lt}
@@ -14,7 +14,7 @@ use mir.Facts.{and-yes}
 use borrow.Author.Count.{below-more}
 use borrow.Author.Tests.{lt-ltb, le-ltb, le-leb, lt-leb}
 use Rattle.questions.specs.Tests.{all, firstFailed}
-use Rattle.questions.specs.Laws.Tests.{T→true, all-head, all-tail, all-cons, all-ends, failed-none}
+use Rattle.questions.specs.Laws.Tests.{T→true, all-head, all-tail, all-getD, all-weaker, all-ends, failed-none}
 use Rattle.rungs.specs.Words.{operands, word, numberOf, operandOf}
 use Rattle.rungs.specs.Records.{search, present}
 use Rattle.rungs.specs.Laws.Search.{search-before, search-past}
@@ -66,16 +66,6 @@ module _ {A : Type 0} (test : A → Bool) where
   unfolding all
   all-both [] ys = refl
   all-both (x ∷ xs) ys = rw (all-both xs ys) (sym (and-assoc (test x) (all test xs) (all test ys)))
-
-  all-getD : (xs : List A) (k : ℕ) (d : A) → k < length xs → T (all test xs) → T (test (getD xs k d))
-  all-getD [] k d h t = absurd (omega arith)
-  all-getD (x ∷ xs) zero d h t = all-head test x xs t
-  all-getD (x ∷ xs) (suc k) d h t = all-getD xs k d (omega arith) (all-tail test x xs t)
-
-  all-weaker : (weaker : A → Bool) → ((x : A) → T (test x) → T (weaker x)) → (xs : List A) → T (all test xs) → T (all weaker xs)
-  unfolding all
-  all-weaker weaker f [] t = tt
-  all-weaker weaker f (x ∷ xs) t = all-cons weaker x xs (f x (all-head test x xs t)) (all-weaker weaker f xs (all-tail test x xs t))
 
   -- a loop that tests every entry: the answer so far, with what is left to test from place i on
   pub record AskedTo (xs : List A) (b : Bool) (i : ℕ) : Type 0 where

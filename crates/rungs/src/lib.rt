@@ -1,8 +1,8 @@
-// Words and labels of ladders and lists: read, put and searched; and the larger of two numbers. Past the end of a slice there is
+// Words and labels of ladders and lists: read, put, copied and searched; and the larger of two numbers. Past the end of a slice there is
 // nothing, and nothing is written.
 ghost use mathlib.Core.Path.{_≡_};
-ghost use Prim.Native.Nat.{max};
-ghost use lib.ListN.{getD, set, replicate};
+ghost use Prim.Native.Nat.{_+_, _<_, _^_, max};
+ghost use lib.ListN.{getD, take, set, replicate};
 ghost use lib.Seq.{sets};
 ghost use Rattle.rungs.specs.Records.{lookUp};
 ghost use Rattle.rungs.specs.Parts.{placeOf};
@@ -53,6 +53,32 @@ pub fn put_zeros(words: &mut [u32], count: usize)
     while put < count {
         put_word(words, put, 0);
         put += 1;
+    }
+}
+
+// The first `count` words of a part.
+pub fn copy_words(part: &[u32], count: usize, words: &mut [u32], at: usize)
+    requires { ⌜ at + count < 2 ^ 64 ⌝ }
+    ensures { λ _. ⌜ now (words .exit) ≡ sets (now (words .entry)) at (take count (now (part .entry))) ⌝ }
+{
+    let mut i: usize = 0;
+    while i < count {
+        if part.len() <= i {
+            return;
+        }
+        put_word(words, at + i, part[i]);
+        i += 1;
+    }
+}
+
+// All labels of a part.
+pub fn copy_labels(part: &[u16], labels: &mut [u16])
+    ensures { λ _. ⌜ now (labels .exit) ≡ sets (now (labels .entry)) 0 (now (part .entry)) ⌝ }
+{
+    let mut i: usize = 0;
+    while i < part.len() {
+        put_label(labels, i, part[i]);
+        i += 1;
     }
 }
 

@@ -90,11 +90,11 @@ fn hand_over(
     if times.len() < new_times.len() {
         return TextRead::Refused(Refusal::Buffer);
     }
-    text_fronts::words::copy_words(new_words, new_words.len(), words, 0);
-    text_fronts::words::copy_labels(new_labels, labels);
-    text_fronts::words::copy_words(new_offsets, new_offsets.len(), offsets, 0);
-    text_fronts::words::copy_words(new_lengths, new_lengths.len(), lengths, 0);
-    text_fronts::words::copy_words(new_times, new_times.len(), times, 0);
+    rungs::copy_words(new_words, new_words.len(), words, 0);
+    rungs::copy_labels(new_labels, labels);
+    rungs::copy_words(new_offsets, new_offsets.len(), offsets, 0);
+    rungs::copy_words(new_lengths, new_lengths.len(), lengths, 0);
+    rungs::copy_words(new_times, new_times.len(), times, 0);
     TextRead::Kept(Counts {
         words: new_words.len(),
         rungs: new_labels.len(),

@@ -1,6 +1,5 @@
 -- Laws that the proofs of functions cite.
 pub mod Chains
-pub mod Copies
 pub mod Factors
 pub mod Parts
 pub mod Sets

@@ -12,19 +12,10 @@ use Rattle.text_grammar.specs.Numbers.{NumberRead}
 use Rattle.text_grammar.specs.declared.Numeral.{Numeral}
 use Rattle.text_grammar.specs.declared.Numeral.the-variants.{Value, Missing}
 use Rattle.text_grammar.specs.Laws.Spans.{inside}
+use Rattle.text_grammar.specs.Laws.Parses.{same-tree, not-both}
 use Rattle.text_fronts.specs.Parts.{parsedOf, PartRead, oneWord, leafOf}
 use Rattle.text_fronts.specs.declared.part.Parsed.{Parsed}
 use Rattle.text_fronts.specs.declared.part.Parsed.the-variants.{Read, Stuck}
-
--- what was read is one thing
-pub same-tree : {A : Type 0} {n m : ℕ} {t u : A} → read n t ≡ read m u → t ≡ u
-same-tree e = cc
-
-pub same-end : {A : Type 0} {n m : ℕ} {t u : A} → read n t ≡ read m u → n ≡ m
-same-end e = cc
-
-pub not-both : {A : Type 0} (p : Parse A) (x n : ℕ) (t : A) → p ≡ stuck x → p ≡ read n t → ⊥
-not-both p x n t a b = let z : _≡_ {A = ℕ} 0 1 = cc in omega arith
 
 -- a part and the byte x after it
 module _ {A : Type 0} (s : List ℕ) (b : ℕ) (p : Parse A) where

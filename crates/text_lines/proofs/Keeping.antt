@@ -1,6 +1,6 @@
 -- Laws of rungs that are kept in buffers one after the other, and of what they take. Assumes nothing.
 use mathlib.Core.Path.{_≡_, refl, sym, ap, subst, _∙_}
-use mathlib.Core.List.{List, [], _∷_, _++_, map, flatMap, map-append, append-assoc}
+use mathlib.Core.List.{List, [], _∷_, _++_, map, flatMap, map-append}
 use Prim.Native.Nat.{ℕ, zero, suc, _+_, _≤_, _<_, max}
 use native.Mathlib.Nat.{zero-add}
 use native.Mathlib.Omega.{arith}
@@ -22,7 +22,7 @@ use Rattle.text_lines.specs.declared.LineParsed.the-variants.{Read as Li
 use Rattle.text_lines.specs.declared.LineKept.{LineKept}
 use Rattle.text_lines.specs.declared.LineKept.the-variants.{Read as LineKeptCase, Stuck as LineNotKept}
 use Rattle.text_lines.specs.declared.LinesParsed.the-variants.{Read as LinesReadCase, Stuck as LinesStuckCase}
-use Rattle.text_fronts.proofs.Parts.{same-tree, not-both}
+use Rattle.text_grammar.specs.Laws.Parses.{same-tree, not-both, map-none, map-more}
 use Rattle.questions.specs.Laws.Stores.{sets-append}
 use Rattle.text_fronts.proofs.Sets.{taken}
 
@@ -161,16 +161,6 @@ pub record Keeping (s : List ℕ) (before now : Columns) (next : ℕ) (z : Sizes
   pub fewer : z .rungs ≤ next
   pub long : AsLong before now
   pub out : z .longest ≤ 128 → now ≡ putAll before (keptColumns done)
-
-map-none : (p : Parse Ladder) → mapP (λ gs. [] ++ gs) p ≡ p
-unfolding mapP
-map-none (read n r) = refl
-map-none (stuck x) = refl
-
-map-more : (done : Ladder) (g : Rung) (p : Parse Ladder) → mapP (λ gs. done ++ gs) (mapP (λ gs. g ∷ gs) p) ≡ mapP (λ gs. (done ++ g ∷ []) ++ gs) p
-unfolding mapP
-map-more done g (read n r) = ap (read n) (sym (append-assoc done (g ∷ []) r))
-map-more done g (stuck x) = refl
 
 no-rungs : sizesOf [] ≡ record { words = 0; rungs = 0; longest = 0 }
 unfolding sizesOf encode lay longest flatMap

@@ -18,17 +18,9 @@ use Rattle.text_lines.specs.Parts.{rungOf, LineRead}
 use Rattle.text_fronts.specs.declared.part.Parsed.{Parsed}
 use Rattle.text_fronts.specs.declared.part.Parsed.the-variants.{Read, Stuck}
 use Rattle.text_lines.specs.declared.LineParsed.the-variants.{Read as LineReadCase, Stuck as LineStuckCase}
-use Rattle.text_fronts.proofs.Parts.{same-tree, not-both, followed-read, followed-short, followed-stuck, read-of, stuck-of, found, part-stuck, part-read}
+use Rattle.text_grammar.specs.Laws.Parses.{same-tree, not-both, bind-stuck, bind-read}
+use Rattle.text_fronts.proofs.Parts.{followed-read, followed-short, followed-stuck, read-of, stuck-of, found, part-stuck, part-read}
 use Rattle.questions.specs.Laws.Stores.{sets-append}
-
-module _ {A B : Type 0} (p : Parse A) (rest : ℕ → A → Parse B) where
-  bind-stuck : (x : ℕ) → p ≡ stuck x → bind p rest ≡ stuck x
-  unfolding bind
-  bind-stuck x e = rw e refl
-
-  bind-read : (n : ℕ) (a : A) → p ≡ read n a → bind p rest ≡ rest n a
-  unfolding bind
-  bind-read n a e = rw e refl
 
 -- a byte that is not 0 lies within the text
 pub byte-within : (s : List ℕ) (i x b : ℕ) → x ≡ getD s i 0 → x ≡ b → 0 < b → i < length s

@@ -129,7 +129,7 @@ fn keep(
 {
     let at = sizes.rungs;
     let from = sizes.words;
-    text_fronts::words::copy_words(rung, count, words, from);
+    rungs::copy_words(rung, count, words, from);
     rungs::put_label(labels, at, label);
     rungs::put_word(offsets, at, from as u32);
     rungs::put_word(lengths, at, count as u32);

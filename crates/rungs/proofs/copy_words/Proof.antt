@@ -1,12 +1,12 @@
--- `text::words::copy_words` meets its contract. The loop's invariant: what is left to copy, over what is copied, is the whole. Assumes nothing.
+-- `rungs::copy_words` meets its contract. The loop's invariant: what is left to copy, over what is copied, is the whole. Assumes nothing.
 use Prim.Native.Nat.{_-_}
 use mathlib.Core.Path.{refl}
 use native.Mathlib.Omega.{arith}
 use borrow.Author.Needs.{needs}
 use lib.ListN.{take}
-use Rattle.text_fronts.proofs.Copies.{Copying, copy-start, copy-more, copy-end, taken-more, taken-here, taken-all, taken-short}
-use Rattle.text_fronts.proofs.words.copy_words.Statement.{statement}
-use Rattle.text_fronts.proofs.words.copy_words.Tie as tie
+use Rattle.rungs.proofs.Copies.{Copying, copy-start, copy-more, copy-end, taken-more, taken-here, taken-all, taken-short}
+use Rattle.rungs.proofs.copy_words.Statement.{statement}
+use Rattle.rungs.proofs.copy_words.Tie as tie
 
 abbrev Inv-loop : tie.InvT-loop
 Inv-loop part count words₀ at i₀ words i = Copying words₀ at (take count part) words i

@@ -1,12 +1,12 @@
--- `text::words::copy_labels` meets its contract. The loop's invariant: what is left to copy, over what is copied, is the whole. Assumes nothing.
+-- `rungs::copy_labels` meets its contract. The loop's invariant: what is left to copy, over what is copied, is the whole. Assumes nothing.
 use Prim.Native.Nat.{_-_}
 use mathlib.Core.Path.{refl}
 use native.Mathlib.Omega.{arith}
 use borrow.Author.Needs.{needs}
 use lib.ListN.{length}
-use Rattle.text_fronts.proofs.Copies.{Copying, copy-start, copy-more, copy-end}
-use Rattle.text_fronts.proofs.words.copy_labels.Statement.{statement}
-use Rattle.text_fronts.proofs.words.copy_labels.Tie as tie
+use Rattle.rungs.proofs.Copies.{Copying, copy-start, copy-more, copy-end}
+use Rattle.rungs.proofs.copy_labels.Statement.{statement}
+use Rattle.rungs.proofs.copy_labels.Tie as tie
 
 abbrev Inv-loop : tie.InvT-loop
 Inv-loop part labels₀ i₀ labels i = Copying labels₀ 0 part labels i
