@@ -1,5 +1,5 @@
-/* The five calls of document 01 and the search for a label, with document 02's requests up to Req 04, in plain C, for comparison. Written
-   from the documents alone; it shares nothing with the proved code.
+/* The five calls of document 01, the search for a label and the list reader, with document 02's requests up to Req 05, in plain C, for
+   comparison. Written from the documents alone; it shares nothing with the proved code.
    Standard input: a number of turns, LF, and one request of the vectors' format. Each turn works on a fresh copy of the table;
    the times entered need none, since a list scan sets them for itself alone.
    Standard output: the request's answer line, as the program test_vectors prints it. Standard error: nanoseconds a turn. */
@@ -346,24 +346,52 @@ static Translation translate(uint32_t vars, const uint32_t *w, size_t n, const R
     return t;
 }
 
-/* ---- Listing */
+/* ---- name tables: "one name for each op, 1 to 6 capital letters", six bytes an op, the rest of them zeros */
 
-static const char NAMES[16][6] = {"LD", "LDN", "ST", "STN", "AND", "ANDN", "OR", "ORN", "XOR", "XORN", "NOT", "JMP", "JMPC", "JMPCN", "S", "R"};
+enum { NAME_BYTES = 6 };
+
+static int is_capital(int b) { return b >= 'A' && b <= 'Z'; }
+static int is_jump(uint32_t op) { return op >= JMP && op <= JMPCN; }
+
+/* A name as one number, its first letter lowest; 0 where it is empty or "isn't capitals before zeros". */
+static uint64_t name_key(const uint8_t *name)
+{
+    uint64_t key = 0;
+    int k = 0;
+    for (; k < NAME_BYTES && is_capital(name[k]); k++) key |= (uint64_t)name[k] << 8 * k;
+    for (; k < NAME_BYTES; k++) if (name[k]) return 0;
+    return key;
+}
+
+/* Question 14; keys gets the names' numbers. */
+static No names_asked(const uint8_t *names, size_t bytes, uint64_t keys[R])
+{
+    if (bytes != R * NAME_BYTES) return no(14, 0);
+    for (size_t i = 0; i < R; i++) {
+        keys[i] = name_key(names + i * NAME_BYTES);
+        if (keys[i] == 0) return no(14, 0);
+        for (size_t j = 0; j < i; j++) if (keys[j] == keys[i]) return no(14, 0);
+    }
+    return YES;
+}
+
+/* ---- Listing */
 
 typedef struct { uint8_t *bytes; size_t room, put; } Lines;
 static void put(Lines *l, uint8_t b) { if (l->put < l->room) l->bytes[l->put] = b; l->put++; }
 static void put_number(Lines *l, uint32_t x) { if (x >= 10) put_number(l, x / 10); put(l, '0' + x % 10); }
 
-static void put_list(Lines *l, uint32_t vars, const uint32_t *c, const Rung *r, size_t m)
+static void put_list(Lines *l, uint32_t vars, const uint32_t *c, const Rung *r, size_t m, const uint8_t *names)
 {
     for (size_t i = 0; i < m; i++) {
         put(l, 'L'); put_number(l, r[i].label); put(l, ':'); put(l, '\n');
         for (size_t j = r[i].offset; j < r[i].offset + r[i].length; j++) {
             uint32_t op = kind(c[j]), x = operand(c[j]);
-            for (int k = 0; k < 6 && NAMES[op - 1][k]; k++) put(l, (uint8_t)NAMES[op - 1][k]);
+            const uint8_t *name = names + (op - 1) * NAME_BYTES;
+            for (int k = 0; k < NAME_BYTES && name[k]; k++) put(l, name[k]);
             if (op != NOT) {
                 put(l, ' ');
-                if (op >= JMP && op <= JMPCN) { put(l, '@'); put_number(l, x); }
+                if (is_jump(op)) { put(l, '@'); put_number(l, x); }
                 else if (x < vars) { put(l, 'v'); put_number(l, x); }
                 else { put(l, 't'); put_number(l, x - vars); }
             }
@@ -374,16 +402,19 @@ static void put_list(Lines *l, uint32_t vars, const uint32_t *c, const Rung *r, 
 
 typedef struct { No no; size_t bytes; } ListingDone;
 
-static ListingDone listing(uint32_t vars, const uint32_t *c, size_t n, const Rung *r, size_t m, uint8_t *out, size_t room)
+static ListingDone listing(uint32_t vars, const uint32_t *c, size_t n, const Rung *r, size_t m, uint8_t *out, size_t room, const uint8_t *names, size_t name_bytes)
 {
     ListingDone d = {YES, 0};
+    uint64_t keys[R];
+    d.no = names_asked(names, name_bytes, keys);
+    if (d.no.number) return d;
     d.no = list_asked(vars, c, n, r, m);
     if (d.no.number) return d;
     Lines count = {out, 0, 0};
-    put_list(&count, vars, c, r, m);
+    put_list(&count, vars, c, r, m, names);
     if (count.put > room) { d.no = no(13, 0); return d; }
     Lines write = {out, room, 0};
-    put_list(&write, vars, c, r, m);
+    put_list(&write, vars, c, r, m, names);
     d.bytes = write.put;
     return d;
 }
@@ -504,6 +535,78 @@ static ReadDone read_text(uint32_t vars, const uint8_t *text, size_t bytes, uint
     return d;
 }
 
+/* ---- the list reader: lines as Listing prints them, a label line first. A label line begins with L before a digit; no name has one. */
+
+/* The op whose name stands here. */
+static uint32_t op_named(Reader *p, const uint64_t keys[R])
+{
+    uint64_t key = 0;
+    int b;
+    for (int k = 0; k < NAME_BYTES && is_capital(b = peek(p)); k++) { key |= (uint64_t)b << 8 * k; p->at++; }
+    for (uint32_t op = LD; op <= R; op++) if (keys[op - 1] == key) return op;
+    p->stuck = 1;
+    return 0;
+}
+
+/* "v below V, t below 32, and for each op only the sort of operand it takes" */
+static uint32_t list_operand(Reader *p, uint32_t vars, uint32_t op)
+{
+    int b = peek(p);
+    uint32_t limit = is_jump(op) ? (b == '@' ? 65536 : 0) : b == 'v' ? vars : b == 't' ? SCRATCH : 0;
+    if (limit == 0) { p->stuck = 1; return 0; }
+    p->at++;
+    uint32_t x = number(p);
+    if (x >= limit) p->stuck = 1;
+    return b == 't' ? vars + x : x;
+}
+
+static int at_label(const Reader *p)
+{
+    if (peek(p) != 'L' || p->at + 1 >= p->bytes) return 0;
+    int b = p->text[p->at + 1];
+    return b >= '0' && b <= '9';
+}
+
+/* One line; rungs counts the records. Both counts end at one more than question 10 takes. */
+static void list_line(Reader *p, uint32_t vars, const uint64_t keys[R], size_t *rungs)
+{
+    if (at_label(p)) {
+        p->at++;
+        Rung begun = {(uint16_t)number(p), (uint32_t)p->put, 0, 0};
+        take(p, ':');
+        if (*rungs <= MOST_RUNGS) read_rungs[(*rungs)++] = begun;
+    } else {
+        uint32_t op = op_named(p, keys), x = 0;
+        if (op != NOT && take(p, ' ')) x = list_operand(p, vars, op);
+        if (*rungs == 0) p->stuck = 1;
+        else if (p->put <= MOST_CODE) { word(p, op, x); read_rungs[*rungs - 1].length++; }
+    }
+    take(p, '\n');
+}
+
+/* "The reader writes and returns as Translate does." The form, 15, is asked of the whole text before 10. */
+static Translation read_list(uint32_t vars, const uint8_t *text, size_t bytes, uint32_t *code, size_t code_room, Rung *out, size_t rung_room, const uint8_t *names, size_t name_bytes)
+{
+    Translation t = {YES, 0, 0, 0};
+    uint64_t keys[R];
+    t.no = names_asked(names, name_bytes, keys);
+    if (t.no.number) return t;
+    if (vars < 1 || vars > MOST_VARS) { t.no = no(1, 0); return t; }
+    Reader p = {text, bytes, 0, 0, 0, read_words, 0};
+    size_t m = 0;
+    do list_line(&p, vars, keys, &m); while (!p.stuck && p.at < bytes);
+    if (p.stuck) { t.no = no(15, 0); return t; }
+    t.no = list_asked(vars, read_words, p.put, read_rungs, m);
+    if (t.no.number) return t;
+    if (p.put > code_room || m > rung_room) { t.no = no(13, 0); return t; }
+    memcpy(code, read_words, p.put * sizeof *code);
+    memcpy(out, read_rungs, m * sizeof *out);
+    for (size_t i = 0; i < m; i++) if (out[i].length > t.longest) t.longest = out[i].length;
+    t.instructions = p.put;
+    t.rungs = m;
+    return t;
+}
+
 /* ---- requests and answers */
 
 static uint32_t next(void)
@@ -515,10 +618,10 @@ static uint32_t next(void)
 
 static uint32_t lent_words[20000], words[20000];
 static Rung lent_rungs[400], rungs[400];
-static uint8_t lent_bytes[70000], bytes[70000];
+static uint8_t lent_bytes[70000], bytes[70000], names[120];
 
 static size_t in_words(void) { size_t n = next(); for (size_t i = 0; i < n; i++) lent_words[i] = next(); return n; }
-static size_t in_bytes(void) { size_t n = next(); for (size_t i = 0; i < n; i++) lent_bytes[i] = (uint8_t)next(); return n; }
+static size_t in_bytes(uint8_t *to) { size_t n = next(); for (size_t i = 0; i < n; i++) to[i] = (uint8_t)next(); return n; }
 
 static size_t in_rungs(void)
 {
@@ -575,43 +678,45 @@ static double now(void) { struct timespec t; clock_gettime(CLOCK_MONOTONIC, &t);
 int main(void)
 {
     uint32_t turns = next(), call = next(), vars = call == 6 ? 0 : next();
-    size_t n = 0, m = 0, a = 0, b = 0;
+    size_t n = 0, m = 0, a = 0, b = 0, name_bytes = 0;
     ReadDone r = {YES, 0, 0};
     Translation t = {YES, 0, 0, 0};
     Scan s = {YES, 0, 0, 0, 0};
     ListingDone l = {YES, 0};
     Search f = {0, 0, 0};
-    if (call == 1) { n = in_bytes(); a = next(); b = next(); }
+    if (call == 1 || call == 7) { n = in_bytes(lent_bytes); a = next(); b = next(); }
     else if (call == 6) { m = in_rungs(); b = next(); }
     else {
         n = in_words();
         m = in_rungs();
-        if (call == 3 || call == 4) { a = in_bytes(); b = next(); }
+        if (call == 3 || call == 4) { a = in_bytes(lent_bytes); b = next(); }
         else { a = next(); if (call == 2) b = next(); }
     }
+    if (call == 5 || call == 7) name_bytes = in_bytes(names);
     fill();
     double begin = now();
     for (uint32_t i = 0; i < turns; i++) {
         if (call == 1) r = read_text(vars, lent_bytes, n, words, a, rungs, b);
         else if (call == 2) t = translate(vars, lent_words, n, lent_rungs, m, words, a, rungs, b);
-        else if (call == 5) { if (i == 0) memset(bytes, 255, a); l = listing(vars, lent_words, n, lent_rungs, m, bytes, a); }
+        else if (call == 5) { if (i == 0) memset(bytes, 255, a); l = listing(vars, lent_words, n, lent_rungs, m, bytes, a, names, name_bytes); }
         else if (call == 6) f = search(lent_rungs, m, (uint32_t)b);
+        else if (call == 7) t = read_list(vars, lent_bytes, n, words, a, rungs, b, names, name_bytes);
         else {
             memcpy(bytes, lent_bytes, a);
             s = call == 3 ? ladder_scan(vars, lent_words, n, lent_rungs, m, bytes, a, (uint32_t)b) : list_scan(vars, lent_words, n, lent_rungs, m, bytes, a, (uint32_t)b);
         }
     }
     double end = now();
-    No x = call == 1 ? r.no : call == 2 ? t.no : call == 5 ? l.no : s.no;
+    No x = call == 1 ? r.no : call == 2 || call == 7 ? t.no : call == 5 ? l.no : s.no;
     if (x.number) printf("0 %d %zu", x.number, x.place);
     else if (call == 1) printf("1 %zu %zu", r.words, r.rungs);
-    else if (call == 2) printf("1 %zu %zu %zu", t.instructions, t.rungs, t.longest);
+    else if (call == 2 || call == 7) printf("1 %zu %zu %zu", t.instructions, t.rungs, t.longest);
     else if (call == 3) printf("%d %u %u", s.ended ? 1 : 2, s.rungs, s.moved);
     else if (call == 4) printf("%d %u %u %u", s.ended ? 1 : 2, s.instructions, s.rungs, s.moved);
     else if (call == 5) printf("1 %zu", l.bytes);
     else if (f.found) printf("1 %zu %zu", f.place, f.looked);
     else printf("2 %zu", f.looked);
-    if (call <= 2) { out_words(a); out_rungs(b); }
+    if (call <= 2 || call == 7) { out_words(a); out_rungs(b); }
     else if (call == 5) out_lines(a);
     else out_table(a);
     if (call == 4) out_times(m);

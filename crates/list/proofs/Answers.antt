@@ -1,12 +1,13 @@
 -- Laws of the questions in order: the first "no" of the calls. Assumes nothing.
-use Prim.Native.Nat.{ℕ, _+_, _≤_, _<_}
+use Prim.Native.Nat.{ℕ, _+_, _*_, _≤_, _<_}
 use native.Mathlib.Nat.{zero-add}
 use native.Mathlib.Omega.{arith}
 use mathlib.Core.Path.{_≡_, sym, _∙_}
 use mathlib.Core.Bool.{true, false, _&&_, and-false}
 use mathlib.Core.Option.{none, some}
 use mathlib.Core.List.{List, [], _∷_}
-use lib.Dec.{T, leb}
+use lib.Dec.{T, eqb, leb, eqb→eq}
+use mir.Facts.{and-yes}
 use lib.ListN.{length}
 use lib.Seq.{sets-eq}
 use borrow.Author.Tests.{le-leb, lt-leb}
@@ -21,13 +22,14 @@ use Rattle.table.specs.Questions.{tableInRange, question11}
 use Rattle.rungs.specs.Records.{RungRecord, fieldsOf, rowOf}
 use Rattle.rungs.specs.Laws.Rows.{Even, row-even, row-offsets, row-fields, row-uneven, row-times}
 use Rattle.questions.specs.Laws.Answers.{ask-passed, first-yes, later-yes}
-use Rattle.list_definitions.specs.Listing.{fixedNames, listingText, listing, listedAnswer, ListingDone}
+use Rattle.list_definitions.specs.Names.{mostOp, nameBytes, namesIn, isName, different, isNameTable, question14}
+use Rattle.list_definitions.specs.Listing.{listingText, listing, listedAnswer, ListingDone}
 use Rattle.list_definitions.specs.declared.Listed.the-variants.{Written, Refused as RefusedListing}
 use Rattle.printing.specs.Put.{Put}
 use Rattle.list_machine.specs.Parts.{Ran}
 use Rattle.list_machine.specs.Laws.Scans.{scan-in-range, scan-scans}
 use Rattle.list_definitions.specs.Laws.InRange.{list-in-range}
-use Rattle.list_definitions.specs.Laws.Refusing.{first-accepted, scan-asked-list}
+use Rattle.list_definitions.specs.Laws.Refusing.{first-accepted, names-accepted, scan-asked-list}
 use Rattle.list_definitions.specs.Questions.{mostInstructions, listInRange, question10, listAnswer}
 use Rattle.list_definitions.specs.ListScan.{listOf, scanQuestions, callListScan, ListScanDone}
 use Rattle.list_definitions.specs.declared.ListScanned.{ListScanned}
@@ -122,30 +124,34 @@ module _ (vars : ℕ) (ws ls os ns before t : List ℕ) (w : ℕ) (ok : scanQues
 
 -- ---- Listing
 
-module _ (vars : ℕ) (ws : List ℕ) (rs : List RungRecord) (out : List ℕ) where
+-- an accepted table has 96 bytes
+pub table-long : (table : List ℕ) → isNameTable table ≡ true → length table ≡ nameBytes * mostOp
+unfolding isNameTable
+table-long table e = eqb→eq (length table) (nameBytes * mostOp) (and-yes (eqb (length table) (nameBytes * mostOp)) (all isName (namesIn table) && different (namesIn table)) (rw e tt) .0)
+
+module _ (table : List ℕ) (vars : ℕ) (ws : List ℕ) (rs : List RungRecord) (out : List ℕ) where
   abbrev text : List ℕ
-  text = listingText fixedNames vars (listOf ws rs)
+  text = listingText (namesIn table) vars (listOf ws rs)
 
   abbrev answers : List Answer
-  answers = question1 vars ∷ question10 vars ws rs ∷ question13 (record { needed = length text; lent = length out } ∷ []) ∷ []
+  answers = question14 table ∷ question1 vars ∷ question10 vars ws rs ∷ question13 (record { needed = length text; lent = length out } ∷ []) ∷ []
 
-  refuses-listing : (refusal : RefusalCase) → firstNo answers ≡ some (refusalOf refusal) → ListingDone (listing fixedNames vars ws rs out) (RefusedListing refusal) out
+  refuses-listing : (refusal : RefusalCase) → firstNo answers ≡ some (refusalOf refusal) → ListingDone (listing table vars ws rs out) (RefusedListing refusal) out
   unfolding listing listedAnswer
   refuses-listing refusal e = record { answer = rw (e, listing); same-buffer = rw (e, listing) }
 
-  module _ (ok : listAnswer vars ws rs ≡ none) where
+  module _ (named : isNameTable table ≡ true) (ok : listAnswer vars ws rs ≡ none) where
     last : firstNo answers ≡ firstNo (question13 (record { needed = length text; lent = length out } ∷ []) ∷ [])
     unfolding listAnswer
-    last = first-accepted (question1 vars) (question10 vars ws rs) _ ok
+    last = names-accepted table named _ ∙ first-accepted (question1 vars) (question10 vars ws rs) _ ok
 
     -- the bytes were counted over a buffer of none
-    listing-short : (n : ℕ) (u : List ℕ) → Put [] 0 (listingText fixedNames vars (listOf ws rs)) n u → length out < n
-        → ListingDone (listing fixedNames vars ws rs out) (RefusedListing BufferCase) out
+    listing-short : (n : ℕ) (u : List ℕ) → Put [] 0 text n u → length out < n → ListingDone (listing table vars ws rs out) (RefusedListing BufferCase) out
     unfolding firstNo question13 all longEnough ask refusalOf
     listing-short n u p h = let e = p .end in refuses-listing BufferCase (last ∙ rw (lt-leb (length text) (length out) (omega arith)))
 
-    listing-written : (n : ℕ) (u : List ℕ) → Put [] 0 (listingText fixedNames vars (listOf ws rs)) n u → n ≤ length out
-        → (r : ℕ) (v : List ℕ) → Put out 0 (listingText fixedNames vars (listOf ws rs)) r v → ListingDone (listing fixedNames vars ws rs out) (Written r) v
+    listing-written : (n : ℕ) (u : List ℕ) → Put [] 0 text n u → n ≤ length out
+        → (r : ℕ) (v : List ℕ) → Put out 0 text r v → ListingDone (listing table vars ws rs out) (Written r) v
     unfolding firstNo question13 all longEnough ask listing listedAnswer
     listing-written n u p h r v w =
         let e = p .end in
@@ -159,14 +165,14 @@ module _ (vars : ℕ) (ws : List ℕ) (rs : List RungRecord) (out : List ℕ) wh
         }
 
 -- the same of four slices
-module _ (vars : ℕ) (ws ls os ns ts out : List ℕ) (ok : listAnswer vars ws (rowOf ls os ns ts) ≡ none) where
+module _ (table : List ℕ) (vars : ℕ) (ws ls os ns ts out : List ℕ) (named : isNameTable table ≡ true) (ok : listAnswer vars ws (rowOf ls os ns ts) ≡ none) where
   abbrev same-row : rowOf ls os ns ts ≡ fieldsOf ls os ns
   same-row = row-accepted vars ws ls os ns ts ok
 
-  pub row-short : (n : ℕ) (u : List ℕ) → Put [] 0 (listingText fixedNames vars (listOf ws (fieldsOf ls os ns))) n u → length out < n
-      → ListingDone (listing fixedNames vars ws (rowOf ls os ns ts) out) (RefusedListing BufferCase) out
-  row-short n u p h = rw same-row (listing-short vars ws (fieldsOf ls os ns) out (rw same-row at ok) n u p h)
+  pub row-short : (n : ℕ) (u : List ℕ) → Put [] 0 (listingText (namesIn table) vars (listOf ws (fieldsOf ls os ns))) n u → length out < n
+      → ListingDone (listing table vars ws (rowOf ls os ns ts) out) (RefusedListing BufferCase) out
+  row-short n u p h = rw same-row (listing-short table vars ws (fieldsOf ls os ns) out named (rw same-row at ok) n u p h)
 
-  pub row-written : (n : ℕ) (u : List ℕ) → Put [] 0 (listingText fixedNames vars (listOf ws (fieldsOf ls os ns))) n u → n ≤ length out
-      → (r : ℕ) (v : List ℕ) → Put out 0 (listingText fixedNames vars (listOf ws (fieldsOf ls os ns))) r v → ListingDone (listing fixedNames vars ws (rowOf ls os ns ts) out) (Written r) v
-  row-written n u p h r v w = rw same-row (listing-written vars ws (fieldsOf ls os ns) out (rw same-row at ok) n u p h r v w)
+  pub row-written : (n : ℕ) (u : List ℕ) → Put [] 0 (listingText (namesIn table) vars (listOf ws (fieldsOf ls os ns))) n u → n ≤ length out
+      → (r : ℕ) (v : List ℕ) → Put out 0 (listingText (namesIn table) vars (listOf ws (fieldsOf ls os ns))) r v → ListingDone (listing table vars ws (rowOf ls os ns ts) out) (Written r) v
+  row-written n u p h r v w = rw same-row (listing-written table vars ws (fieldsOf ls os ns) out named (rw same-row at ok) n u p h r v w)

@@ -1,10 +1,10 @@
-// The calls of the list side: questions 1 and 10, List scan and Listing. Document 01, "What a list does", "Listing".
+// The calls of the list side: questions 1 and 10, List scan and Listing. Document 01, "What a list does", "Listing"; document 02, Req 05.
 ghost use mathlib.Core.Path.{_≡_};
 ghost use Rattle.rungs.specs.Records.{rowOf};
 ghost use Rattle.questions.specs.Refusals.{verdictAnswer};
 ghost use Rattle.list_definitions.specs.Questions.{listAnswer};
 ghost use Rattle.list_definitions.specs.ListScan.{scanQuestions, callListScan, ListScanDone};
-ghost use Rattle.list_definitions.specs.Listing.{fixedNames, listing, ListingDone};
+ghost use Rattle.list_definitions.specs.Listing.{listing, ListingDone};
 pub use list_definitions::Counts;
 pub use list_definitions::ListScanned;
 pub use list_definitions::Listed;
@@ -86,7 +86,7 @@ pub fn list_scan(
     }
 }
 
-// Listing.
+// Listing, with a name table (02, Req 05).
 pub fn listing(
     vars: u32,
     code: &[u32],
@@ -94,12 +94,16 @@ pub fn listing(
     offsets: &[u32],
     lengths: &[u32],
     times: &[u32],
+    names: &[u8],
     out: &mut [u8],
 ) -> Listed
-    ensures { λ r. ⌜ ListingDone (listing fixedNames vars (now (code .entry))
+    ensures { λ r. ⌜ ListingDone (listing (now (names .entry)) vars (now (code .entry))
         (rowOf (now (labels .entry)) (now (offsets .entry)) (now (lengths .entry)) (now (times .entry)))
         (now (out .entry))) r (now (out .exit)) ⌝ }
 {
+    if !list_names::is_name_table(names) {
+        return Listed::Refused(Refusal::NameTable);
+    }
     match list_answer(vars, code, labels, offsets, lengths, times) {
         Verdict::Refused(refusal) => {
             return Listed::Refused(refusal);
@@ -107,10 +111,10 @@ pub fn listing(
         Verdict::Accepted => {}
     }
     let mut none = [0u8; 0];
-    let needed = list_printing::put_list(vars, code, labels, offsets, lengths, &mut none);
+    let needed = list_printing::put_list(names, vars, code, labels, offsets, lengths, &mut none);
     if out.len() < needed {
         return Listed::Refused(Refusal::Buffer);
     }
-    let end = list_printing::put_list(vars, code, labels, offsets, lengths, out);
+    let end = list_printing::put_list(names, vars, code, labels, offsets, lengths, out);
     Listed::Written(end)
 }

@@ -1,10 +1,10 @@
--- Worked lists: case A of document 01, and a list for each rule of "What a list does" that it leaves untried; and worked question 10. Assumes nothing.
+-- Worked lists: case A of document 01, and a list for each rule of "What a list does" that it leaves untried; worked questions 10 and 14, and listings. Assumes nothing.
 use mathlib.Core.Path.{_≡_, refl}
 use mathlib.Core.Option.{some}
 use mathlib.Core.List.{List, [], _∷_, _++_, map, flatMap, zipWith}
 use mathlib.Core.Bool.{true, false, xor}
 use Prim.Native.Nat.{ℕ}
-use lib.ListN.{replicate, length, take}
+use lib.ListN.{replicate, length, take, drop}
 use Rattle.questions.specs.Bytes.{bytes, decimal, digits}
 use Rattle.questions.specs.Tests.{all}
 use Rattle.questions.specs.Questions.{Answer, yes, ask, varsInRange, question1, firstNo}
@@ -15,7 +15,8 @@ use Rattle.rungs.specs.Records.{RungRecord, isStart, laid, enter}
 use Rattle.list_definitions.specs.Instruction.{Instr, LD, LDN, ST, STN, AND, ANDN, OR, ORN, XOR, XORN, NOT, JMP, JMPC, JMPCN, S, R, operand, opOf, operandNumber, instrWord, decodeInstr, ops, onlyNot}
 use Rattle.list_definitions.specs.Machine.{InstructionList, does, count, step, fresh, begin, halted, scanMachine, scanList}
 use Rattle.list_definitions.specs.Writes.{instrWrites, writesFrom, listWrites}
-use Rattle.list_definitions.specs.Listing.{fixedNames, trimmed, nameOf, operandText, instrLine, labelLine, rungLines, listingLines, ended, listingText}
+use Rattle.list_definitions.specs.Names.{fixedNames, trimmed, nameOf, namesFrom, namesIn, fixedTable, isCapital, isName, sameBytes, different, isNameTable, question14}
+use Rattle.list_definitions.specs.Listing.{operandText, instrLine, labelLine, rungLines, listingLines, ended, listingText}
 use Rattle.list_definitions.specs.Questions.{operandInRange, wordInRange, recordsLaid, listInRange, question10, listAnswer}
 
 -- a list, its variables before, the instruction watchdog; how the scan halts, its counts, the times entered and the variables after
@@ -192,3 +193,42 @@ A-listing = refl
 others-listed : map (instrLine fixedNames 1000) (NOT ∷ XORN 999 ∷ STN 1031 ∷ JMPCN 16384 ∷ JMP 0 ∷ S 0 ∷ R 1000 ∷ []) ≡ bytes "NOT" ∷ bytes "XORN v999" ∷ bytes "STN t31" ∷ bytes "JMPCN @16384" ∷ bytes "JMP @0" ∷ bytes "S v0" ∷ bytes "R t0" ∷ []
 unfolding instrLine operandText operand opOf nameOf trimmed fixedNames bytes decimal digits
 others-listed = refl
+
+-- ---- 02, Req 05
+
+unfoldable pub zeros : ℕ → List ℕ
+zeros n = replicate n 0
+
+-- a park's own names: one is L, one has six letters, some begin others
+unfoldable pub parkTable : List ℕ
+parkTable =
+    bytes "L" ++ zeros 5 ++ bytes "LN" ++ zeros 4 ++ bytes "S" ++ zeros 5 ++ bytes "SN" ++ zeros 4 ++ bytes "UND" ++ zeros 3 ++ bytes "UNDN" ++ zeros 2 ++ bytes "ODER" ++ zeros 2
+    ++ bytes "ODERN" ++ zeros 1 ++ bytes "XO" ++ zeros 4 ++ bytes "XON" ++ zeros 3 ++ bytes "NICHT" ++ zeros 1 ++ bytes "SPRUNG" ++ bytes "SPB" ++ zeros 3 ++ bytes "SPBN" ++ zeros 2
+    ++ bytes "SET" ++ zeros 3 ++ bytes "RUECK" ++ zeros 1
+
+-- question 14: the fixed table, the park's, none; a byte too few and one too many, an empty name, a small letter, a letter after a zero, a repeated name
+tables : List Answer
+tables =
+    question14 fixedTable
+    ∷ question14 parkTable
+    ∷ question14 []
+    ∷ question14 (drop 1 fixedTable)
+    ∷ question14 (fixedTable ++ zeros 1)
+    ∷ question14 (zeros 6 ++ drop 6 fixedTable)
+    ∷ question14 (bytes "Ld" ++ zeros 4 ++ drop 6 fixedTable)
+    ∷ question14 (bytes "L" ++ zeros 1 ++ bytes "D" ++ zeros 3 ++ drop 6 fixedTable)
+    ∷ question14 (bytes "LDN" ++ zeros 3 ++ drop 6 fixedTable)
+    ∷ question14 (take 90 fixedTable ++ take 6 fixedTable)
+    ∷ []
+
+no-names : Answer
+no-names = some (record { number = 14; place = 0 })
+
+tables-worked : tables ≡ yes ∷ yes ∷ no-names ∷ no-names ∷ no-names ∷ no-names ∷ no-names ∷ no-names ∷ no-names ∷ no-names ∷ []
+unfolding tables no-names parkTable zeros fixedTable bytes fixedNames trimmed flatMap all ask namesFrom isCapital isName sameBytes different isNameTable question14
+tables-worked = refl
+
+-- a list in the park's names
+park-listed : map (instrLine (namesIn parkTable) 5) (LD 0 ∷ NOT ∷ STN 36 ∷ JMP 3 ∷ S 4 ∷ R 5 ∷ []) ≡ bytes "L v0" ∷ bytes "NICHT" ∷ bytes "SN t31" ∷ bytes "SPRUNG @3" ∷ bytes "SET v4" ∷ bytes "RUECK t0" ∷ []
+unfolding parkTable zeros namesFrom instrLine operandText operand opOf nameOf trimmed bytes decimal digits
+park-listed = refl

@@ -3,6 +3,7 @@ use Prim.Native.Nat.{ℕ, zero, suc}
 use mathlib.Core.Bool.{Bool, true}
 use mathlib.Core.Option.{Option, none, some}
 use mathlib.Core.List.{List, [], _∷_}
+use lib.Dec.{eqb}
 use lib.ListN.{getD}
 use Rattle.rungs.specs.Words.{word, numberOf, operandOf, isOperand}
 
@@ -105,6 +106,16 @@ sortOf (instructionIndex j) = instructionSort
 -- by op's number; no sort where no instruction has it
 unfoldable pub operandSort : ℕ → OperandSort
 operandSort k = elim (getD ops k noOp 0) [ none ↦ noSort | some i ↦ sortOf (operand i) ]
+
+-- whether two sorts are one
+unfoldable pub sortNumber : OperandSort → ℕ
+sortNumber tableSort = 0
+sortNumber nothingSort = 1
+sortNumber instructionSort = 2
+sortNumber noSort = 3
+
+unfoldable pub sameSort : OperandSort → OperandSort → Bool
+sameSort a b = eqb (sortNumber a) (sortNumber b)
 
 -- an operand of 16 bits
 unfoldable pub operandFits : Operand → Bool

@@ -1,6 +1,7 @@
 -- Laws of the definitions. No contract cites these modules.
 pub mod Decoding
 pub mod InRange
+pub mod Names
 pub mod Refusing
 pub mod Watchdog
 pub mod Words

@@ -1,12 +1,12 @@
--- The call Listing: the printed list, and the call's answer and buffer afterwards, for all inputs. Document 01, "Listing". Assumes nothing.
+-- The call Listing: the printed list, and the call's answer and buffer afterwards, for all inputs. Document 01, "Listing"; 02, Req 05. Assumes nothing.
 use Prim.Native.Nat.{ℕ, _-_}
 use mathlib.Core.Path.{_≡_}
 use mathlib.Core.Bool.{true, false}
 use mathlib.Core.Option.{none, some}
 use mathlib.Core.List.{List, [], _∷_, _++_, map, flatMap}
-use lib.Dec.{eqb, ltb}
-use lib.ListN.{length, getD, take, drop}
-use Rattle.questions.specs.Bytes.{byte, bytes, decimal}
+use lib.Dec.{ltb}
+use lib.ListN.{length, take, drop}
+use Rattle.questions.specs.Bytes.{byte, decimal}
 use Rattle.questions.specs.Questions.{Refusal, firstNo, question1, question13}
 use Rattle.questions.specs.Refusals.{refusalOf}
 use Rattle.rungs.specs.Records.{RungRecord}
@@ -14,42 +14,9 @@ use Rattle.list_definitions.specs.Instruction.{Instr, Operand, tableInde
 use Rattle.list_definitions.specs.Machine.{InstructionList}
 use Rattle.list_definitions.specs.Questions.{question10}
 use Rattle.list_definitions.specs.ListScan.{listOf}
+use Rattle.list_definitions.specs.Names.{Names, nameOf, namesIn, question14}
 use Rattle.list_definitions.specs.declared.Listed.{Listed}
 use Rattle.list_definitions.specs.declared.Listed.the-variants.{Written, Refused as RefusedCase}
-
--- a name for each op from 1 on, six bytes each, filled with zeros
-abbrev pub Names : Type 0
-Names = List (List ℕ)
-
--- "The fourteen names are one fixed table, six bytes a name, filled with zeros."; with 02's S and R there are sixteen
-unfoldable pub fixedNames : Names
-unfolding bytes
-fixedNames =
-    (bytes "LD" ++ 0 ∷ 0 ∷ 0 ∷ 0 ∷ [])
-    ∷ (bytes "LDN" ++ 0 ∷ 0 ∷ 0 ∷ [])
-    ∷ (bytes "ST" ++ 0 ∷ 0 ∷ 0 ∷ 0 ∷ [])
-    ∷ (bytes "STN" ++ 0 ∷ 0 ∷ 0 ∷ [])
-    ∷ (bytes "AND" ++ 0 ∷ 0 ∷ 0 ∷ [])
-    ∷ (bytes "ANDN" ++ 0 ∷ 0 ∷ [])
-    ∷ (bytes "OR" ++ 0 ∷ 0 ∷ 0 ∷ 0 ∷ [])
-    ∷ (bytes "ORN" ++ 0 ∷ 0 ∷ 0 ∷ [])
-    ∷ (bytes "XOR" ++ 0 ∷ 0 ∷ 0 ∷ [])
-    ∷ (bytes "XORN" ++ 0 ∷ 0 ∷ [])
-    ∷ (bytes "NOT" ++ 0 ∷ 0 ∷ 0 ∷ [])
-    ∷ (bytes "JMP" ++ 0 ∷ 0 ∷ 0 ∷ [])
-    ∷ (bytes "JMPC" ++ 0 ∷ 0 ∷ [])
-    ∷ (bytes "JMPCN" ++ 0 ∷ [])
-    ∷ (bytes "S" ++ 0 ∷ 0 ∷ 0 ∷ 0 ∷ 0 ∷ [])
-    ∷ (bytes "R" ++ 0 ∷ 0 ∷ 0 ∷ 0 ∷ 0 ∷ [])
-    ∷ []
-
--- a name without its filling
-unfoldable pub trimmed : List ℕ → List ℕ
-trimmed [] = []
-trimmed (b ∷ bs) = elim (eqb b 0) [ true ↦ [] | false ↦ b ∷ trimmed bs ]
-
-unfoldable pub nameOf : Names → ℕ → List ℕ
-nameOf names op = trimmed (getD names (op - 1) [])
 
 -- "space, operand (NOT: name only). Operands are v or t with its number, or @ with the index."
 unfoldable pub operandText : ℕ → Operand → List ℕ
@@ -88,11 +55,12 @@ pub record ListingCall : Type 0 where
   pub answer : ListingAnswer
   pub buffer : List ℕ
 
--- questions 1, 10 and 13 in order; a refusal leaves the buffer, and else the text stands at its start and the rest stays
-unfoldable pub listing : Names → ℕ → List ℕ → List RungRecord → List ℕ → ListingCall
-listing names vars words rs out =
-    let text = listingText names vars (listOf words rs) in
-    elim (firstNo (question1 vars ∷ question10 vars words rs ∷ question13 (record { needed = length text; lent = length out } ∷ []) ∷ [])) [
+-- with a name table: 02, Req 05, "it takes the fixed table's place in Listing". Questions 14, 1, 10 and 13 in order; a refusal leaves the buffer, and else the
+-- text stands at its start and the rest stays
+unfoldable pub listing : List ℕ → ℕ → List ℕ → List RungRecord → List ℕ → ListingCall
+listing table vars words rs out =
+    let text = listingText (namesIn table) vars (listOf words rs) in
+    elim (firstNo (question14 table ∷ question1 vars ∷ question10 vars words rs ∷ question13 (record { needed = length text; lent = length out } ∷ []) ∷ [])) [
       | some refusal ↦ record { answer = refused refusal; buffer = out }
       | none ↦ record { answer = written (length text); buffer = text ++ drop (length text) out }
     ]

@@ -24,7 +24,9 @@ use Rattle.list_definitions.specs.Questions.{recordsLaid}
 use Rattle.list_definitions.specs.ListScan.{ListCounts, scanned, refused, listOf, callListScan}
 use Rattle.list_definitions.specs.Writes.{listWrites}
 use Rattle.list_definitions.specs.Standing.{StandsAt}
+use Rattle.list_definitions.specs.Names.{fixedNames, fixedTable, namesIn, question14, IsNameTable}
 use Rattle.list_definitions.specs.Laws.Decoding.{decode-instr, instr-decoded, decode-code, code-decoded}
+use Rattle.list_definitions.specs.Laws.Names.{accepted-table, table-accepted, fixed-names, fixed-accepted}
 use Rattle.list_definitions.specs.Laws.Watchdog.{stopped-stands, stands-stopped, ended-stands, stands-ended, list-within}
 use Rattle.list_definitions.specs.Laws.Writes.{list-makes, list-few}
 use Rattle.list_definitions.specs.Laws.Times.{each-time, times-sum}
@@ -102,3 +104,11 @@ call-times-add-up vars words records table watchdog halt counts e before = times
 pub call-times-left : (vars : ℕ) (words : List ℕ) (records : List RungRecord) (table : List ℕ) (watchdog : ℕ) (r : Refusal)
     → callListScan vars words records table watchdog .answer ≡ refused r → (before : List ℕ) → callListScan vars words records table watchdog .times before ≡ before
 call-times-left vars words records table watchdog r e before = times-left vars words records table watchdog r e before
+
+-- 02, Req 05: question 14 gets a "yes" exactly when the table has six bytes an op, each six are a name, and no two of them are equal.
+pub table-exactly : (table : List ℕ) → (question14 table ≡ none) ↔ IsNameTable table
+table-exactly table = (accepted-table table, table-accepted table)
+
+-- The fixed table is accepted, and its names are the fixed names.
+pub fixed-table : (question14 fixedTable ≡ none) × (namesIn fixedTable ≡ fixedNames)
+fixed-table = (fixed-accepted, fixed-names)

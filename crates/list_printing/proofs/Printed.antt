@@ -1,31 +1,30 @@
 -- Laws of the printed list: texts written one after the other, how long they are, and the words and records that they print. Assumes nothing.
-use mathlib.Core.Path.{_≡_, refl, sym, ap, _∙_}
+use mathlib.Core.Path.{_≡_, refl, sym, ap, subst, _∙_}
 use mathlib.Core.Bool.{Bool, true, false}
 use mathlib.Core.Option.{Option, none, some}
-use mathlib.Core.List.{List, [], _∷_, _++_, map, flatMap, append-assoc}
+use mathlib.Core.List.{List, [], _∷_, _++_, map, flatMap}
 use Prim.Native.Nat.{ℕ, zero, suc, _+_, _-_, _*_, _≤_, _<_}
 use native.Mathlib.Nat.{add-zero, suc-add, zero-add}
 use native.Mathlib.Numerals.{add-one}
 use native.Mathlib.Omega.{arith}
 use borrow.Author.Tests.{eq-eqb, ne-eqb, lt-ltb, le-ltb, ltb-true, ltb-false}
-use mir.Facts.{and-yes}
-use lib.Dec.{T, eqb, ltb, leb, eqb→eq, ltb→lt, leb→le}
+use lib.Dec.{T, ltb}
 use lib.ListN.{length, getD, take, drop, length-append, drop-of-length-le}
-use lib.Seq.{slice, slice-empty, slice-cons, length-slice, take-nil}
-use Rattle.questions.specs.Laws.Maps.{take-map, drop-map}
-use Rattle.questions.specs.Bytes.{byte, bytes, decimal}
-use Rattle.questions.specs.Tests.{all}
-use Rattle.questions.specs.Laws.Tests.{all-head, all-tail}
+use lib.Seq.{getD-take, getD-drop, slice, slice-empty, slice-cons, length-slice, take-nil}
+use Rattle.questions.specs.Laws.Maps.{take-map, drop-map, flatMap-append}
+use Rattle.questions.specs.Bytes.{byte, decimal}
 use Rattle.rungs.specs.Words.{operands, numberOf, operandOf}
 use Rattle.rungs.specs.Records.{RungRecord, laid, fieldsOf}
-use Rattle.list_definitions.specs.Instruction.{Instr, LD, LDN, ST, STN, AND, ANDN, OR, ORN, XOR, XORN, NOT, JMP, JMPC, JMPCN, S, R, Operand, tableIndex, noOperand, instructionIndex, operand, operandFits, instrFits, opOf, operandNumber, instrWord, onlyNot, ops, decodeInstr, codeOf, OperandSort, tableSort, nothingSort, instructionSort, noSort, sortOf, operandSort}
-use Rattle.list_definitions.specs.Laws.Decoding.{instr-decoded}
+use Rattle.list_definitions.specs.Instruction.{Instr, LD, LDN, ST, STN, AND, ANDN, OR, ORN, XOR, XORN, NOT, JMP, JMPC, JMPCN, S, R, operand, instrFits, opOf, operandNumber, instrWord, onlyNot, ops, decodeInstr, codeOf, OperandSort, tableSort, nothingSort, instructionSort, noSort, sortOf, operandSort}
+use Rattle.list_definitions.specs.Laws.Decoding.{number-small, instr-decoded}
 use Rattle.list_definitions.specs.Questions.{listInRange}
 use Rattle.list_definitions.specs.ListScan.{listOf}
-use Rattle.list_definitions.specs.Listing.{Names, fixedNames, trimmed, nameOf, operandText, instrLine, labelLine, rungLines, listingLines, ended, listingText}
+use Rattle.list_definitions.specs.Names.{Names, trimmed, nameOf, mostOp, namesIn}
+use Rattle.list_definitions.specs.Laws.Names.{trimmed-long, name-at, name-short, op-in-table}
+use Rattle.list_definitions.specs.Listing.{operandText, instrLine, labelLine, rungLines, listingLines, ended, listingText}
 use Rattle.rungs.specs.Laws.Rows.{row-length, row-at}
+use Rattle.rungs.specs.Laws.Layout.{laid-next, laid-most}
 use Rattle.list_printing.proofs.Accepting.{ListAccepted, list-accepted}
-use Rattle.list_machine.proofs.Steps.{op-known}
 use Rattle.printing.specs.Put.{Put}
 use Rattle.printing.specs.Laws.Puts.{put-then, put-as, Left, all-left, left-none, left-more, decimal-long}
 use Rattle.list_definitions.specs.Laws.Words.{instrOf, Decodes}
@@ -33,23 +32,11 @@ use Rattle.list_printing.specs.Parts.{wordLine, wordLines, operandIn, op
 
 -- The names.
 
-all-getD : {A : Type 0} (test : A → Bool) (rows : List A) (d : A) → T (test d) → T (all test rows) → (k : ℕ) → T (test (getD rows k d))
-all-getD test [] d h t k = h
-all-getD test (r ∷ rows) d h t zero = all-head test r rows t
-all-getD test (r ∷ rows) d h t (suc k) = all-getD test rows d h (all-tail test r rows t) k
-
-pub name-row : (k : ℕ) → length (getD fixedNames k []) ≤ 6
-unfolding fixedNames bytes all
-name-row k = leb→le (length (getD fixedNames k [])) 6 (all-getD (λ r. leb (length r) 6) fixedNames [] tt tt k)
-
-trimmed-long : (name : List ℕ) → length (trimmed name) ≤ length name
-unfolding trimmed
-trimmed-long [] = omega arith
-trimmed-long (b ∷ bs) = go (eqb b 0) refl (trimmed-long bs)
-  where
-    go : (t : Bool) → eqb b 0 ≡ t → length (trimmed bs) ≤ length bs → length (trimmed (b ∷ bs)) ≤ suc (length bs)
-    go true e ih = rw (e, trimmed) (omega arith)
-    go false e ih = rw (e, trimmed) (omega arith)
+-- a byte of a table's name
+pub name-byte : (table : List ℕ) (p k : ℕ) → p < mostOp → k < 6 → getD table (p * 6 + k) 0 ≡ getD (getD (namesIn table) p []) k 0
+name-byte table p k h l =
+    let e : 6 * p ≡ p * 6 = omega arith in
+    sym (rw (name-at mostOp table p h, getD-take 6 (drop (6 * p) table) k 0 l, e) (getD-drop (p * 6) table k 0))
 
 -- names of at most six letters
 abbrev pub Short : Names → Type 0
@@ -58,6 +45,10 @@ Short names = (k : ℕ) → length (getD names k []) ≤ 6
 pub name-long : (names : Names) → Short names → (op : ℕ) → length (nameOf names op) ≤ 6
 unfolding nameOf
 name-long names short op = omega (arith, short (op - 1), trimmed-long (getD names (op - 1) []))
+
+-- how far a table's name reaches
+pub name-reach : (table : List ℕ) (op : ℕ) {l : List ℕ} {at r : ℕ} {x : List ℕ} → Put l at (nameOf (namesIn table) op) r x → r ≤ at + 6
+name-reach table op p = omega (arith, p .end, name-long (namesIn table) (name-short mostOp table) op)
 
 trimmed-zero : (name : List ℕ) (k : ℕ) → getD name k 0 ≡ 0 → trimmed (drop k name) ≡ []
 unfolding trimmed
@@ -99,6 +90,17 @@ module _ {l : List ℕ} {at : ℕ} {name x : List ℕ} {k : ℕ} (h : Naming l a
         short = h .short;
       }
 
+-- the same of a table's name, byte by byte
+module _ (table : List ℕ) (p : ℕ) (known : p < mostOp) {l : List ℕ} {at : ℕ} {x : List ℕ} {k : ℕ} (h : Naming l at (getD (namesIn table) p []) x k) (lt : k < 6) where
+  pub table-stop : getD table (p * 6 + k) 0 ≡ 0 → Put l at (trimmed (getD (namesIn table) p [])) (at + k) x
+  table-stop e = naming-stop h (sym (name-byte table p k known lt) ∙ e)
+
+  pub table-more : {r : ℕ} {y : List ℕ} → (getD table (p * 6 + k) 0 ≡ 0 → ⊥) → Put x (at + k) (getD table (p * 6 + k) 0 ∷ []) r y
+      → Naming l at (getD (namesIn table) p []) y (k + 1)
+  table-more {r} {y} e q =
+      let b = name-byte table p k known lt in
+      naming-more h lt (λ z. e (b ∙ z)) (subst (λ c. Put x (at + k) (c ∷ []) r y) b q)
+
 -- The operands, by the sort of their op.
 
 module _ (vars op x : ℕ) where
@@ -134,12 +136,6 @@ operand-long vars op x h = go (operandSort op) refl (ltb x vars) refl
 
 -- The lines of words.
 
-number-fits : (o : Operand) → T (operandFits o) → operandNumber o < operands
-unfolding operandFits operandNumber
-number-fits (tableIndex x) h = ltb→lt x operands h
-number-fits noOperand h = omega arith
-number-fits (instructionIndex j) h = ltb→lt j operands h
-
 operand-by-op : (vars : ℕ) (i : Instr) → operandText vars (operand i) ≡ operandBy vars (opOf i) (operandNumber (operand i))
 unfolding operand opOf operandNumber operandBy operandIn operandSort ops onlyNot sortOf
 operand-by-op vars (LD x) = refl
@@ -163,12 +159,11 @@ word-parts : (w : ℕ) (d : Decodes w) → (numberOf w ≡ opOf (d .instr)) × (
 unfolding instrWord instrFits
 word-parts w d =
     let s = instr-decoded w (d .instr) (d .same) in
-    let f = number-fits (operand (d .instr)) (s .1) in
+    let f = number-small (operand (d .instr)) (s .1) in
     (omega (arith, s .0), omega (arith, s .0))
 
-pub word-op : (w : ℕ) → Decodes w → (1 ≤ numberOf w) × (numberOf w ≤ length fixedNames)
-unfolding fixedNames bytes ops
-word-op w d = let known = op-known w (d .instr) (d .same) in (known .0, omega arith)
+pub word-op : (w : ℕ) → Decodes w → (1 ≤ numberOf w) × (numberOf w ≤ mostOp)
+word-op w d = rw (word-parts w d .0) (op-in-table (d .instr))
 
 pub word-line : (names : Names) (vars w : ℕ) → Decodes w → wordLine names vars w ≡ nameOf names (numberOf w) ++ operandBy vars (numberOf w) (operandOf w) ++ 10 ∷ []
 unfolding wordLine instrOf ended instrLine
@@ -223,11 +218,6 @@ module _ {names : Names} {vars : ℕ} {ws : List ℕ} {from to at : ℕ} {l x : 
 
 -- The text of records over words.
 
-flatMap-append : {A B : Type 0} (f : A → List B) (xs ys : List A) → flatMap f (xs ++ ys) ≡ flatMap f xs ++ flatMap f ys
-unfolding flatMap
-flatMap-append f [] ys = refl
-flatMap-append f (x ∷ xs) ys = rw (flatMap-append f xs ys) (sym (append-assoc (f x) (flatMap f xs) (flatMap f ys)))
-
 slice-add : (o n : ℕ) (ws : List ℕ) → slice o (o + n) ws ≡ take n (drop o ws)
 slice-add zero n ws = rw zero-add
 slice-add (suc o) n [] = rw (suc-add, take-nil)
@@ -255,17 +245,6 @@ listing-text names vars ws [] e = refl
 listing-text names vars ws (r ∷ rs) e =
     flatMap-append ended (rungLines names vars (codeOf ws) r) (flatMap (rungLines names vars (codeOf ws)) rs)
     ∙ rw (rung-text names vars ws r e, listing-text names vars ws rs e)
-
-laid-next : (start end : ℕ) (r : RungRecord) (rs : List RungRecord) → T (laid start end (r ∷ rs)) → (r .offset ≡ start) × T (laid (start + r .length) end rs)
-unfolding laid
-laid-next start end r rs h =
-    let y = and-yes (eqb (r .offset) start) (laid (start + r .length) end rs) h in
-    (eqb→eq (r .offset) start (y .0), y .1)
-
-laid-most : (start end : ℕ) (rs : List RungRecord) → T (laid start end rs) → start ≤ end
-unfolding laid
-laid-most start end [] h = omega (arith, eqb→eq start end h)
-laid-most start end (r ∷ rs) h = omega (arith, laid-most (start + r .length) end rs (laid-next start end r rs h .1))
 
 -- records of which the first k are printed
 pub record Listing (names : Names) (vars : ℕ) (ws ls os ns l x : List ℕ) (m start k : ℕ) : Type 0 where

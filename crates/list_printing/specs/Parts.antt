@@ -1,9 +1,10 @@
 -- What the functions of this crate promise to each other. Nothing here is a sentence of document 01. Assumes nothing.
 use Prim.Native.Nat.{ℕ, _+_, _-_, _*_, _≤_, _<_}
-use mathlib.Core.List.{List, [], _∷_, flatMap}
+use mathlib.Core.List.{List, [], flatMap}
 use lib.ListN.{length, getD}
 use Rattle.list_definitions.specs.Instruction.{Operand, tableIndex, noOperand, instructionIndex, OperandSort, tableSort, nothingSort, instructionSort, noSort, operandSort}
-use Rattle.list_definitions.specs.Listing.{Names, operandText, instrLine, ended}
+use Rattle.list_definitions.specs.Names.{Names}
+use Rattle.list_definitions.specs.Listing.{operandText, instrLine, ended}
 use Rattle.list_definitions.specs.Laws.Words.{instrOf, Decodes}
 
 -- the lines of some words

@@ -1,6 +1,7 @@
 // The printed list. Each function writes its text from `at` on and gives the position after it; past the buffer's end nothing is
 // written, so that the same functions count the bytes, over a buffer of none.
 ghost use Prim.Native.Nat.{_≤_, _<_};
+ghost use mathlib.Core.Path.{_≡_};
 ghost use mathlib.Core.List.{_∷_};
 ghost use lib.Dec.{T};
 ghost use lib.ListN.{length};
@@ -10,41 +11,23 @@ ghost use Rattle.rungs.specs.Words.{operands};
 ghost use Rattle.rungs.specs.Records.{fieldsOf};
 ghost use Rattle.list_definitions.specs.Questions.{listInRange};
 ghost use Rattle.list_definitions.specs.ListScan.{listOf};
-ghost use Rattle.list_definitions.specs.Listing.{fixedNames, nameOf, labelLine, ended, listingText};
+ghost use Rattle.list_definitions.specs.Names.{nameOf, mostOp, namesIn};
+ghost use Rattle.list_definitions.specs.Listing.{labelLine, ended, listingText};
 ghost use Rattle.printing.specs.Put.{Put};
 ghost use Rattle.list_definitions.specs.Laws.Words.{Decodes};
 ghost use Rattle.list_printing.specs.Parts.{operandBy, wordLine, wordLines, RungReady};
+use list_names::NAME_BYTES;
 use list_ops::OperandSort;
 
-// Six bytes a name, filled with zeros, by op from 1.
-const NAMES: [[u8; 6]; 16] = [
-    [b'L', b'D', 0, 0, 0, 0],
-    [b'L', b'D', b'N', 0, 0, 0],
-    [b'S', b'T', 0, 0, 0, 0],
-    [b'S', b'T', b'N', 0, 0, 0],
-    [b'A', b'N', b'D', 0, 0, 0],
-    [b'A', b'N', b'D', b'N', 0, 0],
-    [b'O', b'R', 0, 0, 0, 0],
-    [b'O', b'R', b'N', 0, 0, 0],
-    [b'X', b'O', b'R', 0, 0, 0],
-    [b'X', b'O', b'R', b'N', 0, 0],
-    [b'N', b'O', b'T', 0, 0, 0],
-    [b'J', b'M', b'P', 0, 0, 0],
-    [b'J', b'M', b'P', b'C', 0, 0],
-    [b'J', b'M', b'P', b'C', b'N', 0],
-    [b'S', 0, 0, 0, 0, 0],
-    [b'R', 0, 0, 0, 0, 0],
-];
-
 // The name of an op, up to its filling.
-fn put_name(out: &mut [u8], at: usize, op: usize) -> usize
-    requires { ⌜ (at < 800000) × (1 ≤ op) × (op ≤ length fixedNames) ⌝ }
-    ensures { λ r. ⌜ Put (now (out .entry)) at (nameOf fixedNames op) r (now (out .exit)) ⌝ }
+fn put_name(out: &mut [u8], at: usize, names: &[u8], op: usize) -> usize
+    requires { ⌜ (at < 800000) × (1 ≤ op) × (op ≤ mostOp) × (length (now names) ≡ 96) ⌝ }
+    ensures { λ r. ⌜ Put (now (out .entry)) at (nameOf (namesIn (now (names .entry))) op) r (now (out .exit)) ⌝ }
 {
-    let name = NAMES[op - 1];
+    let from = (op - 1) * NAME_BYTES;
     let mut k: usize = 0;
-    while k < 6 {
-        let b = name[k];
+    while k < NAME_BYTES {
+        let b = names[from + k];
         if b == 0 {
             return at + k;
         }
@@ -83,13 +66,13 @@ fn put_operand(out: &mut [u8], at: usize, vars: u32, op: u32, operand: u32) -> u
 }
 
 // The line of an instruction.
-fn put_instruction(out: &mut [u8], at: usize, vars: u32, word: u32) -> usize
-    requires { ⌜ (at < 600000) × Decodes word ⌝ }
-    ensures { λ r. ⌜ Put (now (out .entry)) at (wordLine fixedNames vars word) r (now (out .exit)) ⌝ }
+fn put_instruction(out: &mut [u8], at: usize, names: &[u8], vars: u32, word: u32) -> usize
+    requires { ⌜ (at < 600000) × Decodes word × (length (now names) ≡ 96) ⌝ }
+    ensures { λ r. ⌜ Put (now (out .entry)) at (wordLine (namesIn (now (names .entry))) vars word) r (now (out .exit)) ⌝ }
 {
     let op = word / rungs::OPERANDS;
     let operand = word % rungs::OPERANDS;
-    let name = put_name(out, at, op as usize);
+    let name = put_name(out, at, names, op as usize);
     let end = put_operand(out, name, vars, op, operand);
     printing::put_byte(out, end, b'\n')
 }
@@ -106,21 +89,31 @@ fn put_label(out: &mut [u8], at: usize, label: u16) -> usize
 }
 
 // The lines of the instructions from one index up to another.
-fn put_rung(out: &mut [u8], at: usize, vars: u32, code: &[u32], from: usize, to: usize) -> usize
-    requires { ⌜ RungReady vars (now code) from to at ⌝ }
-    ensures { λ r. ⌜ Put (now (out .entry)) at (wordLines fixedNames vars (slice from to (now (code .entry)))) r (now (out .exit)) ⌝ }
+fn put_rung(
+    out: &mut [u8],
+    at: usize,
+    names: &[u8],
+    vars: u32,
+    code: &[u32],
+    from: usize,
+    to: usize,
+) -> usize
+    requires { ⌜ RungReady vars (now code) from to at × (length (now names) ≡ 96) ⌝ }
+    ensures { λ r. ⌜ Put (now (out .entry)) at
+        (wordLines (namesIn (now (names .entry))) vars (slice from to (now (code .entry)))) r (now (out .exit)) ⌝ }
 {
     let mut end = at;
     let mut i = from;
     while i < to {
-        end = put_instruction(out, end, vars, code[i]);
+        end = put_instruction(out, end, names, vars, code[i]);
         i += 1;
     }
     end
 }
 
-// The whole listing.
+// The whole listing, in the names of a table.
 pub fn put_list(
+    names: &[u8],
     vars: u32,
     code: &[u32],
     labels: &[u16],
@@ -128,9 +121,9 @@ pub fn put_list(
     lengths: &[u32],
     out: &mut [u8],
 ) -> usize
-    requires { ⌜ T (listInRange vars (now code) (fieldsOf (now labels) (now offsets) (now lengths))) ⌝ }
+    requires { ⌜ (length (now names) ≡ 96) × T (listInRange vars (now code) (fieldsOf (now labels) (now offsets) (now lengths))) ⌝ }
     ensures { λ r. ⌜ Put (now (out .entry)) 0
-        (listingText fixedNames vars (listOf (now (code .entry))
+        (listingText (namesIn (now (names .entry))) vars (listOf (now (code .entry))
         (fieldsOf (now (labels .entry)) (now (offsets .entry)) (now (lengths .entry)))))
         r (now (out .exit)) ⌝ }
 {
@@ -140,7 +133,7 @@ pub fn put_list(
     while k < labels.len() {
         end = put_label(out, end, labels[k]);
         let next = start + lengths[k] as usize;
-        end = put_rung(out, end, vars, code, start, next);
+        end = put_rung(out, end, names, vars, code, start, next);
         start = next;
         k += 1;
     }

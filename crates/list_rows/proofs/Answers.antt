@@ -13,7 +13,7 @@ use types.Run.{OneOf, miss}
 use Rattle.questions.specs.Questions.{ask, firstNo, varsInRange, question1}
 use Rattle.questions.specs.Refusals.{refusalOf}
 use Rattle.questions.specs.declared.Refusal.{Refusal}
-use Rattle.questions.specs.declared.Refusal.the-variants.{Variables, List as ListCase}
+use Rattle.questions.specs.declared.Refusal.the-variants.{Variables, List as ListCase, NameTable}
 use Rattle.rungs.specs.Records.{RungRecord, fieldsOf, rowOf, mostRecords}
 use Rattle.rungs.specs.Laws.Rows.{row-fields}
 use Rattle.rows.specs.Parts.{gathered, timesPut}
@@ -22,9 +22,10 @@ use Rattle.rows.specs.Laws.Written.{times-put-all}
 use Rattle.rows.specs.declared.Rows.{Rows}
 use Rattle.list_definitions.specs.Questions.{mostInstructions, listInRange, question10, listAnswer}
 use Rattle.list_definitions.specs.ListScan.{ListScanCall, scanEnds, callListScan, listScannedAnswer, ListScanDone}
-use Rattle.list_definitions.specs.Listing.{fixedNames, listing, ListingDone}
+use Rattle.list_definitions.specs.Listing.{listing, ListingDone}
+use Rattle.list_definitions.specs.Names.{isNameTable}
 use Rattle.list_definitions.specs.Laws.Answers.{asked, times-left}
-use Rattle.list_definitions.specs.Laws.Refusing.{scan-asked-list, listing-refused, scan-refuses}
+use Rattle.list_definitions.specs.Laws.Refusing.{scan-asked-list, listing-unnamed, listing-refused, scan-refuses}
 use Rattle.list_definitions.specs.declared.Listed.{Listed}
 use Rattle.list_definitions.specs.declared.Listed.the-variants.{Refused as RefusedListing}
 use Rattle.list_definitions.specs.declared.ListScanned.{ListScanned}
@@ -143,14 +144,17 @@ module _ (vars : ℕ) (ws : List ℕ) (rows : Rows) (t : List ℕ) (w : ℕ) whe
 
 -- ---- Listing
 
-module _ (vars : ℕ) (ws : List ℕ) (rows : Rows) (out : List ℕ) where
-  pub listed-long : (x : Refusal) → mostRecords < rows .n → LongRefused vars x → RowListed vars ws rows out (RefusedListing x) out
-  listed-long x h r = record {
+module _ (table : List ℕ) (vars : ℕ) (ws : List ℕ) (rows : Rows) (out : List ℕ) where
+  pub listed-unnamed : isNameTable table ≡ false → RowListed table vars ws rows out (RefusedListing NameTable) out
+  listed-unnamed e = record { same = λ rs _. listing-unnamed vars ws rs table out e }
+
+  pub listed-long : (x : Refusal) → mostRecords < rows .n → isNameTable table ≡ true → LongRefused vars x → RowListed table vars ws rows out (RefusedListing x) out
+  listed-long x h named r = record {
     same = λ rs e.
         let l = n-lent rows rs e in
-        listing-refused vars ws rs fixedNames out x (r .same ws rs (omega arith));
+        listing-refused vars ws rs table out x named (r .same ws rs (omega arith));
   }
 
   pub listed-row : (r : Listed) (after : List ℕ) (h : rows .n ≤ mostRecords) (inside : rows .n ≤ length (rows .labels)) (zs : List ℕ) (many : length zs ≡ rows .n)
-      → ListingDone (listing fixedNames vars ws (copied rows h inside zs many) out) r after → RowListed vars ws rows out r after
+      → ListingDone (listing table vars ws (copied rows h inside zs many) out) r after → RowListed table vars ws rows out r after
   listed-row r after h inside zs many d = record { same = λ rs e. rw (copied-row rows h inside zs many rs e) at d }

@@ -11,7 +11,7 @@ use Rattle.rows.specs.Parts.{gathered, timesPut}
 use Rattle.rows.specs.declared.Rows.{Rows}
 use Rattle.list_definitions.specs.Questions.{listAnswer}
 use Rattle.list_definitions.specs.ListScan.{callListScan, ListScanDone}
-use Rattle.list_definitions.specs.Listing.{fixedNames, listing, ListingDone}
+use Rattle.list_definitions.specs.Listing.{listing, ListingDone}
 use Rattle.list_definitions.specs.declared.Listed.{Listed}
 use Rattle.list_rows.specs.declared.ScannedFields.{ScannedFields}
 
@@ -26,5 +26,5 @@ pub record FieldsScanned (vars : ℕ) (ws : List ℕ) (rows : Rows) (t : List �
   pub few : r .kept ≤ mostRecords
   pub within : r .kept ≤ rows .n
 
-pub record RowListed (vars : ℕ) (ws : List ℕ) (rows : Rows) (out : List ℕ) (r : Listed) (after : List ℕ) : Type 0 where
-  pub same : (rs : List RungRecord) → rows ≡ gathered rs → ListingDone (listing fixedNames vars ws rs out) r after
+pub record RowListed (table : List ℕ) (vars : ℕ) (ws : List ℕ) (rows : Rows) (out : List ℕ) (r : Listed) (after : List ℕ) : Type 0 where
+  pub same : (rs : List RungRecord) → rows ≡ gathered rs → ListingDone (listing table vars ws rs out) r after

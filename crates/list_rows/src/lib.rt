@@ -3,7 +3,7 @@
 ghost use mathlib.Core.Path.{_≡_};
 ghost use Rattle.rows.specs.Rows.{recordsOf, timesOf};
 ghost use Rattle.list_definitions.specs.ListScan.{callListScan, ListScanDone};
-ghost use Rattle.list_definitions.specs.Listing.{fixedNames, listing, ListingDone};
+ghost use Rattle.list_definitions.specs.Listing.{listing, ListingDone};
 ghost use Rattle.list_rows.specs.Parts.{LongRefused, FieldsScanned, RowListed};
 use list_definitions::ListScanned;
 use list_definitions::Listed;
@@ -113,10 +113,13 @@ pub fn list_scan(
 // ---- Listing
 
 // Listing, of a copy of the row's fields, with any times (02, Req 04: "Any value is taken").
-fn list_fields(vars: u32, code: &[u32], rows: Rows, out: &mut [u8]) -> Listed
-    ensures { λ r. ⌜ RowListed vars (now (code .entry)) rows (now (out .entry)) r (now (out .exit)) ⌝ }
+fn list_fields(vars: u32, code: &[u32], rows: Rows, names: &[u8], out: &mut [u8]) -> Listed
+    ensures { λ r. ⌜ RowListed (now (names .entry)) vars (now (code .entry)) rows (now (out .entry)) r (now (out .exit)) ⌝ }
 {
     if MOST_RECORDS < rows.n {
+        if !list_names::is_name_table(names) {
+            return Listed::Refused(Refusal::NameTable);
+        }
         return Listed::Refused(long_refusal(vars));
     }
     let labels = rows.labels;
@@ -131,14 +134,15 @@ fn list_fields(vars: u32, code: &[u32], rows: Rows, out: &mut [u8]) -> Listed
         &offsets[..m],
         &lengths[..m],
         &any[..m],
+        names,
         out,
     )
 }
 
-// Listing.
-pub fn listing(vars: u32, code: &[u32], row: &[Rung], out: &mut [u8]) -> Listed
-    ensures { λ r. ⌜ ListingDone (listing fixedNames vars (now (code .entry)) (recordsOf (now (row .entry))) (now (out .entry)))
+// Listing, with a name table (02, Req 05).
+pub fn listing(vars: u32, code: &[u32], row: &[Rung], names: &[u8], out: &mut [u8]) -> Listed
+    ensures { λ r. ⌜ ListingDone (listing (now (names .entry)) vars (now (code .entry)) (recordsOf (now (row .entry))) (now (out .entry)))
         r (now (out .exit)) ⌝ }
 {
-    list_fields(vars, code, rows::gather(row), out)
+    list_fields(vars, code, rows::gather(row), names, out)
 }

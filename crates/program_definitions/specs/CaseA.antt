@@ -20,7 +20,8 @@ use Rattle.list_definitions.specs.Instruction.{operand, opOf, operandNumber, on
 use Rattle.list_definitions.specs.Machine.{scanList, scanMachine, begin, fresh, step, count, does, halted}
 use Rattle.list_definitions.specs.Questions.{operandInRange, wordInRange, recordsLaid, listInRange, question10}
 use Rattle.list_definitions.specs.ListScan.{listOf}
-use Rattle.list_definitions.specs.Listing.{listing, fixedNames, trimmed, nameOf, operandText, instrLine, labelLine, rungLines, listingLines, ended, listingText}
+use Rattle.list_definitions.specs.Names.{fixedNames, trimmed, nameOf, namesFrom, fixedTable, isCapital, isName, sameBytes as sameNames, different, isNameTable, question14}
+use Rattle.list_definitions.specs.Listing.{listing, operandText, instrLine, labelLine, rungLines, listingLines, ended, listingText}
 use Rattle.translation_definitions.specs.Translate.{F, R, join, outputCode, rungCode, listRecords, translate}
 use Rattle.translation_definitions.specs.TranslateKept.{countsOf, listWritten, translateKept}
 use Rattle.translation_definitions.specs.BothScans.{copyQuestion, bothQuestions, bothScans, instructionWatchdog, pairedWatchdog}
@@ -39,7 +40,7 @@ unfolding output outcome textPrinted keptPrinted listPrinted countLine outputOf 
     scratchInRange namedBelow namedLeads ladderQuestions ladderAnswer
     mapP bind followed digitOf digitsFrom numeralOf chain termBy frontBy factorBy factorOf termOf frontOf opensFactor branchBy rearBy outputAt endBy endOf rearOf lineOf linesOf textOf
     readText writtenKept textLadder operand opOf operandNumber onlyNot ops instrWord decodeInstr decodeCode codeOf operandInRange wordInRange recordsLaid listInRange listOf
-    listing fixedNames trimmed nameOf operandText instrLine labelLine rungLines listingLines ended listingText F R join outputCode rungCode listRecords translate countsOf listWritten translateKept
+    listing fixedTable namesFrom question14 isNameTable isName isCapital different sameNames fixedNames trimmed nameOf operandText instrLine labelLine rungLines listingLines ended listingText F R join outputCode rungCode listRecords translate countsOf listWritten translateKept
 A-printed = refl
 
 -- case A with v0 true and a rung watchdog of 2, as README shows it

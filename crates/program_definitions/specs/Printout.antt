@@ -9,7 +9,8 @@ use Rattle.ladder_definitions.specs.Kept.{Kept}
 use Rattle.ladder_definitions.specs.Questions.{mostRungs, mostWords}
 use Rattle.text_definitions.specs.Read.{readText, kept, writtenKept, refused as readRefused}
 use Rattle.list_definitions.specs.Questions.{mostInstructions}
-use Rattle.list_definitions.specs.Listing.{fixedNames, listing, written, refused as listingRefused}
+use Rattle.list_definitions.specs.Names.{fixedTable}
+use Rattle.list_definitions.specs.Listing.{listing, written, refused as listingRefused}
 use Rattle.translation_definitions.specs.TranslateKept.{Counts, translateKept, translated, refused as translateRefused}
 use Rattle.program_definitions.specs.Lines.{firstLine, textAfter, variablesOf, mostKept}
 use Rattle.program_definitions.specs.Outcome.{Outcome, printed, refused, outputOf}
@@ -31,10 +32,10 @@ mostListing = 65536
 abbrev pub mostOutput : ℕ
 mostOutput = mostListing + 64
 
--- "lends Listing 65,536 bytes; a longer listing is refused 13"
+-- "lends Listing 65,536 bytes; a longer listing is refused 13"; with the fixed table
 unfoldable pub listPrinted : ℕ → List ℕ → List RungRecord → Counts → Outcome
 listPrinted vars words records counts =
-    let l = listing fixedNames vars words records (replicate mostListing 0) in
+    let l = listing fixedTable vars words records (replicate mostListing 0) in
     elim (l .answer) [ listingRefused refusal ↦ refused refusal | written n ↦ printed (take n (l .buffer) ++ countLine counts) ]
 
 unfoldable pub keptPrinted : ℕ → Kept → Outcome

@@ -27,6 +27,8 @@ explanations place =
     ∷ bytes "the variables line is not V zeros and ones, variable 0 first\n"
     ∷ bytes "the rung watchdog is not a number from 0 to 65,535\n"
     ∷ bytes "the listing is longer than 65,536 bytes\n"
+    ∷ bytes "the name table is not sixteen different names of 1 to 6 capitals, each filled with zeros to six bytes\n"
+    ∷ bytes "the text is not a listing in the table's names\n"
     ∷ []
 
 unfoldable pub explanation : Refusal → List ℕ

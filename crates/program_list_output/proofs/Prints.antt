@@ -18,7 +18,8 @@ use Rattle.rungs.specs.Buffers.{Buffers, writtenWords, writtenRecords}
 use Rattle.ladder_definitions.specs.Kept.{Kept, keptOf}
 use Rattle.list_definitions.specs.Questions.{question10}
 use Rattle.list_definitions.specs.ListScan.{listOf}
-use Rattle.list_definitions.specs.Listing.{ListingAnswer, written, listing, listingText, fixedNames, ListingDone, refused as listingRefused, listedAnswer}
+use Rattle.list_definitions.specs.Names.{namesIn, fixedTable, question14}
+use Rattle.list_definitions.specs.Listing.{ListingAnswer, written, listing, listingText, ListingDone, refused as listingRefused, listedAnswer}
 use Rattle.list_definitions.specs.declared.Listed.{Listed}
 use Rattle.list_definitions.specs.declared.Listed.the-variants.{Written as ListedCase, Refused as ListedRefused}
 use Rattle.translation_definitions.specs.TranslateKept.{Counts, translated, translateKept, countsIn, TranslateDone, refused as translateRefused, translatedAnswer}
@@ -31,6 +32,7 @@ use Rattle.text_definitions.specs.Laws.Reads.{written-room as kept-room-of}
 use Rattle.text_definitions.specs.declared.Counts.{Counts as KeptStruct}
 use Rattle.text_definitions.specs.declared.TextRead.{TextRead}
 use Rattle.text_definitions.specs.declared.TextRead.the-variants.{Kept as KeptCase, Refused as ReadRefusedCase}
+use Rattle.list_names.specs.Parts.{FixedNamesPut}
 use Rattle.printing.specs.Put.{Put}
 use Rattle.printing.specs.Laws.Puts.{put-then}
 use Rattle.program_definitions.specs.Lines.{firstLine, textAfter, variablesOf, mostKept}
@@ -57,33 +59,38 @@ same-listed e = cc
 
 module _ (vars : ℕ) (words : List ℕ) (rs : List RungRecord) (out : List ℕ) where
   abbrev text : List ℕ
-  text = listingText fixedNames vars (listOf words rs)
+  text = listingText (namesIn fixedTable) vars (listOf words rs)
 
   abbrev askedList : Answer
-  askedList = firstNo (question1 vars ∷ question10 vars words rs ∷ question13 (record { needed = length text; lent = length out } ∷ []) ∷ [])
+  askedList = firstNo (question14 fixedTable ∷ question1 vars ∷ question10 vars words rs ∷ question13 (record { needed = length text; lent = length out } ∷ []) ∷ [])
 
-  list-refused-by : (x : Refusal) → askedList ≡ some x → listing fixedNames vars words rs out .answer ≡ listingRefused x
+  list-refused-by : (x : Refusal) → askedList ≡ some x → listing fixedTable vars words rs out .answer ≡ listingRefused x
   unfolding listing
   list-refused-by x e = rw (e, listing)
 
-  list-written-by : askedList ≡ none → listing fixedNames vars words rs out .answer ≡ written (length text)
+  list-written-by : askedList ≡ none → listing fixedTable vars words rs out .answer ≡ written (length text)
   unfolding listing
   list-written-by e = rw (e, listing)
 
-  listed-room : (n : ℕ) → listing fixedNames vars words rs out .answer ≡ written n → n ≤ length out
+  listed-room : (n : ℕ) → listing fixedTable vars words rs out .answer ≡ written n → n ≤ length out
   listed-room n e = go askedList refl
     where
       go : (a : Answer) → askedList ≡ a → n ≤ length out
       go (some y) q = absurd (not-listed n y (sym e ∙ list-refused-by y q))
       go none q =
           let s : length text ≡ n = same-listed (sym (list-written-by q) ∙ e) in
-          let h = one-roomy (length text) (length out) (first-yes _ _ (later-yes _ _ (later-yes _ _ q))) in
+          let h = one-roomy (length text) (length out) (first-yes _ _ (later-yes _ _ (later-yes _ _ (later-yes _ _ q)))) in
           subst (λ k. k ≤ length out) s h
 
+-- Listing got the fixed table
+pub with-fixed : {before table : List ℕ} → FixedNamesPut before table → length before ≡ 96 → (vars : ℕ) (words : List ℕ) (rs : List RungRecord) (out : List ℕ) {r : Listed} {buffer : List ℕ}
+    → ListingDone (listing table vars words rs out) r buffer → ListingDone (listing fixedTable vars words rs out) r buffer
+with-fixed put e vars words rs out {r} {buffer} done = subst (λ table. ListingDone (listing table vars words rs out) r buffer) (put .whole e) done
+
 module _ (vars : ℕ) (words : List ℕ) (rs : List RungRecord) {r : Listed} {buffer : List ℕ}
-    (done : ListingDone (listing fixedNames vars words rs (replicate 65536 0)) r buffer) where
+    (done : ListingDone (listing fixedTable vars words rs (replicate 65536 0)) r buffer) where
   module _ (x : RefusalCase) (e : r ≡ ListedRefused x) where
-    list-refusal : listing fixedNames vars words rs (replicate 65536 0) .answer ≡ listingRefused (refusalOf x)
+    list-refusal : listing fixedTable vars words rs (replicate 65536 0) .answer ≡ listingRefused (refusalOf x)
     unfolding listedAnswer
     list-refusal = sym (done .answer) ∙ ap listedAnswer e
 
@@ -92,7 +99,7 @@ module _ (vars : ℕ) (words : List ℕ) (rs : List RungRecord) {r : Listed} {bu
     list-refused counts l = rw (list-refusal, listPrinted) (refusal-done x l refl)
 
   module _ (n : ℕ) (e : r ≡ ListedCase n) where
-    list-answer : listing fixedNames vars words rs (replicate 65536 0) .answer ≡ written n
+    list-answer : listing fixedTable vars words rs (replicate 65536 0) .answer ≡ written n
     unfolding listedAnswer
     list-answer = sym (done .answer) ∙ ap listedAnswer e
 

@@ -8,6 +8,7 @@ ghost use Rattle.program_definitions.specs.Outcome.{Done};
 ghost use Rattle.program_definitions.specs.Printout.{countLine, listPrinted, keptPrinted, textPrinted, outcome};
 use ladder_kinds::MOST_WORDS;
 use list_definitions::Listed;
+use list_names::TABLE_BYTES;
 use list_ops::MOST_INSTRUCTIONS;
 use program_definitions::Printed;
 pub use program_numbers::MOST_KEPT;
@@ -36,7 +37,7 @@ fn put_counts(out: &mut [u8], at: usize, counts: Counts) -> usize
     printing::put_text(out, longest, b"\n")
 }
 
-// A list's listing and count line.
+// A list's listing, in the names of the fixed table, and count line.
 fn print_list(
     vars: u32,
     code: &[u32],
@@ -51,8 +52,19 @@ fn print_list(
         (rowOf (now (labels .entry)) (now (offsets .entry)) (now (lengths .entry)) (now (times .entry))) (countsIn counts))
         (now (out .entry)) r (now (out .exit)) ⌝ }
 {
+    let mut names = [0u8; TABLE_BYTES];
+    list_names::put_fixed_names(&mut names);
     let mut listing = [0u8; MOST_LISTING];
-    match list::listing(vars, code, labels, offsets, lengths, times, &mut listing) {
+    match list::listing(
+        vars,
+        code,
+        labels,
+        offsets,
+        lengths,
+        times,
+        &names,
+        &mut listing,
+    ) {
         Listed::Refused(refusal) => Printed::Refused(refusal),
         Listed::Written(n) => {
             let end = printing::put_text(out, 0, &listing[..n]);

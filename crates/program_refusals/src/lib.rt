@@ -108,6 +108,16 @@ fn put_explanation(out: &mut [u8], at: usize, refusal: Refusal) -> usize
             at,
             b"the listing is longer than 65,536 bytes\n",
         ),
+        Refusal::NameTable => printing::put_text(
+            out,
+            at,
+            b"the name table is not sixteen different names of 1 to 6 capitals, each filled with zeros to six bytes\n",
+        ),
+        Refusal::ListText => printing::put_text(
+            out,
+            at,
+            b"the text is not a listing in the table's names\n",
+        ),
     }
 }
 

@@ -27,6 +27,8 @@ pub enum Refusal {
     Table,
     Watchdog,
     Buffer,
+    NameTable,
+    ListText,
 }
 
 // The answer to some questions in order: accepted, or the first "no".
@@ -53,6 +55,8 @@ pub fn refusal_number(refusal: Refusal) -> usize
         Refusal::Table => 11,
         Refusal::Watchdog => 12,
         Refusal::Buffer => 13,
+        Refusal::NameTable => 14,
+        Refusal::ListText => 15,
     }
 }
 

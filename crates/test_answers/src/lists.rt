@@ -85,13 +85,14 @@ fn answer_listing(
     offsets: &[u32],
     lengths: &[u32],
     times: &[u32],
+    names: &[u8],
     out: &mut [u8],
     turns: u32,
 ) -> usize {
     let mut answer = Listed::Written(0);
     let mut left = turns;
     while 0 < left {
-        answer = list::listing(vars, code, labels, offsets, lengths, times, out);
+        answer = list::listing(vars, code, labels, offsets, lengths, times, names, out);
         left -= 1;
     }
     let ended = put_listed(room, placed, answer);
@@ -185,7 +186,7 @@ fn blank_listing() -> [u8; 70000]
     [255u8; 70000]
 }
 
-// Listing of a list that was read, from the room for it on.
+// Listing of a list that was read, from the room for it on, with the name table that follows.
 fn listing_lent(
     chunk: &mut [u8],
     room: &mut [u8],
@@ -199,11 +200,15 @@ fn listing_lent(
     turns: u32,
 ) -> State {
     let mut out = blank_listing();
-    let input = input::limited(chunk, lent.input, 70000);
+    let mut names = [0u8; 120];
+    let room_for_bytes = input::limited(chunk, lent.input, 70000);
+    let filled = input::read_names(chunk, room_for_bytes, &mut names);
+    let input = filled.input;
     if !input::is_line_end(input) {
         return test_requests::refuse(placed);
     }
-    let bytes = input.value as usize;
+    let bytes = room_for_bytes.value as usize;
+    let t = filled.count;
     let answered = answer_listing(
         room,
         placed,
@@ -213,6 +218,7 @@ fn listing_lent(
         offsets,
         lengths,
         times,
+        &names[..t],
         &mut out[..bytes],
         turns,
     );

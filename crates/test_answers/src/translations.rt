@@ -7,7 +7,7 @@ use test_requests::input::Lent;
 use test_requests::output;
 use translation_definitions::Translated;
 
-fn put_translated(room: &mut [u8], placed: usize, answer: Translated) -> usize {
+pub fn put_translated(room: &mut [u8], placed: usize, answer: Translated) -> usize {
     match answer {
         Translated::Written(counts) => {
             let ended = output::put_number(room, placed, 1);
@@ -22,7 +22,7 @@ fn put_translated(room: &mut [u8], placed: usize, answer: Translated) -> usize {
 }
 
 // Before the first turn.
-fn none_translated() -> Translated {
+pub fn none_translated() -> Translated {
     Translated::Written(translation_definitions::Counts {
         instructions: 0,
         rungs: 0,

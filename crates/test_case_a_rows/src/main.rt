@@ -1,7 +1,8 @@
 // Runs document 01's case A, and then a ladder with set and reset coils, through the calls over rows: this program owns two rows of rung
 // records, the ladder's and the list's, and lends them. It prints what each call answered, the variables and the times entered that each
-// scan left (document 02, Req 04), and the listing. Then it lends rows of 300 records, which the calls refuse: 5, or 4 where the last
-// record does not fit; List scan and Listing 10. Last it searches a row of 300 records for labels.
+// scan left (document 02, Req 04), and the listing, with the fixed names. Then it lends rows of 300 records, which the calls refuse: 5,
+// or 4 where the last record does not fit; List scan 10; Listing 10, or 14 with a name table of zeros (02, Req 05). Last it searches a row
+// of 300 records for labels.
 use ladder_definitions::LadderScanned;
 use libc::STDOUT_FILENO;
 use list_definitions::ListScanned;
@@ -21,6 +22,8 @@ const WORDS: usize = 12;
 const RUNGS: usize = 2;
 
 const TABLE_BYTES: usize = 37;
+
+const NAME_TABLE_BYTES: usize = list_names::TABLE_BYTES;
 
 const LISTING_BYTES: usize = 200;
 
@@ -111,6 +114,7 @@ fn answers_of(
 
 // The five calls, over two rows of this function's own.
 fn run_rows(
+    names: &[u8],
     text: &[u8],
     ladder_table: &mut [u8],
     list_table: &mut [u8],
@@ -124,7 +128,7 @@ fn run_rows(
     let translated = translation_rows::translate(VARS, &words, &row, &mut code, &mut code_row);
     let ladder = ladder_rows::ladder_scan(VARS, &words, &row, ladder_table, RUNG_WATCHDOG);
     let list = list_rows::list_scan(VARS, &code, &mut code_row, list_table, INSTRUCTION_WATCHDOG);
-    let listed = list_rows::listing(VARS, &code, &code_row, lines);
+    let listed = list_rows::listing(VARS, &code, &code_row, names, lines);
     answers_of(read, translated, ladder, list, listed, row, code_row)
 }
 
@@ -170,6 +174,7 @@ fn long_answers_of(
 
 // Four of the calls, over one row of records: the words are a ladder, and a list. Translate writes into a copy of the row.
 fn run_long(
+    names: &[u8],
     mut row: [Rung; LONG_RUNGS],
     words: &[u32],
     code: &mut [u32],
@@ -181,7 +186,7 @@ fn run_long(
     let translated = translation_rows::translate(VARS, words, &row, code, &mut code_row);
     let ladder = ladder_rows::ladder_scan(VARS, words, &row, ladder_table, RUNG_WATCHDOG);
     let list = list_rows::list_scan(VARS, words, &mut row, list_table, INSTRUCTION_WATCHDOG);
-    let listed = list_rows::listing(VARS, words, &row, lines);
+    let listed = list_rows::listing(VARS, words, &row, names, lines);
     long_answers_of(translated, ladder, list, listed, row)
 }
 
@@ -365,13 +370,13 @@ fn put_answers(
 }
 
 // Runs the five calls on a text, with only v0 true, and puts what they answered.
-fn put_case(room: &mut [u8], placed: usize, text: &[u8]) -> usize {
+fn put_case(room: &mut [u8], placed: usize, names: &[u8], text: &[u8]) -> usize {
     let mut ladder_table = [0u8; TABLE_BYTES];
     let mut list_table = [0u8; TABLE_BYTES];
     let mut lines = [0u8; LISTING_BYTES];
     ladder_table[0] = 1;
     list_table[0] = 1;
-    let answers = run_rows(text, &mut ladder_table, &mut list_table, &mut lines);
+    let answers = run_rows(names, text, &mut ladder_table, &mut list_table, &mut lines);
     put_answers(room, placed, answers, &ladder_table, &list_table, &lines)
 }
 
@@ -396,7 +401,7 @@ fn put_long_answers(
 }
 
 // Runs the four calls over a row of 300 records, and puts what they answered.
-fn put_long(room: &mut [u8], placed: usize, last: u32) -> usize {
+fn put_long(room: &mut [u8], placed: usize, names: &[u8], last: u32) -> usize {
     let words = long_words();
     let mut code = no_words();
     let mut ladder_table = [0u8; TABLE_BYTES];
@@ -405,6 +410,7 @@ fn put_long(room: &mut [u8], placed: usize, last: u32) -> usize {
     ladder_table[0] = 1;
     list_table[0] = 1;
     let answers = run_long(
+        names,
         long_row(last),
         &words,
         &mut code,
@@ -447,10 +453,13 @@ fn put_searches(room: &mut [u8], placed: usize) -> usize {
 }
 
 fn put_all(room: &mut [u8]) -> usize {
-    let case_a = put_case(room, 0, b"10:c0|c1&n2>o1|c3&j20\n20:n3>o4\n");
-    let latched = put_case(room, case_a, b"10:c0|c1&n2>s1|c3&r4\n20:n3>r0\n");
-    let laid = put_long(room, latched, 2);
-    let short = put_long(room, laid, 1);
+    let zeros = [0u8; NAME_TABLE_BYTES];
+    let mut names = zeros;
+    list_names::put_fixed_names(&mut names);
+    let case_a = put_case(room, 0, &names, b"10:c0|c1&n2>o1|c3&j20\n20:n3>o4\n");
+    let latched = put_case(room, case_a, &names, b"10:c0|c1&n2>s1|c3&r4\n20:n3>r0\n");
+    let laid = put_long(room, latched, &names, 2);
+    let short = put_long(room, laid, &zeros, 1);
     put_searches(room, short)
 }
 

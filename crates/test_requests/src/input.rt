@@ -292,6 +292,18 @@ pub fn read_text(chunk: &mut [u8], input: Input, text: &mut [u8]) -> Counted
     }
 }
 
+// Up to 120 bytes of a name table, their count first.
+pub fn read_names(chunk: &mut [u8], input: Input, names: &mut [u8]) -> Counted
+    ensures { λ r. ⌜ r .count ≤ 120 ⌝ }
+{
+    let counted = limited(chunk, input, 120);
+    let count = counted.value as usize;
+    Counted {
+        input: read_bytes(chunk, counted, names, count),
+        count,
+    }
+}
+
 // Variables, words and records.
 pub fn read_lent(
     chunk: &mut [u8],

@@ -20,7 +20,7 @@ pub fn byte_at(text: &[u8], at: usize) -> u8
 }
 
 // The digit that stands at a position, 10 where none does.
-fn digit_at(text: &[u8], at: usize) -> u32
+pub fn digit_at(text: &[u8], at: usize) -> u32
     ensures { λ r. ⌜ DigitRead (now (text .entry)) at r ⌝ }
 {
     if text.len() <= at {

@@ -10,15 +10,22 @@ use Rattle.questions.specs.Tests.{all}
 use Rattle.questions.specs.Laws.Tests.{none-some, all-head, all-tail, all-cons}
 use Rattle.rungs.specs.Words.{operands, word, numberOf, operandOf, isOperand}
 use Rattle.rungs.specs.Laws.Numbers.{Firsts, _then_, past, every}
-use Rattle.list_definitions.specs.Instruction.{Instr, LD, LDN, ST, STN, AND, ANDN, OR, ORN, XOR, XORN, NOT, JMP, JMPC, JMPCN, S, R, operand, operandFits, instrFits, opOf, operandNumber, instrWord, noOp, op, onlyNot, ops, decodeInstr, decodeCode}
+use Rattle.list_definitions.specs.Instruction.{Instr, LD, LDN, ST, STN, AND, ANDN, OR, ORN, XOR, XORN, NOT, JMP, JMPC, JMPCN, S, R, Operand, tableIndex, noOperand, instructionIndex, operand, operandFits, instrFits, opOf, operandNumber, instrWord, noOp, op, onlyNot, ops, decodeInstr, decodeCode}
 
-decode-word : (k x : ℕ) → T (isOperand x) → decodeInstr (word k x) ≡ getD ops k noOp x
+pub decode-word : (k x : ℕ) → T (isOperand x) → decodeInstr (word k x) ≡ getD ops k noOp x
 unfolding decodeInstr
 decode-word k x h =
     let l = ltb→lt x operands h in
     let p : numberOf (word k x) ≡ k = omega arith in
     let q : operandOf (word k x) ≡ x = omega arith in
     rw (p, q)
+
+-- the number of an operand of 16 bits
+pub number-small : (o : Operand) → T (operandFits o) → operandNumber o < operands
+unfolding operandFits operandNumber
+number-small (tableIndex x) h = ltb→lt x operands h
+number-small noOperand h = omega arith
+number-small (instructionIndex j) h = ltb→lt j operands h
 
 pub decode-instr : (i : Instr) → T (instrFits i) → decodeInstr (instrWord i) ≡ some i
 unfolding instrWord opOf operandNumber instrFits operand operandFits ops onlyNot

@@ -3,19 +3,21 @@
 use Prim.Native.Nat.{_-_}
 use native.Mathlib.Omega.{arith}
 use lib.ListN.{length}
-use Rattle.list_definitions.specs.Listing.{fixedNames}
-use Rattle.list_printing.proofs.Printed.{name-row, Listing, listing-start, next-within, next-ready, listing-more, listing-end}
+use Rattle.list_definitions.specs.Names.{namesIn}
+use Rattle.list_definitions.specs.Laws.Names.{name-short}
+use Rattle.list_printing.proofs.Printed.{Listing, listing-start, next-within, next-ready, listing-more, listing-end}
 use Rattle.list_printing.proofs.put_list.Statement.{statement}
 use Rattle.list_printing.proofs.put_list.Tie as tie
 
 abbrev Inv-loop : tie.InvT-loop
-Inv-loop vars code labels offsets lengths out₀ end₀ start₀ k₀ out end start k = Listing fixedNames vars code labels offsets lengths out₀ out end start k
+Inv-loop names vars code labels offsets lengths out₀ end₀ start₀ k₀ out end start k =
+    Listing (namesIn names) vars code labels offsets lengths out₀ out end start k
 
 abbrev μ-loop : tie.MeasureT-loop
-μ-loop vars code labels offsets lengths out₀ end₀ start₀ k₀ out end start k = length labels - k
+μ-loop names vars code labels offsets lengths out₀ end₀ start₀ k₀ out end start k = length labels - k
 
 loop-holds : tie.Need-loop-holds Inv-loop μ-loop
-loop-holds c = listing-start _ _ _ _ _ _ _ (c .before .before .before .before .before .pre)
+loop-holds c = listing-start _ _ _ _ _ _ _ (c .before .before .before .before .before .before .pre .1)
 
 mul-put-label : tie.Need-mul-put-label Inv-loop μ-loop
 mul-put-label c = omega arith
@@ -33,16 +35,13 @@ shared-slice-read-next : tie.Need-shared-slice-read-next Inv-loop μ-loop
 shared-slice-read-next c = omega arith
 
 cast-next : tie.Need-cast-next Inv-loop μ-loop
-cast-next c =
-    omega (arith, c .shared-slice-known6 .given (c .before .before .before .before .before .before .before .loop .k))
+cast-next c = omega (arith, c .shared-slice-known7 .given (c .before .before .before .before .before .before .before .loop .k))
 
 add-next : tie.Need-add-next Inv-loop μ-loop
-add-next c =
-    omega (arith, next-within (c .before .before .before .before .before .before .before .loop .inv) (c .before .before .before .before .before .before .loop-test .taken))
+add-next c = omega (arith, next-within (c .before .before .before .before .before .before .before .loop .inv) (c .before .before .before .before .before .before .loop-test .taken))
 
 put-rung-requires : tie.Need-put-rung-requires Inv-loop μ-loop
-put-rung-requires c κs =
-    next-ready (c .before .before .before .before .before .before .before .before .loop .inv) (c .before .before .before .before .before .before .before .loop-test .taken) (c .before .before .before .before .put-label .ensures) (omega (arith, c .before .before .before .before .before .shared-slice-known5 .given (c .before .before .before .before .before .before .before .before .loop .k)))
+put-rung-requires c κs = (next-ready (c .before .before .before .before .before .before .before .before .loop .inv) (c .before .before .before .before .before .before .before .loop-test .taken) (c .before .before .before .before .put-label .ensures) (omega (arith, c .before .before .before .before .before .shared-slice-known6 .given (c .before .before .before .before .before .before .before .before .loop .k))), c .before .before .before .before .before .before .before .before .before .before .before .before .before .before .before .pre .0)
 
 add-k : tie.Need-add-k Inv-loop μ-loop
 add-k c = omega arith
@@ -51,8 +50,7 @@ loop-less : tie.Need-loop-less Inv-loop μ-loop
 loop-less c = omega arith
 
 loop-again : tie.Need-loop-again Inv-loop μ-loop
-loop-again c =
-    listing-more (c .before .before .before .before .before .before .before .before .before .before .before .loop .inv) (c .before .before .before .before .before .before .before .before .before .before .loop-test .taken) (c .before .before .before .before .before .before .before .put-label .ensures) (omega (arith, c .before .before .before .before .before .before .before .before .shared-slice-known5 .given (c .before .before .before .before .before .before .before .before .before .before .before .loop .k))) name-row (c .before .before .put-rung .ensures)
+loop-again c = listing-more (c .before .before .before .before .before .before .before .before .before .before .before .loop .inv) (c .before .before .before .before .before .before .before .before .before .before .loop-test .taken) (c .before .before .before .before .before .before .before .put-label .ensures) (omega (arith, c .before .before .before .before .before .before .before .before .shared-slice-known6 .given (c .before .before .before .before .before .before .before .before .before .before .before .loop .k))) (name-short 16 _) (c .before .before .put-rung .ensures)
 
 same-length : tie.Need-same-length Inv-loop μ-loop
 same-length c = c .before .loop .inv .left .long

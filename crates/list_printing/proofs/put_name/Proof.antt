@@ -1,45 +1,44 @@
 -- `list_printing::put_name` meets its contract. The loop's invariant: what is left of the name, over what is written, is the whole name. Assumes nothing.
 use Prim.Native.Nat.{_-_}
 use native.Mathlib.Omega.{arith}
-use Rattle.questions.specs.Bytes.{bytes}
-use Rattle.list_definitions.specs.Listing.{fixedNames, nameOf}
-use Rattle.list_printing.proofs.Printed.{Naming, name-row, naming-start, naming-stop, naming-end, naming-more}
+use mathlib.Core.List.{[]}
+use lib.ListN.{getD}
+use Rattle.list_definitions.specs.Names.{nameOf, namesIn}
+use Rattle.list_definitions.specs.Laws.Names.{name-short}
+use Rattle.list_printing.proofs.Printed.{Naming, naming-start, naming-end, table-stop, table-more}
 use Rattle.list_printing.proofs.put_name.Statement.{statement}
 use Rattle.list_printing.proofs.put_name.Tie as tie
 
 abbrev Inv-loop : tie.InvT-loop
-Inv-loop out₀ at op name k₀ out k = Naming out₀ at name out k
+Inv-loop out₀ at names op from k₀ out k = Naming out₀ at (getD (namesIn names) (op - 1) []) out k
 
 abbrev μ-loop : tie.MeasureT-loop
-μ-loop out₀ at op name k₀ out k = 6 - k
+μ-loop out₀ at names op from k₀ out k = 6 - k
 
-sub-name : tie.Need-sub-name Inv-loop μ-loop
-sub-name c = omega arith
+sub-from : tie.Need-sub-from Inv-loop μ-loop
+sub-from c = omega arith
 
-mul-name : tie.Need-mul-name Inv-loop μ-loop
-unfolding fixedNames bytes
-mul-name c = omega arith
-
-array-copy-out-name : tie.Need-array-copy-out-name Inv-loop μ-loop
-unfolding fixedNames bytes
-array-copy-out-name c = omega arith
+mul-from : tie.Need-mul-from Inv-loop μ-loop
+mul-from c = omega arith
 
 loop-holds : tie.Need-loop-holds Inv-loop μ-loop
-unfolding fixedNames bytes
-loop-holds c = naming-start _ _ _ (name-row (c .before .before .args .op - 1))
+loop-holds c = naming-start _ _ _ (name-short 16 _ (c .before .before .args .op - 1))
 
-array-read-b : tie.Need-array-read-b Inv-loop μ-loop
-array-read-b c = omega arith
+add-b : tie.Need-add-b Inv-loop μ-loop
+add-b c = omega arith
+
+shared-slice-read-b : tie.Need-shared-slice-read-b Inv-loop μ-loop
+shared-slice-read-b c = omega arith
 
 add-result : tie.Need-add-result Inv-loop μ-loop
 add-result c = omega arith
 
 same-length : tie.Need-same-length Inv-loop μ-loop
-same-length c = c .before .before .loop .inv .left .long
+same-length c = c .before .before .before .loop .inv .left .long
 
 returns : tie.Need-returns Inv-loop μ-loop
-unfolding nameOf fixedNames bytes
-returns c = naming-stop (c .before .before .loop .inv) (c .if1 .taken)
+unfolding nameOf
+returns c = table-stop _ (c .before .before .before .before .before .before .args .op - 1) (omega (arith, c .before .before .before .before .before .before .pre .1, c .before .before .before .before .before .before .pre .2)) (c .before .before .before .loop .inv) (c .before .before .loop-test .taken) (c .if1 .taken)
 
 add-put-byte : tie.Need-add-put-byte Inv-loop μ-loop
 add-put-byte c = omega arith
@@ -54,8 +53,7 @@ loop-less : tie.Need-loop-less Inv-loop μ-loop
 loop-less c = omega arith
 
 loop-again : tie.Need-loop-again Inv-loop μ-loop
-loop-again c =
-    naming-more (c .before .before .before .before .before .before .loop .inv) (c .before .before .before .before .before .loop-test .taken) (c .before .before .before .before .if1 .left) (c .before .before .put-byte .ensures)
+loop-again c = table-more _ (c .before .before .before .before .before .before .before .before .before .before .args .op - 1) (omega (arith, c .before .before .before .before .before .before .before .before .before .before .pre .1, c .before .before .before .before .before .before .before .before .before .before .pre .2)) (c .before .before .before .before .before .before .before .loop .inv) (c .before .before .before .before .before .before .loop-test .taken) (c .before .before .before .before .if1 .left) (c .before .before .put-byte .ensures)
 
 add-result-2 : tie.Need-add-result-2 Inv-loop μ-loop
 add-result-2 c = omega arith
@@ -64,7 +62,7 @@ same-length-2 : tie.Need-same-length-2 Inv-loop μ-loop
 same-length-2 c = c .before .loop .inv .left .long
 
 returns-2 : tie.Need-returns-2 Inv-loop μ-loop
-unfolding nameOf fixedNames bytes
+unfolding nameOf
 returns-2 c = naming-end (c .before .loop .inv) (c .loop-test .left)
 
 pub put-name-spec : {M : Type 1} → statement M
@@ -73,11 +71,11 @@ put-name-spec =
     (tie.spec
     Inv-loop
     μ-loop
-    sub-name
-    mul-name
-    array-copy-out-name
+    sub-from
+    mul-from
     loop-holds
-    array-read-b
+    add-b
+    shared-slice-read-b
     add-result
     same-length
     returns

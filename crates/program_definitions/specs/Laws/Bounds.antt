@@ -35,7 +35,8 @@ use Rattle.text_definitions.specs.Read.{ReadAnswer, readText, kept, writtenKept
 use Rattle.list_definitions.specs.Machine.{scanList}
 use Rattle.list_definitions.specs.ListScan.{listOf, ListCounts}
 use Rattle.list_definitions.specs.Questions.{mostInstructions, question10}
-use Rattle.list_definitions.specs.Listing.{fixedNames, ListingCall, listing, written, refused as listingRefused, listingText}
+use Rattle.list_definitions.specs.Names.{namesIn, fixedTable, question14}
+use Rattle.list_definitions.specs.Listing.{ListingCall, listing, written, refused as listingRefused, listingText}
 use Rattle.list_definitions.specs.Laws.Watchdog.{list-within}
 use Rattle.list_definitions.specs.Laws.Writes.{list-legal, list-moved}
 use Rattle.translation_definitions.specs.Translate.{rungCode, listRecords, translate}
@@ -99,18 +100,18 @@ counts-short c s =
 
 module _ (vars : ℕ) (words : List ℕ) (records : List RungRecord) (counts : Counts) (s : Small counts) where
   abbrev text : List ℕ
-  text = listingText fixedNames vars (listOf words records)
+  text = listingText (namesIn fixedTable) vars (listOf words records)
 
   abbrev lent : List ℕ
   lent = replicate mostListing 0
 
   abbrev asked : Answer
-  asked = firstNo (question1 vars ∷ question10 vars words records ∷ question13 (record { needed = length text; lent = length lent } ∷ []) ∷ [])
+  asked = firstNo (question14 fixedTable ∷ question1 vars ∷ question10 vars words records ∷ question13 (record { needed = length text; lent = length lent } ∷ []) ∷ [])
 
   room : asked ≡ none → length text ≤ 65536
   unfolding question13 longEnough
   room q =
-      let r = ask-passed 13 _ (first-yes _ _ (later-yes _ _ (later-yes _ _ q))) in
+      let r = ask-passed 13 _ (first-yes _ _ (later-yes _ _ (later-yes _ _ (later-yes _ _ q)))) in
       let m = leb→le (length text) (length lent) (all-head longEnough (record { needed = length text; lent = length lent }) [] r) in
       omega (arith, m, length-replicate {A = ℕ} mostListing 0)
 
@@ -123,13 +124,13 @@ module _ (vars : ℕ) (words : List ℕ) (records : List RungRecord) (counts : C
     where
       go : (a : Answer) → asked ≡ a → length t ≤ 65600
       go none q =
-          let call : listing fixedNames vars words records lent ≡ record { answer = written (length text); buffer = writtenFrom text lent } = rw (q, listing) in
+          let call : listing fixedTable vars words records lent ≡ record { answer = written (length text); buffer = writtenFrom text lent } = rw (q, listing) in
           let w : take (length text) (writtenFrom text lent) ++ countLine counts ≡ t = same-text (sym (ap printedBy call) ∙ e) in
           let f = written-first text lent in
           let l = then text (countLine counts) (room q) (counts-short counts s) in
           rw (← w, f) (omega (arith, l))
       go (some r) q =
-          let call : listing fixedNames vars words records lent ≡ record { answer = listingRefused r; buffer = lent } = rw (q, listing) in
+          let call : listing fixedTable vars words records lent ≡ record { answer = listingRefused r; buffer = lent } = rw (q, listing) in
           absurd (no-text r t (sym (ap printedBy call) ∙ e))
 
 module _ (vars : ℕ) (k : Kept) where

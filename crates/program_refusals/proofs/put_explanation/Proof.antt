@@ -127,6 +127,24 @@ slice-aggregate-put-text-9 c = search needs
 put-text-requires-9 : tie.Need-put-text-requires-9
 put-text-requires-9 c κs = search needs
 
+enum-told-10 : tie.Need-enum-told-10
+enum-told-10 c = search needs
+
+slice-aggregate-put-text-10 : tie.Need-slice-aggregate-put-text-10
+slice-aggregate-put-text-10 c = search needs
+
+put-text-requires-10 : tie.Need-put-text-requires-10
+put-text-requires-10 c κs = search needs
+
+enum-told-11 : tie.Need-enum-told-11
+enum-told-11 c = search needs
+
+slice-aggregate-put-text-11 : tie.Need-slice-aggregate-put-text-11
+slice-aggregate-put-text-11 c = search needs
+
+put-text-requires-11 : tie.Need-put-text-requires-11
+put-text-requires-11 c κs = search needs
+
 same-length : tie.Need-same-length
 same-length c = search needs
 
@@ -218,6 +236,20 @@ returns-13 : tie.Need-returns-13
 unfolding refusalOf explanation explanations bytes
 returns-13 c = explanation-put _ (c .before .before .before .before .before .enum-told9 .given .1) (c .before .before .put-text9 .ensures)
 
+same-length-14 : tie.Need-same-length-14
+same-length-14 c = search needs
+
+returns-14 : tie.Need-returns-14
+unfolding refusalOf explanation explanations bytes
+returns-14 c = explanation-put _ (c .before .before .before .before .before .enum-told10 .given .1) (c .before .before .put-text10 .ensures)
+
+same-length-15 : tie.Need-same-length-15
+same-length-15 c = search needs
+
+returns-15 : tie.Need-returns-15
+unfolding refusalOf explanation explanations bytes
+returns-15 c = explanation-put _ (c .before .before .before .before .before .enum-told11 .given .1) (c .before .before .put-text11 .ensures)
+
 pub put-explanation-spec : {M : Type 1} → statement M
 put-explanation-spec =
     tie.close
@@ -262,6 +294,12 @@ put-explanation-spec =
     enum-told-9
     slice-aggregate-put-text-9
     put-text-requires-9
+    enum-told-10
+    slice-aggregate-put-text-10
+    put-text-requires-10
+    enum-told-11
+    slice-aggregate-put-text-11
+    put-text-requires-11
     same-length
     returns
     same-length-2
@@ -287,4 +325,8 @@ put-explanation-spec =
     same-length-12
     returns-12
     same-length-13
-    returns-13)
+    returns-13
+    same-length-14
+    returns-14
+    same-length-15
+    returns-15)

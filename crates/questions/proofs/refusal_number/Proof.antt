@@ -44,6 +44,12 @@ enum-told-12 c = search needs
 enum-told-13 : tie.Need-enum-told-13
 enum-told-13 c = search needs
 
+enum-told-14 : tie.Need-enum-told-14
+enum-told-14 c = search needs
+
+enum-told-15 : tie.Need-enum-told-15
+enum-told-15 c = search needs
+
 returns : tie.Need-returns
 unfolding refusalOf
 returns c = ap (λ q. refusalOf q .number) (sym (c .enum-told .given .1))
@@ -96,6 +102,14 @@ returns-13 : tie.Need-returns-13
 unfolding refusalOf
 returns-13 c = ap (λ q. refusalOf q .number) (sym (c .enum-told13 .given .1))
 
+returns-14 : tie.Need-returns-14
+unfolding refusalOf
+returns-14 c = ap (λ q. refusalOf q .number) (sym (c .enum-told14 .given .1))
+
+returns-15 : tie.Need-returns-15
+unfolding refusalOf
+returns-15 c = ap (λ q. refusalOf q .number) (sym (c .enum-told15 .given .1))
+
 pub refusal-number-spec : {M : Type 1} → statement M
 refusal-number-spec =
     tie.close
@@ -113,6 +127,8 @@ refusal-number-spec =
     enum-told-11
     enum-told-12
     enum-told-13
+    enum-told-14
+    enum-told-15
     returns
     returns-2
     returns-3
@@ -125,4 +141,6 @@ refusal-number-spec =
     returns-10
     returns-11
     returns-12
-    returns-13)
+    returns-13
+    returns-14
+    returns-15)

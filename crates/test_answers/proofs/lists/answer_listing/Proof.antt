@@ -8,10 +8,10 @@ use Rattle.test_answers.proofs.lists.answer_listing.Statement.{statemen
 use Rattle.test_answers.proofs.lists.answer_listing.Tie as tie
 
 abbrev Inv-loop : tie.InvT-loop
-Inv-loop room placed vars code labels offsets lengths times out₀ turns answer₀ left₀ out answer left = (left ≤ turns) × (length out ≡ length out₀)
+Inv-loop room placed vars code labels offsets lengths times names out₀ turns answer₀ left₀ out answer left = (left ≤ turns) × (length out ≡ length out₀)
 
 abbrev μ-loop : tie.MeasureT-loop
-μ-loop room placed vars code labels offsets lengths times out₀ turns answer₀ left₀ out answer left = left
+μ-loop room placed vars code labels offsets lengths times names out₀ turns answer₀ left₀ out answer left = left
 
 loop-holds : tie.Need-loop-holds Inv-loop μ-loop
 loop-holds c = (omega arith, refl)

@@ -1,4 +1,4 @@
--- `answers::lists::listing_lent` is safe and ends: the room that was read stays within the array that is lent. Assumes nothing.
+-- `answers::lists::listing_lent` is safe and ends: room and names that were read stay within the arrays that are lent. Assumes nothing.
 use mathlib.Core.Path.{sym}
 use lib.Seq.{length-take-le}
 use borrow.Author.Needs.{needs}
@@ -10,6 +10,12 @@ blank-listing-requires c κs = search needs
 
 limited-requires : tie.Need-limited-requires
 limited-requires c κs = search needs
+
+slice-aggregate-read-names : tie.Need-slice-aggregate-read-names
+slice-aggregate-read-names c = search needs
+
+read-names-requires : tie.Need-read-names-requires
+read-names-requires c κs = search needs
 
 is-line-end-requires : tie.Need-is-line-end-requires
 is-line-end-requires c κs = search needs
@@ -26,11 +32,17 @@ returns c = search needs
 cast-bytes : tie.Need-cast-bytes
 cast-bytes c = search needs
 
-array-borrow-prefix-out : tie.Need-array-borrow-prefix-out
-array-borrow-prefix-out c = search needs
+array-share-prefix-names : tie.Need-array-share-prefix-names
+array-share-prefix-names c = search needs
 
 slice-aggregate-answer-listing : tie.Need-slice-aggregate-answer-listing
 slice-aggregate-answer-listing c = sym (length-take-le _ _ (search needs))
+
+array-borrow-prefix-out : tie.Need-array-borrow-prefix-out
+array-borrow-prefix-out c = search needs
+
+slice-aggregate-answer-listing-2 : tie.Need-slice-aggregate-answer-listing-2
+slice-aggregate-answer-listing-2 c = sym (length-take-le _ _ (search needs))
 
 answer-listing-requires : tie.Need-answer-listing-requires
 answer-listing-requires c κs = search needs
@@ -50,13 +62,17 @@ listing-lent-spec =
     (tie.spec
     blank-listing-requires
     limited-requires
+    slice-aggregate-read-names
+    read-names-requires
     is-line-end-requires
     refuse-requires
     same-length
     returns
     cast-bytes
-    array-borrow-prefix-out
+    array-share-prefix-names
     slice-aggregate-answer-listing
+    array-borrow-prefix-out
+    slice-aggregate-answer-listing-2
     answer-listing-requires
     same-length-2
     same-length-3

@@ -1,0 +1,97 @@
+-- Names of instructions: name tables, the fixed table, and question 14. Document 01, "Listing"; document 02, Req 05: "a table of one name for each op, 1 to 6
+-- capital letters". Assumes nothing.
+use Prim.Native.Nat.{ℕ, zero, suc, _-_, _*_, _<_}
+use mathlib.Core.Path.{_≡_}
+use mathlib.Core.Bool.{Bool, true, false, not, _&&_}
+use mathlib.Core.List.{List, [], _∷_, _++_, flatMap}
+use lib.Dec.{T, eqb, leb}
+use lib.ListN.{length, getD, take, drop}
+use Rattle.questions.specs.Bytes.{byte, bytes}
+use Rattle.questions.specs.Tests.{all}
+use Rattle.questions.specs.Questions.{Answer, ask}
+
+-- a name for each op from 1 on, six bytes each, filled with zeros
+abbrev pub Names : Type 0
+Names = List (List ℕ)
+
+-- "The fourteen names are one fixed table, six bytes a name, filled with zeros."; with 02's S and R there are sixteen
+unfoldable pub fixedNames : Names
+unfolding bytes
+fixedNames =
+    (bytes "LD" ++ 0 ∷ 0 ∷ 0 ∷ 0 ∷ [])
+    ∷ (bytes "LDN" ++ 0 ∷ 0 ∷ 0 ∷ [])
+    ∷ (bytes "ST" ++ 0 ∷ 0 ∷ 0 ∷ 0 ∷ [])
+    ∷ (bytes "STN" ++ 0 ∷ 0 ∷ 0 ∷ [])
+    ∷ (bytes "AND" ++ 0 ∷ 0 ∷ 0 ∷ [])
+    ∷ (bytes "ANDN" ++ 0 ∷ 0 ∷ [])
+    ∷ (bytes "OR" ++ 0 ∷ 0 ∷ 0 ∷ 0 ∷ [])
+    ∷ (bytes "ORN" ++ 0 ∷ 0 ∷ 0 ∷ [])
+    ∷ (bytes "XOR" ++ 0 ∷ 0 ∷ 0 ∷ [])
+    ∷ (bytes "XORN" ++ 0 ∷ 0 ∷ [])
+    ∷ (bytes "NOT" ++ 0 ∷ 0 ∷ 0 ∷ [])
+    ∷ (bytes "JMP" ++ 0 ∷ 0 ∷ 0 ∷ [])
+    ∷ (bytes "JMPC" ++ 0 ∷ 0 ∷ [])
+    ∷ (bytes "JMPCN" ++ 0 ∷ [])
+    ∷ (bytes "S" ++ 0 ∷ 0 ∷ 0 ∷ 0 ∷ 0 ∷ [])
+    ∷ (bytes "R" ++ 0 ∷ 0 ∷ 0 ∷ 0 ∷ 0 ∷ [])
+    ∷ []
+
+-- a name without its filling
+unfoldable pub trimmed : List ℕ → List ℕ
+trimmed [] = []
+trimmed (b ∷ bs) = elim (eqb b 0) [ true ↦ [] | false ↦ b ∷ trimmed bs ]
+
+unfoldable pub nameOf : Names → ℕ → List ℕ
+nameOf names op = trimmed (getD names (op - 1) [])
+
+-- ops are numbered from 1 to
+abbrev pub mostOp : ℕ
+mostOp = 16
+
+-- "six bytes an op"
+abbrev pub nameBytes : ℕ
+nameBytes = 6
+
+-- the first n names of a table's bytes
+unfoldable pub namesFrom : ℕ → List ℕ → Names
+namesFrom zero table = []
+namesFrom (suc n) table = take nameBytes table ∷ namesFrom n (drop nameBytes table)
+
+abbrev pub namesIn : List ℕ → Names
+namesIn table = namesFrom mostOp table
+
+-- the fixed table in bytes, which ladder-list lends Listing
+unfoldable pub fixedTable : List ℕ
+fixedTable = flatMap (λ name. name) fixedNames
+
+-- from "A" to "Z"
+unfoldable pub isCapital : ℕ → Bool
+isCapital b = leb (byte "A") b && leb b (byte "Z")
+
+-- not "empty", and "capitals before zeros"
+unfoldable pub isName : List ℕ → Bool
+isName name = leb 1 (length (trimmed name)) && (all isCapital (trimmed name) && all (λ b. eqb b 0) (drop (length (trimmed name)) name))
+
+unfoldable pub sameBytes : List ℕ → List ℕ → Bool
+sameBytes [] [] = true
+sameBytes [] (y ∷ ys) = false
+sameBytes (x ∷ xs) [] = false
+sameBytes (x ∷ xs) (y ∷ ys) = eqb x y && sameBytes xs ys
+
+-- no name "repeats an earlier one"
+unfoldable pub different : Names → Bool
+different [] = true
+different (name ∷ later) = all (λ other. not (sameBytes other name)) later && different later
+
+unfoldable pub isNameTable : List ℕ → Bool
+isNameTable table = eqb (length table) (nameBytes * mostOp) && (all isName (namesIn table) && different (namesIn table))
+
+-- "14 when the table isn't six bytes an op or a name is empty, isn't capitals before zeros or repeats an earlier one"
+unfoldable pub question14 : List ℕ → Answer
+question14 table = ask 14 (isNameTable table)
+
+-- the same in plain words, for Theorems
+pub record IsNameTable (table : List ℕ) : Type 0 where
+  pub six-bytes-an-op : length table ≡ nameBytes * mostOp
+  pub each-a-name : (p : ℕ) → p < mostOp → T (isName (getD (namesIn table) p []))
+  pub none-repeats : (p q : ℕ) → p < q → q < mostOp → getD (namesIn table) p [] ≡ getD (namesIn table) q [] → ⊥

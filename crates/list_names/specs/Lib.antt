@@ -1,0 +1,2 @@
+-- Name tables. What the functions promise: Parts.
+pub mod Parts
