@@ -5,7 +5,7 @@ use mathlib.Core.List.{List, [], _∷_, _++_, map, flatMap, zipWith}
 use mathlib.Core.Bool.{true, false, xor}
 use Prim.Native.Nat.{ℕ}
 use lib.ListN.{replicate, length, take, drop}
-use Rattle.questions.specs.Bytes.{bytes, decimal, digits}
+use Rattle.questions.specs.Bytes.{bytes, decimal, digits, sameBytes}
 use Rattle.questions.specs.Tests.{all}
 use Rattle.questions.specs.Questions.{Answer, yes, ask, varsInRange, question1, firstNo}
 use Rattle.table.specs.State.{State, stateOf, scratchBytes, variables, valueAt, value, writtenAt, turns, write, writeIf}
@@ -15,7 +15,7 @@ use Rattle.rungs.specs.Records.{RungRecord, isStart, laid, enter}
 use Rattle.list_definitions.specs.Instruction.{Instr, LD, LDN, ST, STN, AND, ANDN, OR, ORN, XOR, XORN, NOT, JMP, JMPC, JMPCN, S, R, operand, opOf, operandNumber, instrWord, decodeInstr, ops, onlyNot}
 use Rattle.list_definitions.specs.Machine.{InstructionList, does, count, step, fresh, begin, halted, scanMachine, scanList}
 use Rattle.list_definitions.specs.Writes.{instrWrites, writesFrom, listWrites}
-use Rattle.list_definitions.specs.Names.{fixedNames, trimmed, nameOf, namesFrom, namesIn, fixedTable, isCapital, isName, sameBytes, different, isNameTable, question14}
+use Rattle.list_definitions.specs.Names.{fixedNames, trimmed, nameOf, namesFrom, namesIn, fixedTable, isCapital, isName, different, isNameTable, question14}
 use Rattle.list_definitions.specs.Listing.{operandText, instrLine, labelLine, rungLines, listingLines, ended, listingText}
 use Rattle.list_definitions.specs.Questions.{operandInRange, wordInRange, recordsLaid, listInRange, question10, listAnswer}
 

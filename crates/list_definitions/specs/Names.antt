@@ -1,12 +1,12 @@
 -- Names of instructions: name tables, the fixed table, and question 14. Document 01, "Listing"; document 02, Req 05: "a table of one name for each op, 1 to 6
 -- capital letters". Assumes nothing.
-use Prim.Native.Nat.{ℕ, zero, suc, _-_, _*_, _<_}
+use Prim.Native.Nat.{ℕ, zero, suc, _-_, _*_, _≤_, _<_}
 use mathlib.Core.Path.{_≡_}
 use mathlib.Core.Bool.{Bool, true, false, not, _&&_}
 use mathlib.Core.List.{List, [], _∷_, _++_, flatMap}
-use lib.Dec.{T, eqb, leb}
-use lib.ListN.{length, getD, take, drop}
-use Rattle.questions.specs.Bytes.{byte, bytes}
+use lib.Dec.{eqb, leb}
+use lib.ListN.{length, getD, take, drop, replicate}
+use Rattle.questions.specs.Bytes.{byte, bytes, sameBytes}
 use Rattle.questions.specs.Tests.{all}
 use Rattle.questions.specs.Questions.{Answer, ask}
 
@@ -72,12 +72,6 @@ isCapital b = leb (byte "A") b && leb b (byte "Z")
 unfoldable pub isName : List ℕ → Bool
 isName name = leb 1 (length (trimmed name)) && (all isCapital (trimmed name) && all (λ b. eqb b 0) (drop (length (trimmed name)) name))
 
-unfoldable pub sameBytes : List ℕ → List ℕ → Bool
-sameBytes [] [] = true
-sameBytes [] (y ∷ ys) = false
-sameBytes (x ∷ xs) [] = false
-sameBytes (x ∷ xs) (y ∷ ys) = eqb x y && sameBytes xs ys
-
 -- no name "repeats an earlier one"
 unfoldable pub different : Names → Bool
 different [] = true
@@ -90,8 +84,21 @@ isNameTable table = eqb (length table) (nameBytes * mostOp) && (all isName (name
 unfoldable pub question14 : List ℕ → Answer
 question14 table = ask 14 (isNameTable table)
 
--- the same in plain words, for Theorems
+-- ---- the same in plain words, for Theorems
+
+-- "1 to 6 capital letters", and zeros after them
+pub record IsName (name : List ℕ) : Type 0 where
+  pub letters : List ℕ
+  pub filling : ℕ
+  pub same : name ≡ letters ++ replicate filling 0
+  pub some-letter : 1 ≤ length letters
+  pub capitals : (i : ℕ) → i < length letters → (byte "A" ≤ getD letters i 0) × (getD letters i 0 ≤ byte "Z")
+
+-- the six bytes at a place, from 0
+abbrev pub nameAt : List ℕ → ℕ → List ℕ
+nameAt table p = take nameBytes (drop (nameBytes * p) table)
+
 pub record IsNameTable (table : List ℕ) : Type 0 where
   pub six-bytes-an-op : length table ≡ nameBytes * mostOp
-  pub each-a-name : (p : ℕ) → p < mostOp → T (isName (getD (namesIn table) p []))
-  pub none-repeats : (p q : ℕ) → p < q → q < mostOp → getD (namesIn table) p [] ≡ getD (namesIn table) q [] → ⊥
+  pub each-a-name : (p : ℕ) → p < mostOp → IsName (nameAt table p)
+  pub none-repeats : (p q : ℕ) → p < q → q < mostOp → nameAt table p ≡ nameAt table q → ⊥

@@ -105,7 +105,8 @@ pub call-times-left : (vars : ℕ) (words : List ℕ) (records : List RungRecord
     → callListScan vars words records table watchdog .answer ≡ refused r → (before : List ℕ) → callListScan vars words records table watchdog .times before ≡ before
 call-times-left vars words records table watchdog r e before = times-left vars words records table watchdog r e before
 
--- 02, Req 05: question 14 gets a "yes" exactly when the table has six bytes an op, each six are a name, and no two of them are equal.
+-- 02, Req 05: question 14 gets a "yes" exactly when the table has six bytes an op, each six are capital letters, at least one, and then zeros, and no two of them
+-- are equal.
 pub table-exactly : (table : List ℕ) → (question14 table ≡ none) ↔ IsNameTable table
 table-exactly table = (accepted-table table, table-accepted table)
 

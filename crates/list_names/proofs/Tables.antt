@@ -10,8 +10,9 @@ use borrow.Author.Tests.{eq-eqb, ne-eqb, le-leb, lt-leb, lt-ltb}
 use lib.Dec.{eqb, leb, ltb}
 use lib.ListN.{length, getD, take, drop, drop-of-length-le, List·getD-eq-default}
 use lib.Seq.{drop-cons, drop-drop, take-nil}
+use Rattle.questions.specs.Bytes.{sameBytes}
 use Rattle.questions.specs.Tests.{all}
-use Rattle.list_definitions.specs.Names.{trimmed, isCapital, isName, sameBytes, namesFrom, namesIn, different, isNameTable}
+use Rattle.list_definitions.specs.Names.{trimmed, isCapital, isName, namesFrom, namesIn, different, isNameTable}
 use Rattle.list_names.specs.Parts.{isZero, apart}
 
 pub capital-low : (b : ℕ) → b < 65 → false ≡ isCapital b

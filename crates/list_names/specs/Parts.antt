@@ -7,7 +7,8 @@ use mathlib.Core.List.{List}
 use lib.Dec.{eqb}
 use lib.ListN.{length}
 use lib.Seq.{sets}
-use Rattle.list_definitions.specs.Names.{fixedNames, mostOp, nameBytes, namesIn, fixedTable, sameBytes, question14}
+use Rattle.questions.specs.Bytes.{sameBytes}
+use Rattle.list_definitions.specs.Names.{fixedNames, mostOp, nameBytes, namesIn, fixedTable, question14}
 
 abbrev pub isZero : ℕ → Bool
 isZero b = eqb b 0

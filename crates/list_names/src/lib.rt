@@ -3,9 +3,10 @@ ghost use Prim.Native.Nat.{_+_, _-_, _*_, _≤_, _<_};
 ghost use mathlib.Core.Path.{_≡_};
 ghost use mathlib.Core.List.{[]};
 ghost use lib.ListN.{length, getD, take, drop};
+ghost use Rattle.questions.specs.Bytes.{sameBytes};
 ghost use Rattle.questions.specs.Tests.{all};
 ghost use Rattle.printing.specs.Put.{Put};
-ghost use Rattle.list_definitions.specs.Names.{fixedNames, namesFrom, namesIn, isCapital, isName, sameBytes, different, isNameTable};
+ghost use Rattle.list_definitions.specs.Names.{fixedNames, namesFrom, namesIn, isCapital, isName, different, isNameTable};
 ghost use Rattle.list_names.specs.Parts.{isZero, apart, FixedNamesPut};
 
 // "Six bytes an op", sixteen of them.
@@ -101,7 +102,8 @@ fn same_name(table: &[u8], one: usize, other: usize) -> bool
 // Whether none of the `later` names after the one at a place repeats it.
 fn not_repeated(table: &[u8], from: usize, later: usize) -> bool
     requires { ⌜ from + 6 + 6 * later ≤ length (now table) ⌝ }
-    ensures { λ r. ⌜ r ≡ all (apart (take 6 (drop from (now (table .entry))))) (namesFrom later (drop (from + 6) (now (table .entry)))) ⌝ }
+    ensures { λ r. ⌜ r ≡ all (apart (take 6 (drop from (now (table .entry)))))
+        (namesFrom later (drop (from + 6) (now (table .entry)))) ⌝ }
 {
     let mut at = from + NAME_BYTES;
     let mut left = later;

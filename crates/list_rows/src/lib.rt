@@ -141,8 +141,8 @@ fn list_fields(vars: u32, code: &[u32], rows: Rows, names: &[u8], out: &mut [u8]
 
 // Listing, with a name table (02, Req 05).
 pub fn listing(vars: u32, code: &[u32], row: &[Rung], names: &[u8], out: &mut [u8]) -> Listed
-    ensures { λ r. ⌜ ListingDone (listing (now (names .entry)) vars (now (code .entry)) (recordsOf (now (row .entry))) (now (out .entry)))
-        r (now (out .exit)) ⌝ }
+    ensures { λ r. ⌜ ListingDone
+        (listing (now (names .entry)) vars (now (code .entry)) (recordsOf (now (row .entry))) (now (out .entry))) r (now (out .exit)) ⌝ }
 {
     list_fields(vars, code, rows::gather(row), names, out)
 }

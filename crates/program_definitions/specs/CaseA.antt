@@ -3,7 +3,7 @@ use mathlib.Core.Path.{_≡_, refl}
 use mathlib.Core.Bool.{xor}
 use mathlib.Core.List.{zipWith, flatMap}
 use Rattle.questions.specs.Tests.{all, firstFailed}
-use Rattle.questions.specs.Bytes.{bytes, decimal, digits}
+use Rattle.questions.specs.Bytes.{bytes, decimal, digits, sameBytes}
 use Rattle.questions.specs.Questions.{ask, askEach, firstNo, varsInRange, question1, question2, question12, longEnough, question13}
 use Rattle.table.specs.State.{valueAt, value, writtenAt, turns, write}
 use Rattle.table.specs.Questions.{tableInRange, question11}
@@ -20,7 +20,7 @@ use Rattle.list_definitions.specs.Instruction.{operand, opOf, operandNumber, on
 use Rattle.list_definitions.specs.Machine.{scanList, scanMachine, begin, fresh, step, count, does, halted}
 use Rattle.list_definitions.specs.Questions.{operandInRange, wordInRange, recordsLaid, listInRange, question10}
 use Rattle.list_definitions.specs.ListScan.{listOf}
-use Rattle.list_definitions.specs.Names.{fixedNames, trimmed, nameOf, namesFrom, fixedTable, isCapital, isName, sameBytes as sameNames, different, isNameTable, question14}
+use Rattle.list_definitions.specs.Names.{fixedNames, trimmed, nameOf, namesFrom, fixedTable, isCapital, isName, different, isNameTable, question14}
 use Rattle.list_definitions.specs.Listing.{listing, operandText, instrLine, labelLine, rungLines, listingLines, ended, listingText}
 use Rattle.translation_definitions.specs.Translate.{F, R, join, outputCode, rungCode, listRecords, translate}
 use Rattle.translation_definitions.specs.TranslateKept.{countsOf, listWritten, translateKept}
@@ -28,7 +28,7 @@ use Rattle.translation_definitions.specs.BothScans.{copyQuestion, bothQuestions
 use Rattle.program_definitions.specs.Lines.{firstLine, textAfter, lineNumber, isBinaryDigit, tableOf}
 use Rattle.program_definitions.specs.Outcome.{outputOf}
 use Rattle.program_definitions.specs.Printout.{countLine, listPrinted, keptPrinted, textPrinted, outcome, output}
-use Rattle.program_definitions.specs.Scanout.{endWord, scanCountLines, endLines, enteredLine, enteredLines, changedLine, changedLines, sameBytes, alikeIf, verdict, verdictLine, reportOf, reportLines, keptScanned, textScanned, outcome as scanOutcome, output as scanOutput}
+use Rattle.program_definitions.specs.Scanout.{endWord, scanCountLines, endLines, enteredLine, enteredLines, changedLine, changedLines, alikeIf, verdict, verdictLine, reportOf, reportLines, keptScanned, textScanned, outcome as scanOutcome, output as scanOutput}
 
 pub A-printed : output (bytes "5\n10:c0|c1&n2>o1|c3&j20\n20:n3>o4\n")
     ≡ bytes "L10:\nLD v0\nST t0\nLD v1\nANDN v2\nOR t0\nST t0\nST v1\nLD t0\nAND v3\nJMPC @10\nL20:\nLDN v3\nST v4\nrungs 2 instructions 12 longest 10\n"
@@ -40,7 +40,7 @@ unfolding output outcome textPrinted keptPrinted listPrinted countLine outputOf 
     scratchInRange namedBelow namedLeads ladderQuestions ladderAnswer
     mapP bind followed digitOf digitsFrom numeralOf chain termBy frontBy factorBy factorOf termOf frontOf opensFactor branchBy rearBy outputAt endBy endOf rearOf lineOf linesOf textOf
     readText writtenKept textLadder operand opOf operandNumber onlyNot ops instrWord decodeInstr decodeCode codeOf operandInRange wordInRange recordsLaid listInRange listOf
-    listing fixedTable namesFrom question14 isNameTable isName isCapital different sameNames fixedNames trimmed nameOf operandText instrLine labelLine rungLines listingLines ended listingText F R join outputCode rungCode listRecords translate countsOf listWritten translateKept
+    listing fixedTable namesFrom question14 isNameTable isName isCapital different sameBytes fixedNames trimmed nameOf operandText instrLine labelLine rungLines listingLines ended listingText F R join outputCode rungCode listRecords translate countsOf listWritten translateKept
 A-printed = refl
 
 -- case A with v0 true and a rung watchdog of 2, as README shows it

@@ -4,7 +4,7 @@ use mathlib.Core.Path.{_≡_, refl}
 use mathlib.Core.Bool.{true, false}
 use mathlib.Core.List.{[], _∷_}
 use lib.ListN.{replicate}
-use Rattle.questions.specs.Bytes.{bytes, decimal, digits}
+use Rattle.questions.specs.Bytes.{bytes, decimal, digits, sameBytes}
 use Rattle.questions.specs.Tests.{all}
 use Rattle.table.specs.Halt.{Halt, Ended, Stopped}
 use Rattle.text_grammar.specs.Reader.{digitOf, digitsFrom, numeralOf}
@@ -13,7 +13,7 @@ use Rattle.translation_definitions.specs.BothScans.{BothEnds, lends}
 use Prim.Native.Nat.{ℕ}
 use Rattle.program_definitions.specs.Lines.{lineNumber, watchdogOf, isBinaryDigit, tableOf}
 use Rattle.program_definitions.specs.Refusals.{refusalLine, explanations, explanation, lineEndsText, errorLines}
-use Rattle.program_definitions.specs.Scanout.{endWord, scanCountLines, endLines, enteredLine, enteredLines, changedLine, changedLines, sameBytes, alike, bothStopped, notAlike, alikeIf, verdict, verdictLine, reportOf, reportLines}
+use Rattle.program_definitions.specs.Scanout.{endWord, scanCountLines, endLines, enteredLine, enteredLines, changedLine, changedLines, alike, bothStopped, notAlike, alikeIf, verdict, verdictLine, reportOf, reportLines}
 
 pub watchdogs-worked :
     (watchdogOf (bytes "2") ≡ 2) × (watchdogOf (bytes "65535") ≡ 65535) × (watchdogOf (bytes "65536") ≡ 65536) × (watchdogOf (bytes "02") ≡ 65536) × (watchdogOf [] ≡ 65536)

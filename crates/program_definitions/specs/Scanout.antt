@@ -4,7 +4,7 @@ use mathlib.Core.Bool.{Bool, true, false, _&&_}
 use mathlib.Core.List.{List, [], _∷_, _++_}
 use lib.Dec.{eqb}
 use lib.ListN.{take}
-use Rattle.questions.specs.Bytes.{bytes, decimal}
+use Rattle.questions.specs.Bytes.{bytes, decimal, sameBytes}
 use Rattle.questions.specs.Questions.{mostVariables}
 use Rattle.table.specs.Halt.{Halt, Ended, Stopped}
 use Rattle.rungs.specs.Records.{mostRecords}
@@ -55,12 +55,6 @@ changedLines v [] ls ts = []
 changedLines v (b ∷ bs) [] ts = []
 changedLines v (b ∷ bs) (l ∷ ls) [] = []
 changedLines v (b ∷ bs) (l ∷ ls) (t ∷ ts) = elim (eqb l b && eqb t b) [ true ↦ [] | false ↦ changedLine v b l t ] ++ changedLines (suc v) bs ls ts
-
-unfoldable pub sameBytes : List ℕ → List ℕ → Bool
-sameBytes [] [] = true
-sameBytes [] (y ∷ ys) = false
-sameBytes (x ∷ xs) [] = false
-sameBytes (x ∷ xs) (y ∷ ys) = eqb x y && sameBytes xs ys
 
 -- what the two scans came to
 pub data Verdict : Type 0 where

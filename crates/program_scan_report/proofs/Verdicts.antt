@@ -9,12 +9,13 @@ use lib.Dec.{eqb, leb}
 use lib.ListN.{length, take, drop, getD, length-take, drop-of-length-le}
 use lib.Seq.{drop-cons, getD-take}
 use borrow.Author.Tests.{leb-true, leb-false, ne-eqb, eq-eqb}
+use Rattle.questions.specs.Bytes.{sameBytes}
 use Rattle.ladder_definitions.specs.LadderScan.{countsIn as ladderCountsIn}
 use Rattle.list_definitions.specs.ListScan.{countsIn as listCountsIn}
 use Rattle.translation_definitions.specs.TranslateKept.{countsIn}
 use Rattle.translation_definitions.specs.BothScans.{haltOf, endsIn}
 use Rattle.translation_definitions.specs.declared.BothEnds.{BothEnds as EndsStruct}
-use Rattle.program_definitions.specs.Scanout.{sameBytes, Verdict, alike, bothStopped, notAlike, alikeIf, verdict}
+use Rattle.program_definitions.specs.Scanout.{Verdict, alike, bothStopped, notAlike, alikeIf, verdict}
 
 -- ---- bytes compared
 

@@ -2,12 +2,13 @@
 ghost use mathlib.Core.Path.{_≡_};
 ghost use Prim.Native.Nat.{_≤_};
 ghost use lib.ListN.{length, take};
+ghost use Rattle.questions.specs.Bytes.{sameBytes};
 ghost use Rattle.questions.specs.Questions.{mostVariables};
 ghost use Rattle.ladder_definitions.specs.Questions.{mostRungs};
 ghost use Rattle.printing.specs.Put.{Put};
 ghost use Rattle.translation_definitions.specs.BothScans.{haltOf, endsIn};
 ghost use Rattle.program_definitions.specs.Scanout.{endWord, scanCountLines, endLines, enteredLine, enteredLines};
-ghost use Rattle.program_definitions.specs.Scanout.{changedLine, changedLines, sameBytes, verdict, verdictLine, reportOf};
+ghost use Rattle.program_definitions.specs.Scanout.{changedLine, changedLines, verdict, verdictLine, reportOf};
 ghost use Rattle.program_scan_report.specs.Parts.{verdictIn};
 use translation_definitions::BothEnds;
 

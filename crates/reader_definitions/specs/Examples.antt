@@ -4,14 +4,14 @@ use Prim.Native.Nat.{ℕ}
 use mathlib.Core.Path.{_≡_, refl}
 use mathlib.Core.List.{List, [], _∷_, flatMap}
 use lib.ListN.{drop, replicate}
-use Rattle.questions.specs.Bytes.{bytes, decimal, digits}
+use Rattle.questions.specs.Bytes.{bytes, decimal, digits, sameBytes}
 use Rattle.questions.specs.Tests.{all}
 use Rattle.questions.specs.Questions.{ask, firstNo, varsInRange, question1, longEnough, question13}
 use Rattle.rungs.specs.Records.{lay, laid, longest}
 use Rattle.rungs.specs.Buffers.{Buffers, buffers, asBuffers, needs, written, writtenOver}
 use Rattle.text_grammar.specs.Reader.{mapP, bind, followed, digitOf, digitsFrom, numeralOf}
 use Rattle.list_definitions.specs.Instruction.{ST, NOT, JMP, LD, operand, opOf, operandNumber, instrWord, decodeInstr, ops, onlyNot, sortOf, operandSort, sortNumber, sameSort}
-use Rattle.list_definitions.specs.Names.{fixedNames, trimmed, nameOf, namesFrom, namesIn, isCapital, isName, sameBytes, different, isNameTable, fixedTable, question14}
+use Rattle.list_definitions.specs.Names.{fixedNames, trimmed, nameOf, namesFrom, namesIn, isCapital, isName, different, isNameTable, fixedTable, question14}
 use Rattle.list_definitions.specs.Questions.{operandInRange, wordInRange, recordsLaid, listInRange, question10}
 use Rattle.list_definitions.specs.Listing.{operandText, instrLine, labelLine, rungLines, listingLines, ended, listingText}
 use Rattle.list_definitions.specs.Examples.{zeros, parkTable}

@@ -5,12 +5,12 @@ use mathlib.Core.Option.{Option, none, some}
 use mathlib.Core.List.{List, [], _∷_}
 use lib.Dec.{eqb, ltb}
 use lib.ListN.{length, getD, take, drop}
-use Rattle.questions.specs.Bytes.{byte}
+use Rattle.questions.specs.Bytes.{byte, sameBytes}
 use Rattle.table.specs.State.{scratchBytes}
 use Rattle.rungs.specs.Words.{word}
 use Rattle.text_grammar.specs.Reader.{pick, Parse, read, stuck, mapP, bind, followed, digitOf, numeralOf}
 use Rattle.list_definitions.specs.Instruction.{Instr, Operand, tableIndex, noOperand, instructionIndex, operandNumber, decodeInstr, sortOf, operandSort, sameSort}
-use Rattle.list_definitions.specs.Names.{Names, trimmed, nameBytes, isCapital, sameBytes}
+use Rattle.list_definitions.specs.Names.{Names, trimmed, nameBytes, isCapital}
 use Rattle.reader_definitions.specs.Form.{ListRung}
 
 -- the position after at most k capital letters

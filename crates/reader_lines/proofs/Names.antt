@@ -11,8 +11,9 @@ use borrow.Author.Tests.{eq-eqb, ne-eqb}
 use lib.Dec.{eqb}
 use lib.ListN.{length, getD, take, drop, drop-of-length-le}
 use lib.Seq.{drop-cons, drop-drop}
+use Rattle.questions.specs.Bytes.{sameBytes}
 use Rattle.text_grammar.specs.Laws.Spans.{inside}
-use Rattle.list_definitions.specs.Names.{trimmed, nameBytes, mostOp, namesFrom, namesIn, sameBytes}
+use Rattle.list_definitions.specs.Names.{trimmed, nameBytes, mostOp, namesFrom, namesIn}
 use Rattle.reader_definitions.specs.Reader.{between, opNamed}
 use Rattle.reader_lines.specs.Parts.{opCase, OpFound}
 

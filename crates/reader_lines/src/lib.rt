@@ -2,9 +2,10 @@
 ghost use Prim.Native.Nat.{_<_, _≤_};
 ghost use mathlib.Core.Path.{_≡_};
 ghost use lib.ListN.{length, take, drop};
+ghost use Rattle.questions.specs.Bytes.{sameBytes};
 ghost use Rattle.questions.specs.Questions.{mostVariables};
 ghost use Rattle.list_definitions.specs.Instruction.{operandSort, sortNumber};
-ghost use Rattle.list_definitions.specs.Names.{trimmed, nameBytes, sameBytes, namesIn};
+ghost use Rattle.list_definitions.specs.Names.{trimmed, nameBytes, namesIn};
 ghost use Rattle.text_grammar.specs.Grammar.{mostNumber};
 ghost use Rattle.reader_definitions.specs.Reader.{between, lettered, operandFrom, instructionFrom, labelFrom, opensLabel};
 ghost use Rattle.reader_lines.specs.Parts.{LettersRead, OpFound, LetterParsed, OperandParsed, LineParsed, LabelParsed};
@@ -64,7 +65,8 @@ fn letters(text: &[u8], at: usize) -> usize
 // Whether the name that stands in a table from `from` on is what stands in the text from `at` up to `to`.
 fn same_name(table: &[u8], from: usize, text: &[u8], at: usize, to: usize) -> bool
     requires { ⌜ (from < 1000) × (at ≤ to) × (to ≤ length (now text)) ⌝ }
-    ensures { λ r. ⌜ r ≡ sameBytes (trimmed (take nameBytes (drop from (now (table .entry))))) (between (now (text .entry)) at to) ⌝ }
+    ensures { λ r. ⌜ r ≡ sameBytes (trimmed (take nameBytes (drop from (now (table .entry)))))
+        (between (now (text .entry)) at to) ⌝ }
 {
     let mut k: usize = 0;
     while k < NAME_BYTES {
@@ -172,7 +174,8 @@ fn operand(text: &[u8], at: usize, vars: u32) -> OperandAt
 // An instruction line, in the names of a table.
 pub fn instruction(table: &[u8], text: &[u8], at: usize, vars: u32) -> LineAt
     requires { ⌜ (vars ≤ mostVariables) × (at ≤ length (now text)) ⌝ }
-    ensures { λ r. ⌜ LineParsed (instructionFrom (namesIn (now (table .entry))) vars (now (text .entry)) at) (now (text .entry)) at r ⌝ }
+    ensures { λ r. ⌜ LineParsed (instructionFrom (namesIn (now (table .entry))) vars (now (text .entry)) at)
+        (now (text .entry)) at r ⌝ }
 {
     let to = letters(text, at);
     let op = op_named(table, text, at, to);

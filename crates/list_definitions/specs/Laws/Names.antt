@@ -5,34 +5,19 @@ use mathlib.Core.Path.{_≡_, refl, sym, ap, _∙_}
 use mathlib.Core.Bool.{Bool, true, false, not, _&&_}
 use mathlib.Core.Option.{none}
 use mathlib.Core.List.{List, [], _∷_, _++_, flatMap}
-use borrow.Author.Tests.{eq-eqb}
+use borrow.Author.Tests.{eq-eqb, ne-eqb}
 use mir.Facts.{and-yes, yes-and}
-use lib.Dec.{T, T-not, not-T, eqb, leb, leb→le, eqb→eq, eqb-refl}
+use lib.Dec.{T, T-not, not-T, eqb, leb, leb→le, le→leb, eqb→eq}
 use lib.ListN.{length, getD, take, drop, replicate, length-take, length-drop, length-append}
-use lib.Seq.{drop-drop}
-use Rattle.questions.specs.Bytes.{bytes}
+use lib.Seq.{drop-drop, drop-append-seam}
+use Rattle.questions.specs.Bytes.{bytes, sameBytes}
 use Rattle.questions.specs.Tests.{all}
 use Rattle.questions.specs.Questions.{ask}
-use Rattle.questions.specs.Laws.Tests.{T→true, all-head, all-tail, all-getD}
+use Rattle.questions.specs.Laws.Tests.{all-head, all-tail, all-getD}
 use Rattle.questions.specs.Laws.Answers.{ask-passed, passed-ask}
+use Rattle.questions.specs.Laws.Bytes.{same-refl, same-equal}
 use Rattle.list_definitions.specs.Instruction.{Instr, LD, LDN, ST, STN, AND, ANDN, OR, ORN, XOR, XORN, NOT, JMP, JMPC, JMPCN, S, R, opOf}
-use Rattle.list_definitions.specs.Names.{Names, trimmed, fixedNames, mostOp, nameBytes, namesFrom, namesIn, fixedTable, isCapital, isName, sameBytes, different, isNameTable, question14, IsNameTable}
-
--- ---- equal bytes
-
-pub same-refl : (xs : List ℕ) → sameBytes xs xs ≡ true
-unfolding sameBytes
-same-refl [] = refl
-same-refl (x ∷ xs) = rw (T→true (eqb x x) (eqb-refl x)) (same-refl xs)
-
-pub same-equal : (xs ys : List ℕ) → T (sameBytes xs ys) → xs ≡ ys
-unfolding sameBytes
-same-equal [] [] h = refl
-same-equal [] (y ∷ ys) h = absurd h
-same-equal (x ∷ xs) [] h = absurd h
-same-equal (x ∷ xs) (y ∷ ys) h =
-    let p = and-yes (eqb x y) (sameBytes xs ys) h in
-    rw (eqb→eq x y (p .0), same-equal xs ys (p .1)) refl
+use Rattle.list_definitions.specs.Names.{Names, trimmed, fixedNames, mostOp, nameBytes, namesFrom, namesIn, fixedTable, isCapital, isName, different, isNameTable, question14, IsName, IsNameTable}
 
 pub true→T : (b : Bool) → b ≡ true → T b
 true→T true e = tt
@@ -136,6 +121,44 @@ unfolding all
 get-all test [] d h = tt
 get-all test (x ∷ xs) d h = yes-and (test x) (all test xs) (h 0 (omega arith)) (get-all test xs d (λ i l. h (suc i) (omega arith)))
 
+is-name : (name : List ℕ) → T (isName name) → IsName name
+unfolding isCapital
+is-name name h =
+    let n = named name h in
+    record {
+      letters = trimmed name;
+      filling = length name - length (trimmed name);
+      same = n .filled;
+      some-letter = n .some-letter;
+      capitals = λ i l.
+          let c = getD (trimmed name) i 0 in
+          let y = and-yes (leb 65 c) (leb c 90) (all-getD isCapital (trimmed name) i 0 l (n .capitals)) in
+          (leb→le 65 c (y .0), leb→le c 90 (y .1));
+    }
+
+-- letters before zeros are what is left without the filling
+trimmed-letters : (w : List ℕ) (n : ℕ) → ((i : ℕ) → i < length w → (65 ≤ getD w i 0) × (getD w i 0 ≤ 90)) → trimmed (w ++ replicate n 0) ≡ w
+unfolding trimmed
+trimmed-letters [] zero h = refl
+trimmed-letters [] (suc n) h = refl
+trimmed-letters (b ∷ w) n h =
+    let l = h 0 (omega arith) .0 in
+    rw (ne-eqb b 0 (λ e. omega arith), trimmed) (ap (λ r. b ∷ r) (trimmed-letters w n (λ i k. h (suc i) (omega arith))))
+
+zeros-filled : (n : ℕ) → T (all (λ b. eqb b 0) (replicate n 0))
+unfolding all
+zeros-filled zero = tt
+zeros-filled (suc n) = zeros-filled n
+
+name-is : (name : List ℕ) → IsName name → T (isName name)
+unfolding isName isCapital
+name-is name h =
+    let w = h .letters in
+    let e : trimmed name ≡ w = ap trimmed (h .same) ∙ trimmed-letters w (h .filling) (h .capitals) in
+    let rest : drop (length w) name ≡ replicate (h .filling) 0 = ap (drop (length w)) (h .same) ∙ drop-append-seam w (replicate (h .filling) 0) in
+    rw (e, rest) (yes-and (leb 1 (length w)) _ (le→leb 1 _ (h .some-letter))
+    (yes-and (all isCapital w) _ (get-all isCapital w 0 (λ i l. let c = h .capitals i l in yes-and (leb 65 (getD w i 0)) (leb (getD w i 0) 90) (le→leb 65 _ (c .0)) (le→leb _ 90 (c .1)))) (zeros-filled (h .filling))))
+
 different-apart : (names : Names) → T (different names) → (p q : ℕ) → p < q → q < length names → getD names p [] ≡ getD names q [] → ⊥
 unfolding different
 different-apart [] h p q a l e = omega arith
@@ -164,8 +187,8 @@ accepted-table table e =
     let many = names-many mostOp table in
     record {
       six-bytes-an-op = eqb→eq _ _ (x .0);
-      each-a-name = λ p l. all-getD isName names p [] (rw many l) (y .0);
-      none-repeats = λ p q a l. different-apart names (y .1) p q a (rw many l);
+      each-a-name = λ p l. rw (← (name-at mostOp table p l)) (is-name _ (all-getD isName names p [] (rw many l) (y .0)));
+      none-repeats = λ p q a l e. different-apart names (y .1) p q a (rw many l) (name-at mostOp table p (omega arith) ∙ (e ∙ sym (name-at mostOp table q l)));
     }
 
 pub table-accepted : (table : List ℕ) → IsNameTable table → question14 table ≡ none
@@ -174,7 +197,8 @@ table-accepted table h =
     let names = namesIn table in
     let many = names-many mostOp table in
     passed-ask 14 _ (yes-and (eqb (length table) (nameBytes * mostOp)) (all isName names && different names) (true→T _ (eq-eqb _ _ (h .six-bytes-an-op)))
-    (yes-and (all isName names) (different names) (get-all isName names [] (λ i l. h .each-a-name i (rw many at l))) (apart-different names (λ p q a l. h .none-repeats p q a (rw many at l)))))
+    (yes-and (all isName names) (different names) (get-all isName names [] (λ i l. let k : i < mostOp = rw many at l in rw (name-at mostOp table i k) (name-is _ (h .each-a-name i k))))
+    (apart-different names (λ p q a l e. let k : q < mostOp = rw many at l in h .none-repeats p q a k (sym (name-at mostOp table p (omega arith)) ∙ (e ∙ name-at mostOp table q k))))))
 
 -- ---- the fixed table
 

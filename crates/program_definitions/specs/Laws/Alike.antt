@@ -7,6 +7,7 @@ use mathlib.Core.List.{List, [], _∷_, _++_, append-assoc, append-nil}
 use borrow.Author.Tests.{eq-eqb}
 use lib.Dec.{eqb}
 use lib.ListN.{take}
+use Rattle.questions.specs.Laws.Bytes.{same-refl}
 use Rattle.questions.specs.Bytes.{bytes, decimal}
 use Rattle.questions.specs.Questions.{Refusal}
 use Rattle.table.specs.Halt.{Halt, Ended, Stopped}
@@ -22,14 +23,9 @@ use Rattle.translation_definitions.specs.Theorems.{paired-agree}
 use Rattle.program_definitions.specs.Refusals.{refusalLine}
 use Rattle.program_definitions.specs.Outcome.{outputOf}
 use Rattle.program_definitions.specs.Printout.{blank}
-use Rattle.program_definitions.specs.Scanout.{endWord, scanCountLines, endLines, enteredLine, enteredLines, changedLine, changedLines, sameBytes, Verdict, alike, bothStopped, alikeIf, verdict, verdictLine, reportOf, reportLines, lentFor, keptScanned, textScanned, outcome, output}
+use Rattle.program_definitions.specs.Scanout.{endWord, scanCountLines, endLines, enteredLine, enteredLines, changedLine, changedLines, Verdict, alike, bothStopped, alikeIf, verdict, verdictLine, reportOf, reportLines, lentFor, keptScanned, textScanned, outcome, output}
 
 -- ---- the verdict
-
-same-self : (xs : List ℕ) → sameBytes xs xs ≡ true
-unfolding sameBytes
-same-self [] = refl
-same-self (x ∷ xs) = rw (eq-eqb x x refl) (same-self xs)
 
 same-scan : {h g : Halt} {c d : ListCounts} → _≡_ {A = ListScanAnswer} (listScanned h c) (listScanned g d) → (h ≡ g) × (c ≡ d)
 same-scan e = (cc, cc)
@@ -67,7 +63,7 @@ module _ (vars : ℕ) (k : Kept) (table : List ℕ) (n : ℕ) (e : BothEnds) (q 
           let moved : e .list .moved ≡ e .ladder .moved =
           sym (ap (λ (d : BothEnds). d .list .moved) same-ends) ∙ ap (λ (c : ListCounts). c .moved) (same-scan (z .ended) .1) ∙ z .same ∙ ap (λ (d : BothEnds). d .ladder .moved) same-ends in
           bothEnded p halt
-          (rw (p, halt, eq-eqb (e .ladder .rungs) (e .list .rungs) (sym rungs), eq-eqb (e .ladder .moved) (e .list .moved) (sym moved), x .same .same-variables, same-self t) refl)
+          (rw (p, halt, eq-eqb (e .ladder .rungs) (e .list .rungs) (sym rungs), eq-eqb (e .ladder .moved) (e .list .moved) (sym moved), x .same .same-variables, same-refl t) refl)
       go Stopped p =
           let x = agree .stopped (ap (λ (d : BothEnds). d .ladderHalt) same-ends ∙ p) in
           let halt : e .listHalt ≡ Stopped = sym (ap (λ (d : BothEnds). d .listHalt) same-ends) ∙ same-scan (x .stopped) .0 in

@@ -9,12 +9,14 @@ use mathlib.Core.List.{List, [], _∷_}
 use mir.Facts.{and-yes}
 use lib.Dec.{T, T-not, eqb, eqb→eq}
 use lib.ListN.{length, getD}
+use Rattle.questions.specs.Bytes.{sameBytes}
 use Rattle.questions.specs.Tests.{all}
 use Rattle.questions.specs.Laws.Tests.{none-some, all-head, all-tail, all-getD}
 use Rattle.questions.specs.Laws.Answers.{ask-passed}
+use Rattle.questions.specs.Laws.Bytes.{same-refl, same-equal}
 use Rattle.list_definitions.specs.Instruction.{Instr, opOf}
-use Rattle.list_definitions.specs.Names.{Names, trimmed, nameOf, mostOp, nameBytes, namesIn, isCapital, isName, sameBytes, different, isNameTable, question14}
-use Rattle.list_definitions.specs.Laws.Names.{same-refl, same-equal, true→T, IsNamed, named, trimmed-long, same-letters, names-many, name-long, op-in-table}
+use Rattle.list_definitions.specs.Names.{Names, trimmed, nameOf, mostOp, nameBytes, namesIn, isCapital, isName, different, isNameTable, question14}
+use Rattle.list_definitions.specs.Laws.Names.{true→T, IsNamed, named, trimmed-long, same-letters, names-many, name-long, op-in-table}
 use Rattle.reader_definitions.specs.Reader.{opNamed}
 
 -- what is found has that name
