@@ -118,7 +118,7 @@ module _ (vars : ℕ) (ws ls os ns before t : List ℕ) (w : ℕ) (ok : scanQues
   as-many = sym many ∙ even .first
 
   -- the scan of it
-  pub scanned-row : (r : ListScanned) (after u : List ℕ) → Ran vars ws os before t w r after u → ListScanDone (callListScan vars ws (rowOf ls os ns before) t w) r u before after
+  pub scanned-row : (r : ListScanned) (after u : List ℕ) → Ran ws os before (stateOf vars t) w r after u → ListScanDone (callListScan vars ws (rowOf ls os ns before) t w) r u before after
   scanned-row r after u ran =
       rw (row-fields ls os ns before many) (scan-scans vars ws (fieldsOf ls os ns) t w before r after u asked (rw (row-offsets ls os ns even) ran))
 

@@ -8,7 +8,7 @@ use mathlib.Core.Option.{some}
 use mathlib.Core.List.{List}
 use lib.ListN.{length, getD, List·getD-eq-default}
 use Rattle.questions.specs.Laws.Tests.{none-some}
-use Rattle.table.specs.State.{stateWith}
+use Rattle.table.specs.State.{State}
 use Rattle.rungs.specs.Words.{numberOf, operandOf}
 use Rattle.rungs.specs.Laws.Numbers.{noneTo, past-all}
 use Rattle.list_definitions.specs.Instruction.{Instr, NOT, noOp, onlyNot, ops, decodeInstr}
@@ -28,12 +28,12 @@ op-known w i e = go (numberOf w) refl (decLe (length ops) (numberOf w))
     go zero q (no h) = absurd (none-some (rw q at e))
     go (suc k) q (no h) = (omega arith, omega arith)
 
-module _ {vars w : ℕ} {v : Bool} {straight : ℕ} {t : List ℕ} {moved : ℕ} {r : Effect} where
+module _ {w : ℕ} {v : Bool} {straight : ℕ} {s : State} {r : Effect} {u : ℕ → State} where
   -- an op that makes the instruction `make x` of its operand x
-  pub arm : {u : List ℕ} {k : ℕ} → numberOf w ≡ k → (make : ℕ → Instr) → getD ops k noOp (operandOf w) ≡ some (make (operandOf w))
-      → {a : Bool} {j sum : ℕ} → r ≡ record { accumulator = a; index = j; moved = sum } → sum ≤ moved + 1
-      → ((pc : ℕ) → straight ≡ pc + 1 → does (make (operandOf w)) v (stateWith vars t moved) pc ≡ record { accumulator = a; state = stateWith vars u sum; index = j })
-      → Did vars w v straight t moved r u
+  pub arm : {k : ℕ} → numberOf w ≡ k → (make : ℕ → Instr) → getD ops k noOp (operandOf w) ≡ some (make (operandOf w))
+      → {a : Bool} {j sum : ℕ} → r ≡ record { accumulator = a; index = j; moved = sum } → sum ≤ s .moved + 1
+      → ((pc : ℕ) → straight ≡ pc + 1 → does (make (operandOf w)) v s pc ≡ record { accumulator = a; state = u sum; index = j })
+      → Did w v straight s r u
   unfolding decodeInstr
   arm e make m f few h = record {
     same = λ i d pc q.
@@ -42,17 +42,17 @@ module _ {vars w : ℕ} {v : Bool} {straight : ℕ} {t : List ℕ} {moved : ℕ}
     few = rw f few;
   }
 
-  -- the same, where it writes nothing
-  pub arm-keeps : {k : ℕ} → numberOf w ≡ k → (make : ℕ → Instr) → getD ops k noOp (operandOf w) ≡ some (make (operandOf w))
-      → {a : Bool} {j : ℕ} → r ≡ record { accumulator = a; index = j; moved = moved }
-      → ((pc : ℕ) → straight ≡ pc + 1 → does (make (operandOf w)) v (stateWith vars t moved) pc ≡ record { accumulator = a; state = stateWith vars t moved; index = j })
-      → Did vars w v straight t moved r t
-  arm-keeps e make m f h = arm e make m f (omega arith) h
+  -- the same, where it writes nothing, so that s was left
+  pub arm-keeps : s ≡ u (s .moved) → {k : ℕ} → numberOf w ≡ k → (make : ℕ → Instr) → getD ops k noOp (operandOf w) ≡ some (make (operandOf w))
+      → {a : Bool} {j : ℕ} → r ≡ record { accumulator = a; index = j; moved = s .moved }
+      → ((pc : ℕ) → straight ≡ pc + 1 → does (make (operandOf w)) v s pc ≡ record { accumulator = a; state = s; index = j })
+      → Did w v straight s r u
+  arm-keeps kept e make m f h = arm e make m f (omega arith) (λ pc q. rw (← kept) (h pc q))
 
-  pub arm-not : numberOf w ≡ 11 → r ≡ record { accumulator = not v; index = straight; moved = moved } → Did vars w v straight t moved r t
+  pub arm-not : s ≡ u (s .moved) → numberOf w ≡ 11 → r ≡ record { accumulator = not v; index = straight; moved = s .moved } → Did w v straight s r u
   unfolding decodeInstr ops onlyNot does
-  arm-not e f = record {
-    same = λ i d pc q. rw (is-not i (operandOf w) (rw e at d), f, q) refl;
+  arm-not kept e f = record {
+    same = λ i d pc q. rw (is-not i (operandOf w) (rw e at d), f, q, ← kept) refl;
     few = rw f (omega arith);
   }
     where
@@ -61,7 +61,7 @@ module _ {vars w : ℕ} {v : Bool} {straight : ℕ} {t : List ℕ} {moved : ℕ}
       is-not i (suc x) p = absurd (none-some p)
 
   -- no instruction has another op
-  pub arm-other : noneTo (numberOf w) (length ops - 1) → {a : Bool} {j : ℕ} → r ≡ record { accumulator = a; index = j; moved = moved } → Did vars w v straight t moved r t
+  pub arm-other : noneTo (numberOf w) (length ops - 1) → {a : Bool} {j : ℕ} → r ≡ record { accumulator = a; index = j; moved = s .moved } → Did w v straight s r u
   arm-other differs f = record {
     same = λ i d pc q.
         let known = op-known w i d in
@@ -70,17 +70,17 @@ module _ {vars w : ℕ} {v : Bool} {straight : ℕ} {t : List ℕ} {moved : ℕ}
     few = rw f (omega arith);
   }
 
--- the machine after an instruction, with its counts
-module _ (vars w entered : ℕ) (m : MachineStruct) (t : List ℕ) (effect : Effect) (u : List ℕ) where
+-- the machine after an instruction, with its counts; the state before it has the machine's sum
+module _ (w entered : ℕ) (m : MachineStruct) (at : ℕ → State) (effect : Effect) (u : ℕ → State) where
   abbrev counted : CountsStruct
   counted = record { instructions = m .counts .instructions + 1; rungs = m .counts .rungs + entered; moved = effect .moved }
 
-  pub stepped : Did vars w (m .accumulator) (m .index + 1) t (m .counts .moved) effect u
-      → Stepped vars w entered m t (record { accumulator = effect .accumulator; index = effect .index; counts = counted }) u
+  pub stepped : at (m .counts .moved) .moved ≡ m .counts .moved → Did w (m .accumulator) (m .index + 1) (at (m .counts .moved)) effect u
+      → Stepped w entered m at (record { accumulator = effect .accumulator; index = effect .index; counts = counted }) u
   unfolding step count machineOf machineCounts
-  stepped d = record {
+  stepped sum d = record {
     same = λ i e rs starts times. rw (d .same i e (m .index) refl, ← starts);
     carried = refl;
     rungs = refl;
-    moved = d .few;
+    moved = let few = d .few in omega arith;
   }

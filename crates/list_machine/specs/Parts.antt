@@ -1,4 +1,5 @@
--- What the functions of this crate promise to each other. Nothing here is a sentence of document 01. Assumes nothing.
+-- What the functions of this crate promise to each other. Nothing here is a sentence of document 01. A function over lent slices promises what it leaves as a
+-- state for each sum of variables turned over, since the sum stands in what it gives. Assumes nothing.
 use Prim.Native.Nat.{ℕ, suc, _+_, _≤_}
 use mathlib.Core.Path.{_≡_}
 use mathlib.Core.Bool.{Bool, true, false, not, _&&_}
@@ -7,7 +8,7 @@ use mathlib.Core.List.{List, [], _∷_}
 use lib.Dec.{eqb, leb, ltb}
 use lib.ListN.{length, getD, set}
 use Rattle.questions.specs.Tests.{bit}
-use Rattle.table.specs.State.{stateWith, stateOf}
+use Rattle.table.specs.State.{State}
 use Rattle.rungs.specs.Records.{RungRecord, offsets, isStart, enter}
 use Rattle.list_definitions.specs.Instruction.{Instr, decodeInstr, decodeCode}
 use Rattle.list_definitions.specs.Machine.{InstructionList, Counts, Machine, does, step, scanList}
@@ -19,11 +20,12 @@ use Rattle.list_definitions.specs.declared.ListScanned.the-variants.{Ended as E
 use Rattle.list_machine.specs.declared.Place.{Place}
 use Rattle.list_machine.specs.declared.Effect.{Effect}
 
--- a word that holds an instruction does what the instruction does, from accumulator v; any word turns over one variable at most
-pub record Did (vars word : ℕ) (v : Bool) (straight : ℕ) (t : List ℕ) (moved : ℕ) (r : Effect) (u : List ℕ) : Type 0 where
+-- a word that holds an instruction does what the instruction does, from accumulator v; any word turns over one variable at most; u is the state that was left,
+-- by how many times variables have been turned over
+pub record Did (word : ℕ) (v : Bool) (straight : ℕ) (s : State) (r : Effect) (u : ℕ → State) : Type 0 where
   pub same : (i : Instr) → decodeInstr word ≡ some i → (pc : ℕ) → straight ≡ pc + 1
-      → does i v (stateWith vars t moved) pc ≡ record { accumulator = r .accumulator; state = stateWith vars u (r .moved); index = r .index }
-  pub few : r .moved ≤ moved + 1
+      → does i v s pc ≡ record { accumulator = r .accumulator; state = u (r .moved); index = r .index }
+  pub few : r .moved ≤ s .moved + 1
 
 -- "both counts" of a machine, and the times entered, which stand beside it
 unfoldable pub machineCounts : CountsStruct → List ℕ → Counts
@@ -32,9 +34,10 @@ machineCounts c times = record { instructions = c .instructions; rungs = c .rung
 unfoldable pub machineOf : MachineStruct → List ℕ → Machine
 machineOf m times = record { accumulator = m .accumulator; index = m .index; counts = machineCounts (m .counts) times }
 
-pub record Stepped (vars word entered : ℕ) (m : MachineStruct) (t : List ℕ) (r : MachineStruct) (u : List ℕ) : Type 0 where
+-- the same of a machine: at and u are the states before and after the instruction, by how many times variables have been turned over
+pub record Stepped (word entered : ℕ) (m : MachineStruct) (at : ℕ → State) (r : MachineStruct) (u : ℕ → State) : Type 0 where
   pub same : (i : Instr) → decodeInstr word ≡ some i → (rs : List RungRecord) → entered ≡ bit (isStart rs (m .index)) → (times : List ℕ)
-      → step rs i (machineOf m times) (stateWith vars t (m .counts .moved)) ≡ (machineOf r (enter rs (m .index) times), stateWith vars u (r .counts .moved))
+      → step rs i (machineOf m times) (at (m .counts .moved)) ≡ (machineOf r (enter rs (m .index) times), u (r .counts .moved))
   pub carried : r .counts .instructions ≡ m .counts .instructions + 1
   pub rungs : r .counts .rungs ≡ m .counts .rungs + entered
   pub moved : r .counts .moved ≤ m .counts .moved + 1
@@ -82,7 +85,7 @@ runsOn end watchdog m = not (leb end (m .index)) && not (eqb (m .counts .instruc
 unfoldable pub haltedAt : ℕ → MachineStruct → ListScanned
 haltedAt end m = elim (leb end (m .index)) [ true ↦ EndedCase (m .counts) | false ↦ StoppedCase (m .counts) ]
 
--- a list's words and offsets are scanned as the list
-pub record Ran (vars : ℕ) (ws os before t : List ℕ) (watchdog : ℕ) (r : ListScanned) (after u : List ℕ) : Type 0 where
+-- a list's words and offsets are scanned as the list, from the state s; the bytes u are left
+pub record Ran (ws os before : List ℕ) (s : State) (watchdog : ℕ) (r : ListScanned) (after u : List ℕ) : Type 0 where
   pub same : (l : InstructionList) → decodeCode ws ≡ some (l .code) → offsets (l .records) ≡ os → ascending 0 os
-      → ListScanDone (scanEnds (scanList l watchdog (stateOf vars t))) r u before after
+      → ListScanDone (scanEnds (scanList l watchdog s)) r u before after

@@ -5,6 +5,7 @@ ghost use mathlib.Core.Path.{_≡_};
 ghost use mathlib.Core.Bool.{cond};
 ghost use Prim.Native.Nat.{_+_, _≤_, _<_, _^_};
 ghost use lib.ListN.{length, getD};
+ghost use Rattle.table.specs.State.{stateWith, stateOf};
 ghost use Rattle.rungs.specs.Records.{noneEntered};
 ghost use Rattle.list_machine.specs.Parts.{Did, Stepped, Ran, Sought, Followed};
 ghost use Rattle.list_machine.specs.Parts.{firstMachine, firstPlace, startsHere, counted, runsOn, haltedAt};
@@ -61,7 +62,8 @@ fn carry_out(
     moved: u32,
 ) -> Effect
     requires { ⌜ moved + 1 < 2 ^ 32 ⌝ }
-    ensures { λ r. ⌜ Did vars word accumulator straight (now (table .entry)) moved r (now (table .exit)) ⌝ }
+    ensures { λ r. ⌜ Did word accumulator straight (stateWith vars (now (table .entry)) moved)
+        r (stateWith vars (now (table .exit))) ⌝ }
 {
     let op = word / rungs::OPERANDS;
     let operand = (word % rungs::OPERANDS) as usize;
@@ -104,7 +106,8 @@ fn carry_out(
 fn stepped(vars: u32, m: Machine, code: &[u32], entered: u32, table: &mut [u8]) -> Machine
     requires { ⌜ (m .index < length (now code)) × (m .counts .instructions + 1 < 2 ^ 32) × (m .counts .rungs + entered < 2 ^ 32)
         × (m .counts .moved + 1 < 2 ^ 32) ⌝ }
-    ensures { λ r. ⌜ Stepped vars (getD (now (code .entry)) (m .index) 0) entered m (now (table .entry)) r (now (table .exit)) ⌝ }
+    ensures { λ r. ⌜ Stepped (getD (now (code .entry)) (m .index) 0) entered m (stateWith vars (now (table .entry)))
+        r (stateWith vars (now (table .exit))) ⌝ }
 {
     let counts = m.counts;
     let index = m.index;
@@ -131,8 +134,8 @@ fn stepped(vars: u32, m: Machine, code: &[u32], entered: u32, table: &mut [u8]) 
 fn step(vars: u32, m: &mut Machine, code: &[u32], entered: u32, table: &mut [u8])
     requires { ⌜ (now m .index < length (now code)) × (now m .counts .instructions + 1 < 2 ^ 32)
         × (now m .counts .rungs + entered < 2 ^ 32) × (now m .counts .moved + 1 < 2 ^ 32) ⌝ }
-    ensures { λ _. ⌜ Stepped vars (getD (now (code .entry)) (now (m .entry) .index) 0) entered (now (m .entry)) (now (table .entry))
-        (now (m .exit)) (now (table .exit)) ⌝ }
+    ensures { λ _. ⌜ Stepped (getD (now (code .entry)) (now (m .entry) .index) 0) entered
+        (now (m .entry)) (stateWith vars (now (table .entry))) (now (m .exit)) (stateWith vars (now (table .exit))) ⌝ }
 {
     *m = stepped(vars, *m, code, entered, table);
 }
@@ -257,7 +260,7 @@ fn scan(
     watchdog: u32,
 ) -> ListScanned
     requires { ⌜ (length (now times) ≡ length (now offsets)) × (now times ≡ noneEntered (length (now times))) ⌝ }
-    ensures { λ r. ⌜ Ran vars (now (code .entry)) (now (offsets .entry)) (now (times .entry)) (now (table .entry)) watchdog
+    ensures { λ r. ⌜ Ran (now (code .entry)) (now (offsets .entry)) (now (times .entry)) (stateOf vars (now (table .entry))) watchdog
         r (now (times .exit)) (now (table .exit)) ⌝ }
 {
     let mut m = first_machine();
@@ -280,7 +283,7 @@ pub fn run(
     watchdog: u32,
 ) -> ListScanned
     requires { ⌜ length (now times) ≡ length (now offsets) ⌝ }
-    ensures { λ r. ⌜ Ran vars (now (code .entry)) (now (offsets .entry)) (now (times .entry)) (now (table .entry)) watchdog
+    ensures { λ r. ⌜ Ran (now (code .entry)) (now (offsets .entry)) (now (times .entry)) (stateOf vars (now (table .entry))) watchdog
         r (now (times .exit)) (now (table .exit)) ⌝ }
 {
     rungs::put_zeros(times, times.len());

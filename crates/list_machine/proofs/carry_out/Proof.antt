@@ -112,14 +112,14 @@ same-length c = search needs
 
 returns : tie.Need-returns
 unfolding ops does value valueAt
-returns c = arm-keeps (c .before .before .before .match .keys1) LD refl (c .after .ensures) (λ pc q. rw (c .before .value .ensures, q))
+returns c = arm-keeps refl (c .before .before .before .match .keys1) LD refl (c .after .ensures) (λ pc q. rw (c .before .value .ensures, q))
 
 same-length-2 : tie.Need-same-length-2
 same-length-2 c = search needs
 
 returns-2 : tie.Need-returns-2
 unfolding ops does value valueAt
-returns-2 c = arm-keeps (c .before .before .before .match .keys2) LDN refl (c .after2 .ensures) (λ pc q. rw (c .before .value2 .ensures, q))
+returns-2 c = arm-keeps refl (c .before .before .before .match .keys2) LDN refl (c .after2 .ensures) (λ pc q. rw (c .before .value2 .ensures, q))
 
 same-length-3 : tie.Need-same-length-3
 same-length-3 c = search needs
@@ -140,57 +140,57 @@ same-length-5 c = search needs
 
 returns-5 : tie.Need-returns-5
 unfolding ops does value valueAt
-returns-5 c = arm-keeps (c .before .before .before .match .keys5) AND refl (c .after5 .ensures) (λ pc q. rw (c .before .value3 .ensures, q))
+returns-5 c = arm-keeps refl (c .before .before .before .match .keys5) AND refl (c .after5 .ensures) (λ pc q. rw (c .before .value3 .ensures, q))
 
 same-length-6 : tie.Need-same-length-6
 same-length-6 c = search needs
 
 returns-6 : tie.Need-returns-6
 unfolding ops does value valueAt
-returns-6 c = arm-keeps (c .before .before .before .match .keys6) ANDN refl (c .after6 .ensures) (λ pc q. rw (c .before .value4 .ensures, q))
+returns-6 c = arm-keeps refl (c .before .before .before .match .keys6) ANDN refl (c .after6 .ensures) (λ pc q. rw (c .before .value4 .ensures, q))
 
 same-length-7 : tie.Need-same-length-7
 same-length-7 c = search needs
 
 returns-7 : tie.Need-returns-7
 unfolding ops does value valueAt
-returns-7 c = arm-keeps (c .before .before .before .match .keys7) OR refl (c .after7 .ensures) (λ pc q. rw (c .before .value5 .ensures, q))
+returns-7 c = arm-keeps refl (c .before .before .before .match .keys7) OR refl (c .after7 .ensures) (λ pc q. rw (c .before .value5 .ensures, q))
 
 same-length-8 : tie.Need-same-length-8
 same-length-8 c = search needs
 
 returns-8 : tie.Need-returns-8
 unfolding ops does value valueAt
-returns-8 c = arm-keeps (c .before .before .before .match .keys8) ORN refl (c .after8 .ensures) (λ pc q. rw (c .before .value6 .ensures, q))
+returns-8 c = arm-keeps refl (c .before .before .before .match .keys8) ORN refl (c .after8 .ensures) (λ pc q. rw (c .before .value6 .ensures, q))
 
 same-length-9 : tie.Need-same-length-9
 same-length-9 c = search needs
 
 returns-9 : tie.Need-returns-9
 unfolding ops does xor value valueAt
-returns-9 c = arm-keeps (c .before .before .before .match .keys9) XOR refl (c .after9 .ensures) (λ pc q. rw (c .before .value7 .ensures, q))
+returns-9 c = arm-keeps refl (c .before .before .before .match .keys9) XOR refl (c .after9 .ensures) (λ pc q. rw (c .before .value7 .ensures, q))
 
 same-length-10 : tie.Need-same-length-10
 same-length-10 c = search needs
 
 returns-10 : tie.Need-returns-10
 unfolding ops does xor value valueAt
-returns-10 c = arm-keeps (c .before .before .before .match .keys10) XORN refl (c .after10 .ensures) (λ pc q. rw (c .before .value8 .ensures, q))
+returns-10 c = arm-keeps refl (c .before .before .before .match .keys10) XORN refl (c .after10 .ensures) (λ pc q. rw (c .before .value8 .ensures, q))
 
 returns-11 : tie.Need-returns-11
-returns-11 c = arm-not (c .before .match .keys11) (c .after11 .ensures)
+returns-11 c = arm-not refl (c .before .match .keys11) (c .after11 .ensures)
 
 returns-12 : tie.Need-returns-12
 unfolding ops does
-returns-12 c = arm-keeps (c .before .match .keys12) JMP refl (c .after12 .ensures) (λ pc q. refl)
+returns-12 c = arm-keeps refl (c .before .match .keys12) JMP refl (c .after12 .ensures) (λ pc q. refl)
 
 returns-13 : tie.Need-returns-13
 unfolding ops does
-returns-13 c = arm-keeps (c .before .before .match .keys13) JMPC refl (c .after13 .ensures) (λ pc q. rw (c .before .choose .ensures, q))
+returns-13 c = arm-keeps refl (c .before .before .match .keys13) JMPC refl (c .after13 .ensures) (λ pc q. rw (c .before .choose .ensures, q))
 
 returns-14 : tie.Need-returns-14
 unfolding ops does
-returns-14 c = arm-keeps (c .before .before .match .keys14) JMPCN refl (c .after14 .ensures) (λ pc q. rw (c .before .choose2 .ensures, q))
+returns-14 c = arm-keeps refl (c .before .before .match .keys14) JMPCN refl (c .after14 .ensures) (λ pc q. rw (c .before .choose2 .ensures, q))
 
 same-length-11 : tie.Need-same-length-11
 same-length-11 c = search needs

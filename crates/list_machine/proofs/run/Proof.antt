@@ -21,7 +21,7 @@ same-length-2 : tie.Need-same-length-2
 same-length-2 c = search needs
 
 returns : tie.Need-returns
-returns c = ran-over _ _ _ _ _ _ _ _ _ _ (c .before .before .before .before .scan .ensures)
+returns c = ran-over _ _ _ _ _ _ _ _ _ (c .before .before .before .before .scan .ensures)
 
 pub run-spec : {M : Type 1} → statement M
 run-spec = tie.close (tie.spec put-zeros-requires scan-requires same-length same-length-2 returns)

@@ -1,5 +1,5 @@
 -- `list_machine::scan` meets its contract. In each turn the borrow of the times entered is lent again, and `count_entry` is called; then the local that holds the machine is lent for a lifetime ν, and the table's borrow is lent again for a lifetime μ; `step` is called, and both come back at the last values that its contract says; then `follow` is called on the offsets, which are Copy. Assumes nothing.
-use mathlib.Core.Path.{_≡_, refl, sym, ap, subst}
+use mathlib.Core.Path.{_≡_, refl, sym, ap, subst, _∙_}
 use Prim.Native.Nat.{ℕ, _-_, _<_, _^_}
 use native.Mathlib.Omega.{arith}
 use mathlib.Core.Bool.{Bool, true, false, not}
@@ -48,6 +48,7 @@ use denote.Triple.Statement.{Contract, Triple}
 use denote.Triple.Table.{entered, cited}
 use denote.Triple.Walked.{says, needs, Stays, stay-none-slice, stay-slice, stay-none, walkOf, goes-none-slice, goes-slice, goes-none, Walks, ends-at, walked, walk-meets}
 use denote.Exit.{yes}
+use Rattle.table.specs.State.{State, stateWith, stateOf}
 use Rattle.rungs.specs.Records.{noneEntered}
 use Rattle.list_machine.specs.Parts.{Stepped, Followed, Ran, counted, firstMachine, firstPlace, runsOn, haltedAt}
 use Rattle.list_machine.specs.Laws.Runs.{Standing, StandingNeeds, standing-first, standing-needs, standing-next, standing-less, standing-ends}
@@ -168,7 +169,7 @@ turn = seq (assign (place 11 []) (rvOpd (copy (place 7 []))))
     (seq (cond (copy (place 10 [])) skip (exit 1))
     more)))
 
--- a place in the loop: the machine, where it stands among the records, the times entered, the table, and what holds of them
+-- a place in the loop: the machine, where it stands among the records, the times entered, the table, and what holds of them; the table is as long as at first
 record Here (vars : ℕ) (ws os ns ts : List ℕ) (w : ℕ) : Type 0 where
   m : Machine
   place : Place
@@ -176,7 +177,8 @@ record Here (vars : ℕ) (ws os ns ts : List ℕ) (w : ℕ) : Type 0 where
   t : List ℕ
   is : Is N.the-row m (N′.lowered m ∷ [])
   is-place : Is P.the-row place (P′.lowered place ∷ [])
-  stands : Standing vars ws os ns ts w n t m place
+  stands : Standing ws os ns (stateOf vars ts) w n (stateWith vars t) m place
+  long : length t ≡ length ts
 
 module _ {M : Type 1} (𝓤 : URA M) (H : Heap 𝓤) (A : Atoms 𝓤) (at-mem : Memory → SProp 𝓤) (run : Routine → Fun 𝓤) where
   -- the contracts that the proof cites, and of each callee's `ensured` the clause alone
@@ -227,6 +229,13 @@ module _ {M : Type 1} (𝓤 : URA M) (H : Heap 𝓤) (A : Atoms 𝓤) (W : Given
 
   abbrev k : ℕ
   k = length ws
+
+  -- the state at first, and the state with the table at a list, by how many times variables have been turned over
+  abbrev begun : State
+  begun = stateOf vars ts
+
+  abbrev left : List ℕ → ℕ → State
+  left l = stateWith vars l
 
   -- the references to the times entered and to the table, under a name, at a list
   abbrev at-times : GName → List ℕ → RefT (List ℕ)
@@ -305,14 +314,14 @@ module _ {M : Type 1} (𝓤 : URA M) (H : Heap 𝓤) (A : Atoms 𝓤) (W : Given
   abbrev Left : Upto → List (Item 𝓤)
   Left i = ‵ (flft κ₁ q₁) ∷ token-offsets ∷ ‵ (flft κ₃ q₃) ∷ ‵ (flft κ₄ q₄) ∷ ‵ Own-words ∷ ‵ Own-offsets ∷ ‵ (Own-times (i .n)) ∷ ‵ (Own-table (i .t)) ∷ []
 
-  exits : (i : Upto) (r : ListScanned) (u : Val) → Is S.the-row r (u ∷ []) → Ran vars ws os ns ts w r (i .n) (i .t) → ent 𝓤 (⋆ 𝓤 H A (Left i)) (Post u)
+  exits : (i : Upto) (r : ListScanned) (u : Val) → Is S.the-row r (u ∷ []) → Ran ws os ns begun w r (i .n) (i .t) → ent 𝓤 (⋆ 𝓤 H A (Left i)) (Post u)
   exits i r u is e =
       qed W (Left i) ∵
-      suffices ! _ (ends-at 𝓤 H A scan′.ended stayed (scan′.clauses 𝓤 H A at-mem run) W (((κ₁, (κ₂, (κ₃, (κ₄, tt)))), (q₁, (q₂, (q₃, (q₄, tt)))), tt, x, at), tt) u r (tt, (tt, (tt, (i .n, (i .t, (tt, tt)))))) (tt, (tt, (tt, (i .stands .running .many, (i .stands .running .long, (tt, tt))))))) $ says ! e $
+      suffices ! _ (ends-at 𝓤 H A scan′.ended stayed (scan′.clauses 𝓤 H A at-mem run) W (((κ₁, (κ₂, (κ₃, (κ₄, tt)))), (q₁, (q₂, (q₃, (q₄, tt)))), tt, x, at), tt) u r (tt, (tt, (tt, (i .n, (i .t, (tt, tt)))))) (tt, (tt, (tt, (i .stands .running .many, (i .long, (tt, tt))))))) $ says ! e $
       move ! (1 ∷ []) $ split ! $ move ! (4 ∷ 1 ∷ []) $ join ! $ move ! (3 ∷ 0 ∷ []) $ join ! $ move ! (1 ∷ 0 ∷ []) $ join ! $ move ! (1 ∷ 0 ∷ []) $ join ! $ frame ! $
       -- [the words; the offsets; the times; the table]: the machine values of the last two are those passed
       rewrite ! 2 (λ (l : ℕ). ‵ (MutSlice (named 2) κ₃ u32 .own (at-times η (i .n)) (sliceVal (c, d) l ∷ []))) (i .stands .running .many) refl $
-      rewrite ! 3 (λ (l : ℕ). ‵ (MutSlice (named 3) κ₄ u8 .own (at-list γ (i .t)) (sliceVal (b, o) l ∷ []))) (i .stands .running .long) refl $
+      rewrite ! 3 (λ (l : ℕ). ‵ (MutSlice (named 3) κ₄ u8 .own (at-list γ (i .t)) (sliceVal (b, o) l ∷ []))) (i .long) refl $
       nothing ! $ owned ! u32 (Is u32) (uint-makes 𝓤 H A W w32) w _ (refl, w-fits) $ fjoin ! $ move ! (4 ∷ 0 ∷ []) $ fjoin ! $ move ! (3 ∷ 0 ∷ []) $ fjoin ! $ move ! (2 ∷ 0 ∷ []) $ fjoin ! $ move ! (1 ∷ 0 ∷ []) $ fjoin ! $ owned ! u32 (Is u32) (uint-makes 𝓤 H A W w32) vars _ (refl, vars-fits) $ fjoin ! $ frame ! $
       owned ! S.the-row (Is S.the-row) (EL.makes S.the-type S′.the-plain 𝓤 H A) r _ is $ done !
 
@@ -354,7 +363,7 @@ module _ {M : Type 1} (𝓤 : URA M) (H : Heap 𝓤) (A : Atoms 𝓤) (W : Given
   off false h = refl
 
   needed : (i : Upto) → Holds (On i) → StandingNeeds ws os (i .n) (i .m) (i .place)
-  needed i yes = standing-needs vars ws os ns ts w (i .n) (i .t) (i .m) (i .place) (i .stands) w-fits (on (On i) yes)
+  needed i yes = standing-needs ws os ns begun w (i .n) (left (i .t)) (i .m) (i .place) (i .stands) w-fits (on (On i) yes)
 
   -- what `count_entry` is passed in turn i: the times entered, lent again for μ under ε
   module _ (i : Upto) (μ : ℕ) (ε : GName) where
@@ -402,7 +411,7 @@ module _ {M : Type 1} (𝓤 : URA M) (H : Heap 𝓤) (A : Atoms 𝓤) (W : Given
     goes-step yes = qed W (tokens ∷ ‵ Owns ∷ []) ∵ says ! (needed i yes .inside, needed i yes .instructions, needed i yes .rungs, needed i yes .moved) $ frame ! $ done !
 
   abbrev Said : Upto → Machine → List ℕ → Type 0
-  Said i r zs = Stepped vars (getD ws (i .m .index) 0) (i .place .entered) (i .m) (i .t) r zs
+  Said i r zs = Stepped (getD ws (i .m .index) 0) (i .place .entered) (i .m) (left (i .t)) r (left zs)
 
   -- what `follow` is passed after the machine's step to m′
   module _ (i : Upto) (m′ : Machine) (is : Is N.the-row m′ (N′.lowered m′ ∷ [])) where
@@ -430,7 +439,8 @@ module _ {M : Type 1} (𝓤 : URA M) (H : Heap 𝓤) (A : Atoms 𝓤) (W : Given
     t = t′;
     is = is;
     is-place = is′;
-    stands = standing-next vars ws os ns ts w (i .n) (i .t) (i .m) (i .place) (i .stands) (on (On i) yes) m′ n′ t′ e s len p′ f;
+    stands = standing-next ws os ns begun w (i .n) (left (i .t)) (i .m) (i .place) (i .stands) (on (On i) yes) m′ n′ (left t′) e s p′ f;
+    long = len ∙ i .long;
   }
 
   module _ (𝓣 : Tables 𝓤 H)
@@ -473,7 +483,7 @@ module _ {M : Type 1} (𝓤 : URA M) (H : Heap 𝓤) (A : Atoms 𝓤) (W : Given
           land ! (from ! (stop !)) (init ! 38 refl (typed-scanned (haltedAt k (i .m)) u is)) $
           returns ! (look ! 38 refl) $ forget ! 0 refl $ forget ! 20 refl $ forget ! 22 refl $ forget ! 24 refl $ forget ! 26 refl $ forget ! 28 refl $ forget ! 30 refl $ forget ! 32 refl $ forget ! 34 refl $ forget ! 36 refl $ forget ! 38 refl $
           move ! (38 ∷ 39 ∷ []) $ free1 ! $ move ! (36 ∷ 37 ∷ []) $ free1 ! $ move ! (34 ∷ 35 ∷ []) $ free1 ! $ move ! (32 ∷ 33 ∷ []) $ free1 ! $ move ! (30 ∷ 31 ∷ []) $ free1 ! $ move ! (28 ∷ 29 ∷ []) $ free1 ! $ move ! (26 ∷ 27 ∷ []) $ free1 ! $ move ! (24 ∷ 25 ∷ []) $ free1 ! $ move ! (22 ∷ 23 ∷ []) $ free1 ! $ move ! (20 ∷ 21 ∷ []) $ free1 ! $ move ! (18 ∷ 19 ∷ []) $ free1 ! $ move ! (16 ∷ 17 ∷ []) $ free1 ! $ move ! (14 ∷ 15 ∷ []) $ free1 ! $ move ! (12 ∷ 13 ∷ []) $ free1 ! $ move ! (10 ∷ 11 ∷ []) $ free1 ! $ move ! (8 ∷ 9 ∷ []) $ free1 ! $ move ! (6 ∷ 7 ∷ []) $ free1 ! $ move ! (4 ∷ 5 ∷ []) $ free1 ! $ move ! (2 ∷ 3 ∷ []) $ free1 ! $ free1 ! $ free0 ! $
-          by ! (exits i (haltedAt k (i .m)) u is (standing-ends vars ws os ns ts w (i .n) (i .t) (i .m) (i .place) (i .stands) (off (On i) over)))))))
+          by ! (exits i (haltedAt k (i .m)) u is (standing-ends ws os ns begun w (i .n) (left (i .t)) (i .m) (i .place) (i .stands) refl (off (On i) over)))))))
 
       abbrev Turned : Upto → Out → SProp 𝓤
       Turned i = afterTurn 𝓤 H (Below 𝓤 H A Nearer At i) (afterBlock 𝓤 H (afterSeq 𝓤 H (Wp 𝓤 H C Λ En parts.t-5 (atReturn 𝓤 H En Post)) (atReturn 𝓤 H En Post)))
@@ -493,7 +503,7 @@ module _ {M : Type 1} (𝓤 : URA M) (H : Heap 𝓤) (A : Atoms 𝓤) (W : Given
           -- the table is lent again for μ
           lft-new ! tt (λ μ. move ! (50 ∷ 46 ∷ []) $
           use2 W (later (some (λ (ε : GName). ‵ (MutSlice (named 2) (μ ∷ []) u8 .own (at-list ε (i .t)) (st (i .t) ∷ [])) ⊛ ‵ (LentAgain u8 κ₄ (μ ∷ []) q₄ γ b o ε (i .t))))) (lends-again u8 κ₄ (μ ∷ []) q₄ γ b o 𝓤 H A W (named 3) (named 2) (i .t)) $ await ! tt $ pick ! (λ ε. split ! $
-          rewrite ! 0 (λ (j : ℕ). ‵ (MutSlice (named 2) (μ ∷ []) u8 .own (at-list ε (i .t)) (sliceVal (b, o) j ∷ []))) (i .stands .running .long) refl $
+          rewrite ! 0 (λ (j : ℕ). ‵ (MutSlice (named 2) (μ ∷ []) u8 .own (at-list ε (i .t)) (sliceVal (b, o) j ∷ []))) (i .long) refl $
           move ! (48 ∷ []) $ use1 W (‵ Own-words ⊛ ‵ Own-words) (shr-slice-copy 𝓤 H A W (named 0) κ₁ u32 .twice words (sw ∷ [])) $ split ! $
           move ! (7 ∷ 47 ∷ 4 ∷ 5 ∷ 0 ∷ 2 ∷ []) $ nothing ! $ move ! (3 ∷ 0 ∷ []) $ join ! $ move ! (2 ∷ 0 ∷ []) $ join ! $ move ! (1 ∷ 0 ∷ []) $ join ! $
           nothing ! $ move ! (4 ∷ 0 ∷ []) $ fjoin ! $ owned ! u32 (Is u32) (uint-makes 𝓤 H A W w32) (i .place .entered) _ (refl, entered-fits (i .place) (i .is-place)) $ fjoin ! $ move ! (3 ∷ 0 ∷ []) $ fjoin ! $ move ! (2 ∷ 0 ∷ []) $ fjoin ! $ owned ! u32 (Is u32) (uint-makes 𝓤 H A W w32) vars _ (refl, vars-fits) $ fjoin ! $ move ! (1 ∷ 0 ∷ []) $
@@ -505,7 +515,7 @@ module _ {M : Type 1} (𝓤 : URA M) (H : Heap 𝓤) (A : Atoms 𝓤) (W : Given
           split ! $ move ! (1 ∷ []) $ heard ! (Said i (zs .1 .0) (zs .1 .1 .1 .1 .0)) (λ e. fsplit ! $ drop ! $ fsplit ! $ move ! (1 ∷ []) $ fsplit ! $ drop ! $ fsplit ! $ drop ! $ fsplit ! $ fsplit ! $ move ! (1 ∷ []) $ feqL ! (λ len.
           move ! (3 ∷ []) $ split ! $ move ! (1 ∷ []) $ facts ! unit (Is unit) (shows 𝓤 H A unit) z (u₀ ∷ []) (λ is.
           split ! $ move ! (1 ∷ []) $ split ! $ move ! (1 ∷ []) $ split ! $ lft-end ! tt $ move ! (0 ∷ 8 ∷ 4 ∷ []) $
-          use3 W (later (‵ (MutSlice (named 3) κ₄ u8 .own (at-list γ (zs .1 .1 .1 .1 .0)) (st (i .t) ∷ [])) ⊛ ‵ (flft κ₄ q₄))) (comes-back u8 κ₄ (μ ∷ []) q₄ γ b o 𝓤 H A W (named 3) (named 2) (i .t) ε (zs .1 .1 .1 .1 .0) (subst (Room u8) (sym (i .stands .running .long)) room-t) len) $ await ! tt $ split ! $
+          use3 W (later (‵ (MutSlice (named 3) κ₄ u8 .own (at-list γ (zs .1 .1 .1 .1 .0)) (st (i .t) ∷ [])) ⊛ ‵ (flft κ₄ q₄))) (comes-back u8 κ₄ (μ ∷ []) q₄ γ b o 𝓤 H A W (named 3) (named 2) (i .t) ε (zs .1 .1 .1 .1 .0) (subst (Room u8) (sym (i .long)) room-t) len) $ await ! tt $ split ! $
           move ! (4 ∷ []) $ lft-end ! tt $ move ! (0 ∷ 8 ∷ 6 ∷ []) $ use3 W (later (‵ (mem N.the-row .lies (zs .1 .0) l₇ 0))) (ref-back 𝓤 H A W N.the-row (ν ∷ []) δ (zs .1 .0) l₇ 0) $ await ! tt $
           use1 W (some (λ (u : Val). ‵ (fat fullShare machine l₇ 0 u) ⊛ ‵ (N.the-row .own (zs .1 .0) (u ∷ [])))) (part-out 𝓤 H A W N.the-row refl fullShare (zs .1 .0) l₇ 0) $ pick ! (λ u. split ! $
           move ! (1 ∷ []) $ facts ! N.the-row (Is N.the-row) (shows 𝓤 H A N.the-row) (zs .1 .0) (u ∷ []) (λ is′.
@@ -525,7 +535,7 @@ module _ {M : Type 1} (𝓤 : URA M) (H : Heap 𝓤) (A : Atoms 𝓤) (W : Given
           land-last ! (from ! (stop !)) (store ! 31 refl (typed-place s u₁ is₁)) $ rewrite ! 31 (λ (y : Val). ‵ (fat fullShare place-ty l₈ 0 y)) (spelled-place s u₁ is₁) refl $
           forget ! 11 refl $ forget ! 13 refl $ forget ! 15 refl $ forget ! 21 refl $ forget ! 23 refl $
           keep ! (9 ∷ 10 ∷ 11 ∷ 12 ∷ 13 ∷ 14 ∷ 15 ∷ 16 ∷ 17 ∷ 18 ∷ 19 ∷ 20 ∷ 21 ∷ 22 ∷ 23 ∷ 24 ∷ 25 ∷ 26 ∷ 27 ∷ 28 ∷ 29 ∷ 30 ∷ 31 ∷ 32 ∷ 2 ∷ 33 ∷ 34 ∷ 35 ∷ 36 ∷ 37 ∷ 38 ∷ 39 ∷ 40 ∷ 41 ∷ 42 ∷ 43 ∷ 44 ∷ 45 ∷ 46 ∷ 47 ∷ 6 ∷ 0 ∷ 48 ∷ 4 ∷ 8 ∷ 1 ∷ 49 ∷ 3 ∷ []) $
-          again ! Nearer At i (after i yes (zs .1 .0) n (zs .1 .1 .1 .1 .0) count e len s f (good (zs .1 .0) u is′) (good-place s u₁ is₁)) (standing-less vars ws os ns ts w (i .n) (i .t) (i .m) (i .place) (i .stands) (on (On i) yes) (zs .1 .0) (zs .1 .1 .1 .1 .0) e)))))))))))))))))
+          again ! Nearer At i (after i yes (zs .1 .0) n (zs .1 .1 .1 .1 .0) count e len s f (good (zs .1 .0) u is′) (good-place s u₁ is₁)) (standing-less ws os ns begun w (i .n) (left (i .t)) (i .m) (i .place) (i .stands) (on (On i) yes) (zs .1 .0) (left (zs .1 .1 .1 .1 .0)) e)))))))))))))))))
 
       -- a turn after its test: `count_entry`, and the rest
       counts-and-goes-on : (i : Upto) → Holds (On i) → ent 𝓤 (⋆ 𝓤 H A (At i)) (Wp 𝓤 H C Λ En more (Turned i))
@@ -572,7 +582,7 @@ module _ {M : Type 1} (𝓤 : URA M) (H : Heap 𝓤) (A : Atoms 𝓤) (W : Given
 
     begin : Is N.the-row firstMachine (N′.lowered firstMachine ∷ []) → Is P.the-row (firstPlace os) (P′.lowered (firstPlace os) ∷ []) → Upto
     unfolding firstPlace
-    begin is is′ = record { m = firstMachine; place = firstPlace os; n = ns; t = ts; is = is; is-place = is′; stands = standing-first vars ws os ns ts w (firstPlace os) even zeros refl refl refl }
+    begin is is′ = record { m = firstMachine; place = firstPlace os; n = ns; t = ts; is = is; is-place = is′; stands = standing-first ws os ns (left ts) w (firstPlace os) even zeros refl refl refl; long = refl }
 
   module _ (𝓣 : Tables 𝓤 H)
       (known-first-machine : Triple 𝓤 (𝓣 .C #list-machine·first-machine) (FirstMachine 𝓤 H A at-mem run)) (known-first-place : Triple 𝓤 (𝓣 .C #list-machine·first-place) (FirstPlace 𝓤 H A at-mem run)) (known-runs-on : Triple 𝓤 (𝓣 .C #list-machine·runs-on) (RunsOn 𝓤 H A at-mem run)) (known-count : Triple 𝓤 (𝓣 .C #list-machine·count-entry) (CountEntry 𝓤 H A at-mem run))

@@ -40,6 +40,7 @@ use denote.Triple.Clauses.{ensured, lasts}
 use denote.Triple.Table.{entered, cited}
 use denote.Triple.Walked.{says, needs, Stays, stay-ref, stay-none-slice, stay-none, gave-slice, walkOf, goes-ref, goes-none-slice, goes-none, goes-gave-slice, Walks, ends-at, walked, walk-meets}
 use denote.Exit.{yes}
+use Rattle.table.specs.State.{stateWith}
 use Rattle.list_machine.specs.Parts.{Stepped}
 use Rattle.list_machine.specs.declared.Machine.{Machine}
 use Rattle.list_machine.proofs.Machine as T
@@ -107,7 +108,7 @@ module _ {M : Type 1} (𝓤 : URA M) (H : Heap 𝓤) (A : Atoms 𝓤) (W : Given
   goes g asked = qed W (tokens ∷ ‵ Own-words ∷ ‵ (fsep Own-table ftrue) ∷ []) ∵ says ! asked $ frame ! $ move ! (1 ∷ 0 ∷ []) $ owned ! u32 (Is u32) (uint-makes 𝓤 H A W w32) n _ (refl, n-fits) $ fjoin ! $ move ! (1 ∷ 0 ∷ []) $ fjoin ! $ owned ! T.the-row (Is T.the-row) (LL.makes T.the-type T′.the-plain 𝓤 H A) h _ g $ fjoin ! $ owned ! u32 (Is u32) (uint-makes 𝓤 H A W w32) vars _ (refl, vars-fits) $ fjoin ! $ done !
 
   abbrev Said : Machine → List ℕ → Type 0
-  Said r zs = Stepped vars (getD (words .now) (h .index) 0) n h (table .now) r zs
+  Said r zs = Stepped (getD (words .now) (h .index) 0) n h (stateWith vars (table .now)) r (stateWith vars zs)
 
   exits : (r : Machine) (zs : List ℕ) → Said r zs → length zs ≡ length (table .now)
       → ent 𝓤 (⋆ 𝓤 H A (‵ (fobs γ (T.the-row .coded .code r)) ∷ ‵ (fbor κ₀ (Body (mem T.the-row) b o γ)) ∷ ‵ (flft κ₀ q₀) ∷ tokens ∷ ‵ (finally u8 (table .name) zs) ∷ ‵ Own-words ∷ [])) (Post vunit)

@@ -1,4 +1,5 @@
 -- `list_machine::stepped` meets its contract: what the instruction does, and the counts. Assumes nothing.
+use mathlib.Core.Path.{refl}
 use Rattle.list_machine.proofs.Steps.{stepped}
 use borrow.Author.Needs.{needs}
 use Rattle.list_machine.proofs.stepped.Statement.{statement}
@@ -26,7 +27,7 @@ same-length : tie.Need-same-length
 same-length c = search needs
 
 returns : tie.Need-returns
-returns c = stepped _ _ _ _ _ _ _ (c .before .before .before .before .carry-out .ensures)
+returns c = stepped _ _ _ _ _ _ refl (c .before .before .before .before .carry-out .ensures)
 
 pub stepped-spec : {M : Type 1} → statement M
 stepped-spec =

@@ -12,7 +12,7 @@ use lib.ListN.{length, getD, getElem?, length-map}
 use borrow.Author.Tests.{ltb-true, leb-true, leb-false, eqb-true, eqb-false}
 use Rattle.questions.specs.Tests.{bit, all}
 use Rattle.questions.specs.Laws.Tests.{all-head, all-tail, bit-few}
-use Rattle.table.specs.State.{stateWith, stateOf}
+use Rattle.table.specs.State.{State}
 use Rattle.rungs.specs.Records.{RungRecord, offsets, isStart, enter, noneEntered}
 use Rattle.list_definitions.specs.Instruction.{Instr, instrWord, instrFits, decodeInstr, decodeCode}
 use Rattle.list_definitions.specs.Machine.{InstructionList, fresh, begin, halted, scanMachine, scanList}
@@ -91,25 +91,24 @@ count-here : (rs : List RungRecord) (os : List ℕ) (i next : ℕ) (ts : List �
     → counted ts next (startsHere os next i) ≡ enter rs i ts
 count-here rs os i next ts o a q many = rw (q, ← o) (entered-here 0 rs i ts (rw o a) many)
 
--- ---- the loop's invariant: with the times entered and the table, `b` and `t` at the start, `ts` and `u` now
+-- ---- the loop's invariant: with the times entered and the state, `b` and `s` at the start, `ts` and `u` now
 
-pub record Running (vars : ℕ) (ws os b t : List ℕ) (w : ℕ) (ts u : List ℕ) (m : MachineStruct) (next : ℕ) : Type 0 where
+pub record Running (ws os b : List ℕ) (s : State) (w : ℕ) (ts : List ℕ) (u : ℕ → State) (m : MachineStruct) (next : ℕ) : Type 0 where
   pub same : (l : InstructionList) → decodeCode ws ≡ some (l .code) → offsets (l .records) ≡ os → ascending 0 os
-      → scanMachine l (w - m .counts .instructions) (machineOf m ts) (stateWith vars u (m .counts .moved)) ≡ scanList l w (stateOf vars t)
+      → scanMachine l (w - m .counts .instructions) (machineOf m ts) (u (m .counts .moved)) ≡ scanList l w s
   pub next-is : ascending 0 os → next ≡ before os (m .index)
   pub next-within : next ≤ length os
   pub carried : m .counts .instructions ≤ w
   pub few-rungs : m .counts .rungs ≤ m .counts .instructions
   pub few-moved : m .counts .moved ≤ m .counts .instructions
   pub few-times : FewTimes ts (m .counts .instructions)
-  pub long : length u ≡ length t
   pub many : length ts ≡ length b
   pub even : length b ≡ length os
 
-pub running-first : (vars : ℕ) (ws os b t : List ℕ) (w : ℕ) → length b ≡ length os → b ≡ noneEntered (length b)
-    → Running vars ws os b t w b t firstMachine 0
+pub running-first : (ws os b : List ℕ) (at : ℕ → State) (w : ℕ) → length b ≡ length os → b ≡ noneEntered (length b)
+    → Running ws os b (at 0) w b at firstMachine 0
 unfolding scanList begin fresh machineOf machineCounts firstMachine
-running-first vars ws os b t w e zeros = record {
+running-first ws os b at w e zeros = record {
   same = λ l d o a.
       let n = many-records (l .records) os b o e in
       let z : b ≡ noneEntered (length (l .records)) = zeros ∙ ap (λ k. noneEntered k) n in
@@ -120,35 +119,35 @@ running-first vars ws os b t w e zeros = record {
   few-rungs = omega arith;
   few-moved = omega arith;
   few-times = rw zeros (few-zeros (length b));
-  long = refl;
   many = refl;
   even = e;
 }
 
-module _ (vars : ℕ) (ws os b t : List ℕ) (w : ℕ) (ts u : List ℕ) (m : MachineStruct) (next : ℕ) (r : Running vars ws os b t w ts u m next) where
-  pub ran-ended : length ws ≤ m .index → Ran vars ws os b t w (EndedCase (m .counts)) ts u
+module _ (ws os b : List ℕ) (s : State) (w : ℕ) (ts : List ℕ) (u : ℕ → State) (m : MachineStruct) (next : ℕ) (r : Running ws os b s w ts u m next) where
+  pub ran-ended : u (m .counts .moved) .moved ≡ m .counts .moved → length ws ≤ m .index → Ran ws os b s w (EndedCase (m .counts)) ts (u (m .counts .moved) .bytes)
   unfolding halted scanEnds countsIn listScannedAnswer machineCounts machineOf
-  ran-ended h = record {
+  ran-ended sum h = record {
     same = λ l d o a.
-        let e = sym (scan-end l (w - m .counts .instructions) (machineOf m ts) (stateWith vars u (m .counts .moved)) (at-end ws (l .code) d (m .index) h)) ∙ r .same l d o a in
-        record { answer = ap (λ x. scanEnds x .answer) e; same-table = ap (λ x. scanEnds x .table) e; same-times = ap (λ x. scanEnds x .times b) e };
+        let e = sym (scan-end l (w - m .counts .instructions) (machineOf m ts) (u (m .counts .moved)) (at-end ws (l .code) d (m .index) h)) ∙ r .same l d o a in
+        record { answer = rw sum at (ap (λ x. scanEnds x .answer) e); same-table = ap (λ x. scanEnds x .table) e; same-times = ap (λ x. scanEnds x .times b) e };
   }
 
-  pub ran-stopped : m .index < length ws → m .counts .instructions ≡ w → Ran vars ws os b t w (StoppedCase (m .counts)) ts u
+  pub ran-stopped : u (m .counts .moved) .moved ≡ m .counts .moved → m .index < length ws → m .counts .instructions ≡ w
+      → Ran ws os b s w (StoppedCase (m .counts)) ts (u (m .counts .moved) .bytes)
   unfolding halted scanEnds countsIn listScannedAnswer machineCounts machineOf
-  ran-stopped h z = record {
+  ran-stopped sum h z = record {
     same = λ l d o a.
         let k = word-at ws (l .code) d (m .index) h in
         let n : w - m .counts .instructions ≡ 0 = omega arith in
-        let stop = scan-stop l (machineOf m ts) (stateWith vars u (m .counts .moved)) (k .instr) (k .stands) in
+        let stop = scan-stop l (machineOf m ts) (u (m .counts .moved)) (k .instr) (k .stands) in
         let e = sym stop ∙ (rw n at (r .same l d o a)) in
-        record { answer = ap (λ x. scanEnds x .answer) e; same-table = ap (λ x. scanEnds x .table) e; same-times = ap (λ x. scanEnds x .times b) e };
+        record { answer = rw sum at (ap (λ x. scanEnds x .answer) e); same-table = ap (λ x. scanEnds x .table) e; same-times = ap (λ x. scanEnds x .times b) e };
   }
 
-  module _ (h : m .index < length ws) (z : m .counts .instructions ≡ w → ⊥) (m′ : MachineStruct) (ts′ u′ : List ℕ) (len : length u′ ≡ length u)
-      (entered : ℕ) (es : entered ≡ startsHere os next (m .index)) (counts : ts′ ≡ counted ts next entered) (did : Stepped vars (getD ws (m .index) 0) entered m u m′ u′) where
+  module _ (h : m .index < length ws) (z : m .counts .instructions ≡ w → ⊥) (m′ : MachineStruct) (ts′ : List ℕ) (u′ : ℕ → State)
+      (entered : ℕ) (es : entered ≡ startsHere os next (m .index)) (counts : ts′ ≡ counted ts next entered) (did : Stepped (getD ws (m .index) 0) entered m u m′ u′) where
     same-after : (l : InstructionList) → decodeCode ws ≡ some (l .code) → offsets (l .records) ≡ os → ascending 0 os
-        → scanMachine l (w - m′ .counts .instructions) (machineOf m′ ts′) (stateWith vars u′ (m′ .counts .moved)) ≡ scanList l w (stateOf vars t)
+        → scanMachine l (w - m′ .counts .instructions) (machineOf m′ ts′) (u′ (m′ .counts .moved)) ≡ scanList l w s
     unfolding machineOf
     same-after l d o a =
         let k = word-at ws (l .code) d (m .index) h in
@@ -157,10 +156,10 @@ module _ (vars : ℕ) (ws os b t : List ℕ) (w : ℕ) (ts u : List ℕ) (m : Ma
         let n : w - m .counts .instructions ≡ suc (w - m′ .counts .instructions) = omega arith in
         let times : ts′ ≡ enter (l .records) (m .index) ts = counts ∙ rw es (count-here (l .records) os (m .index) next ts o a (r .next-is a) (many-records (l .records) os ts o (r .many ∙ r .even))) in
         let st = did .same (k .instr) (k .decodes) (l .records) (es ∙ start-here (l .records) os (m .index) next o a (r .next-is a)) ts in
-        let go = scan-step l (w - m′ .counts .instructions) (machineOf m ts) (stateWith vars u (m .counts .moved)) (k .instr) (k .stands) in
+        let go = scan-step l (w - m′ .counts .instructions) (machineOf m ts) (u (m .counts .moved)) (k .instr) (k .stands) in
         rw times (sym (rw st at go) ∙ (rw n at (r .same l d o a)))
 
-    next-after : (next′ : ℕ) → next′ ≤ length os → (ascending 0 os → next′ ≡ before os (m′ .index)) → Running vars ws os b t w ts′ u′ m′ next′
+    next-after : (next′ : ℕ) → next′ ≤ length os → (ascending 0 os → next′ ≡ before os (m′ .index)) → Running ws os b s w ts′ u′ m′ next′
     next-after next′ within nx =
         let c = did .carried in let g = did .rungs in let f = r .few-rungs in let moves = did .moved in let few = r .few-moved in let q = r .carried in let k = starts-few os next (m .index) in
         record {
@@ -171,16 +170,15 @@ module _ (vars : ℕ) (ws os b t : List ℕ) (w : ℕ) (ts u : List ℕ) (m : Ma
           few-rungs = omega arith;
           few-moved = omega arith;
           few-times = rw (counts, c) (few-counted ts (m .counts .instructions) next entered (r .few-times) (omega arith));
-          long = len ∙ r .long;
           many = rw counts (counted-length ts next entered) ∙ r .many;
           even = r .even;
         }
 
-    pub run-straight : m′ .index ≡ m .index + 1 → Running vars ws os b t w ts′ u′ m′ (next + entered)
+    pub run-straight : m′ .index ≡ m .index + 1 → Running ws os b s w ts′ u′ m′ (next + entered)
     run-straight j = next-after (next + entered) (rw es (starts-within os next (m .index) (r .next-within)))
         (λ a. rw (j, es, next-straight os (m .index) a, r .next-is a) refl)
 
-    pub run-jump : (found : ℕ) → Sought os (m′ .index) found → Running vars ws os b t w ts′ u′ m′ found
+    pub run-jump : (found : ℕ) → Sought os (m′ .index) found → Running ws os b s w ts′ u′ m′ found
     run-jump found k = next-after found (k .within) (k .same)
 
 -- ---- the same over a place
@@ -211,15 +209,15 @@ halts end w m e h = go (leb end (m .index)) (eqb (m .counts .instructions) w) re
     go false true p q k = eqb-true _ _ q
     go false false p q k = cc
 
-pub record Standing (vars : ℕ) (ws os b t : List ℕ) (w : ℕ) (ts u : List ℕ) (m : MachineStruct) (place : Place) : Type 0 where
-  pub running : Running vars ws os b t w ts u m (place .next)
+pub record Standing (ws os b : List ℕ) (s : State) (w : ℕ) (ts : List ℕ) (u : ℕ → State) (m : MachineStruct) (place : Place) : Type 0 where
+  pub running : Running ws os b s w ts u m (place .next)
   pub same-index : place .index ≡ m .index
   pub starts : place .entered ≡ startsHere os (place .next) (m .index)
 
-pub standing-first : (vars : ℕ) (ws os b t : List ℕ) (w : ℕ) (place : Place) → length b ≡ length os → b ≡ noneEntered (length b) → place .index ≡ 0 → place .next ≡ 0 → place .entered ≡ startsHere os 0 0
-    → Standing vars ws os b t w b t firstMachine place
+pub standing-first : (ws os b : List ℕ) (at : ℕ → State) (w : ℕ) (place : Place) → length b ≡ length os → b ≡ noneEntered (length b) → place .index ≡ 0 → place .next ≡ 0 → place .entered ≡ startsHere os 0 0
+    → Standing ws os b (at 0) w b at firstMachine place
 unfolding firstMachine
-standing-first vars ws os b t w place even zeros i n e = record { running = rw n (running-first vars ws os b t w even zeros); same-index = i; starts = rw n e }
+standing-first ws os b at w place even zeros i n e = record { running = rw n (running-first ws os b at w even zeros); same-index = i; starts = rw n e }
 
 -- what one more instruction asks for
 pub record StandingNeeds (ws os ts : List ℕ) (m : MachineStruct) (place : Place) : Type 0 where
@@ -232,7 +230,7 @@ pub record StandingNeeds (ws os ts : List ℕ) (m : MachineStruct) (place : Plac
   pub same-index : place .index ≡ m .index
   pub next-within : place .next + place .entered ≤ length os
 
-module _ (vars : ℕ) (ws os b t : List ℕ) (w : ℕ) (ts u : List ℕ) (m : MachineStruct) (place : Place) (standing : Standing vars ws os b t w ts u m place) where
+module _ (ws os b : List ℕ) (s : State) (w : ℕ) (ts : List ℕ) (u : ℕ → State) (m : MachineStruct) (place : Place) (standing : Standing ws os b s w ts u m place) where
   pub standing-needs : w < 2 ^ 32 → runsOn (length ws) w m ≡ true → StandingNeeds ws os ts m place
   standing-needs fits on =
       let r = standing .running in
@@ -258,10 +256,9 @@ module _ (vars : ℕ) (ws os b t : List ℕ) (w : ℕ) (ts u : List ℕ) (m : Ma
         next-within = omega arith;
       }
 
-  pub standing-next : runsOn (length ws) w m ≡ true → (m′ : MachineStruct) (ts′ u′ : List ℕ) → ts′ ≡ counted ts (place .next) (place .entered)
-      → Stepped vars (getD ws (m .index) 0) (place .entered) m u m′ u′ → length u′ ≡ length u
-      → (place′ : Place) → Followed os place (m′ .index) place′ → Standing vars ws os b t w ts′ u′ m′ place′
-  standing-next on m′ ts′ u′ c s len place′ f = record {
+  pub standing-next : runsOn (length ws) w m ≡ true → (m′ : MachineStruct) (ts′ : List ℕ) (u′ : ℕ → State) → ts′ ≡ counted ts (place .next) (place .entered)
+      → Stepped (getD ws (m .index) 0) (place .entered) m u m′ u′ → (place′ : Place) → Followed os place (m′ .index) place′ → Standing ws os b s w ts′ u′ m′ place′
+  standing-next on m′ ts′ u′ c did place′ f = record {
     running = go (ℕ-discrete (m′ .index) (place .index + 1));
     same-index = f .here;
     starts = f .starts;
@@ -270,33 +267,34 @@ module _ (vars : ℕ) (ws os b t : List ℕ) (w : ℕ) (ts u : List ℕ) (m : Ma
       o : RunsOn (length ws) w m
       o = runs-on (length ws) w m on
 
-      go : Dec (m′ .index ≡ place .index + 1) → Running vars ws os b t w ts′ u′ m′ (place′ .next)
+      go : Dec (m′ .index ≡ place .index + 1) → Running ws os b s w ts′ u′ m′ (place′ .next)
       go (yes q) = rw (f .straight q)
-          (run-straight vars ws os b t w ts u m (place .next) (standing .running) (o .inside) (o .left) m′ ts′ u′ len (place .entered) (standing .starts) c s (q ∙ ap (λ i. i + 1) (standing .same-index)))
-      go (no n) = run-jump vars ws os b t w ts u m (place .next) (standing .running) (o .inside) (o .left) m′ ts′ u′ len (place .entered) (standing .starts) c s (place′ .next) (f .found n)
+          (run-straight ws os b s w ts u m (place .next) (standing .running) (o .inside) (o .left) m′ ts′ u′ (place .entered) (standing .starts) c did (q ∙ ap (λ i. i + 1) (standing .same-index)))
+      go (no n) = run-jump ws os b s w ts u m (place .next) (standing .running) (o .inside) (o .left) m′ ts′ u′ (place .entered) (standing .starts) c did (place′ .next) (f .found n)
 
-  pub standing-less : runsOn (length ws) w m ≡ true → (m′ : MachineStruct) (u′ : List ℕ) → Stepped vars (getD ws (m .index) 0) (place .entered) m u m′ u′
+  pub standing-less : runsOn (length ws) w m ≡ true → (m′ : MachineStruct) (u′ : ℕ → State) → Stepped (getD ws (m .index) 0) (place .entered) m u m′ u′
       → w - m′ .counts .instructions < w - m .counts .instructions
-  standing-less on m′ u′ s =
+  standing-less on m′ u′ did =
       let z = runs-on (length ws) w m on .left in
-      let c = s .carried in
+      let c = did .carried in
       let carried = standing .running .carried in
       omega arith
 
-  pub standing-ends : runsOn (length ws) w m ≡ false → Ran vars ws os b t w (haltedAt (length ws) m) ts u
+  -- the state has the machine's sum
+  pub standing-ends : u (m .counts .moved) .moved ≡ m .counts .moved → runsOn (length ws) w m ≡ false → Ran ws os b s w (haltedAt (length ws) m) ts (u (m .counts .moved) .bytes)
   unfolding haltedAt
-  standing-ends off = go (leb (length ws) (m .index)) refl
+  standing-ends sum off = go (leb (length ws) (m .index)) refl
     where
-      go : (q : Bool) → leb (length ws) (m .index) ≡ q → Ran vars ws os b t w (haltedAt (length ws) m) ts u
-      go true e = rw (e, haltedAt) (ran-ended vars ws os b t w ts u m (place .next) (standing .running) (leb-true _ _ e))
+      go : (q : Bool) → leb (length ws) (m .index) ≡ q → Ran ws os b s w (haltedAt (length ws) m) ts (u (m .counts .moved) .bytes)
+      go true e = rw (e, haltedAt) (ran-ended ws os b s w ts u m (place .next) (standing .running) sum (leb-true _ _ e))
       go false e = rw (e, haltedAt)
-          (ran-stopped vars ws os b t w ts u m (place .next) (standing .running) (leb-false _ _ e) (halts (length ws) w m off (leb-false _ _ e)))
+          (ran-stopped ws os b s w ts u m (place .next) (standing .running) sum (leb-false _ _ e) (halts (length ws) w m off (leb-false _ _ e)))
 
 -- ---- a scan from zeros, over times entered of which any value is taken
 
-pub ran-over : (vars : ℕ) (ws os before zeros t : List ℕ) (w : ℕ) (r : ListScanned) (after u : List ℕ) → Ran vars ws os zeros t w r after u → Ran vars ws os before t w r after u
+pub ran-over : (ws os before zeros : List ℕ) (s : State) (w : ℕ) (r : ListScanned) (after u : List ℕ) → Ran ws os zeros s w r after u → Ran ws os before s w r after u
 unfolding scanEnds
-ran-over vars ws os before zeros t w r after u ran = record {
+ran-over ws os before zeros s w r after u ran = record {
   same = λ l d o a.
       let done = ran .same l d o a in
       record { answer = done .answer; same-table = done .same-table; same-times = done .same-times };

@@ -6,6 +6,7 @@ use mathlib.Core.List.{List}
 use lib.ListN.{length}
 use Rattle.questions.specs.Questions.{question1}
 use Rattle.questions.specs.Laws.Answers.{ask-passed, first-yes, later-yes}
+use Rattle.table.specs.State.{stateOf}
 use Rattle.rungs.specs.Records.{RungRecord, offsets}
 use Rattle.list_definitions.specs.Questions.{listInRange, question10}
 use Rattle.list_definitions.specs.ListScan.{listOf, scanQuestions, callListScan, ListScanDone}
@@ -21,7 +22,7 @@ module _ (vars : ℕ) (ws : List ℕ) (rs : List RungRecord) (t : List ℕ) (w :
   scan-in-range e = list-in-range vars ws rs (ask-passed 10 (listInRange vars ws rs) (first-yes (question10 vars ws rs) _ (later-yes (question1 vars) _ e)))
 
   pub scan-scans : (before : List ℕ) (r : ListScanned) (after u : List ℕ) → scanQuestions vars ws rs t w ≡ none
-      → Ran vars ws (offsets rs) before t w r after u → ListScanDone (callListScan vars ws rs t w) r u before after
+      → Ran ws (offsets rs) before (stateOf vars t) w r after u → ListScanDone (callListScan vars ws rs t w) r u before after
   unfolding callListScan listOf
   scan-scans before r after u e ran =
       let a = scan-in-range e in
