@@ -182,7 +182,7 @@ module _ (vars : ℕ) (k : Kept) (t : List ℕ) (w : ℕ) where
 
 -- the scan of four number slices that the questions took, as the scan of their row
 pub scan-done : (vars : ℕ) (ws ls os ns ts t : List ℕ) (w : ℕ) (r : LadderScanned) (u : List ℕ) → scanQuestions vars (record { words = ws; records = rowOf ls os ns ts }) t w ≡ none
-    → Scanned vars ws ls os t w r u → LadderScanDone (callLadderScan vars (record { words = ws; records = rowOf ls os ns ts }) t w) r u
+    → Scanned ws ls os (stateOf vars t) w r u → LadderScanDone (callLadderScan vars (record { words = ws; records = rowOf ls os ns ts }) t w) r u
 scan-done vars ws ls os ns ts t w r u ok scanned =
     let k = keptOf ws ls os ns ts in
     let a = scan-taken vars k t w ok in

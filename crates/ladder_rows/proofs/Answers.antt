@@ -12,6 +12,7 @@ use Rattle.questions.specs.Laws.Answers.{verdict-refused, verdict-accepted}
 use Rattle.questions.specs.declared.Refusal.{Refusal}
 use Rattle.questions.specs.declared.Verdict.{Verdict}
 use Rattle.questions.specs.declared.Verdict.the-variants.{Accepted, Refused}
+use Rattle.table.specs.State.{stateOf}
 use Rattle.rungs.specs.Records.{RungRecord, rowOf, fieldsOf, mostRecords}
 use Rattle.rungs.specs.Laws.Rows.{row-fields}
 use Rattle.rows.specs.Parts.{gathered}
@@ -58,7 +59,7 @@ module _ (vars : ℕ) (ws : List ℕ) (rows : Rows) (long : Bool) (t : List ℕ)
   row-ready v rs asked e l = record { fits = λ q. scan-fits vars (record { words = ws; records = rs }) t w (verdict-accepted (asked .same rs e l) q) }
 
   pub row-done : (v : Verdict) (rs : List RungRecord) (r : LadderScanned) (u : List ℕ) → RowAsked vars ws rows long t w v → rows ≡ gathered rs → long ≡ longHolds ws rs
-      → RowScanned v vars ws rs t w r u → LadderScanDone (callLadderScan vars (record { words = ws; records = rs }) t w) r u
+      → RowScanned v ws rs (stateOf vars t) w r u → LadderScanDone (callLadderScan vars (record { words = ws; records = rs }) t w) r u
   row-done v rs r u asked e l scanned = go v refl
     where
       answer : verdictAnswer v ≡ scanQuestions vars (record { words = ws; records = rs }) t w

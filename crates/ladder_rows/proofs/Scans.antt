@@ -10,6 +10,7 @@ use borrow.Author.Tests.{eq-eqb, le-leb, lt-leb, not-false}
 use Rattle.questions.specs.declared.Refusal.{Refusal}
 use Rattle.questions.specs.declared.Verdict.{Verdict}
 use Rattle.questions.specs.declared.Verdict.the-variants.{Accepted, Refused}
+use Rattle.table.specs.State.{State}
 use Rattle.rungs.specs.Records.{RungRecord, labels, offsets, search, lookUp}
 use Rattle.rungs.specs.Parts.{placeOf}
 use Rattle.rungs.specs.Laws.Search.{place-of}
@@ -86,12 +87,12 @@ module _ (v : Verdict) (n w : ℕ) where
   unfolding begun accepts
   begun-accepted e on q = rw (e, q)
 
-module _ (vars : ℕ) (ws : List ℕ) (r : RungRecord) (t : List ℕ) (moved : ℕ) (u : List ℕ) (ran : Ran) (run : RungRun vars ws (r .offset) t moved ran u) where
-  pub entered-onward : (k m : ℕ) → ran ≡ Onward k m → Entered vars ws r t moved (record { jumped = false; label = 0; moved = m }) u
+module _ (ws : List ℕ) (r : RungRecord) (s : State) (u : ℕ → State) (ran : Ran) (run : RungRun ws (r .offset) s ran u) where
+  pub entered-onward : (k m : ℕ) → ran ≡ Onward k m → Entered ws r s (record { jumped = false; label = 0; moved = m }) u
   unfolding wayOf
   entered-onward k m e = record { ran = ran; run = run; way = rw (e, wayOf) }
 
-  pub entered-jumped : (l m : ℕ) → ran ≡ Jumped l m → Entered vars ws r t moved (record { jumped = true; label = l; moved = m }) u
+  pub entered-jumped : (l m : ℕ) → ran ≡ Jumped l m → Entered ws r s (record { jumped = true; label = l; moved = m }) u
   unfolding wayOf
   entered-jumped l m e = record { ran = ran; run = run; way = rw (e, wayOf) }
 
@@ -125,25 +126,28 @@ module _ (v : Verdict) (at : Standing) (n : ℕ) where
 
 -- ---- the loop's invariant
 
-pub record Going (v : Verdict) (vars : ℕ) (ws : List ℕ) (rs : List RungRecord) (t : List ℕ) (w : ℕ) (u : List ℕ) (at : Standing) : Type 0 where
+-- s is the state where the scan begins, here the one where the next rung begins
+pub record Going (v : Verdict) (ws : List ℕ) (rs : List RungRecord) (s : State) (w : ℕ) (here : State) (at : Standing) : Type 0 where
   pub on-is : at .on ≡ (accepts v && goesOn (at .rung) (length rs) (at .entered) w)
   pub within : at .entered ≤ w
-  pub long : length u ≡ length t
-  pub untouched : (x : Refusal) → v ≡ Refused x → u ≡ t
-  pub going : v ≡ Accepted → Scanning vars ws (labels rs) (offsets rs) t w u (at .entered) (at .moved) (at .rung)
+  pub sum : at .moved ≡ here .moved
+  pub long : length (here .bytes) ≡ length (s .bytes)
+  pub untouched : (x : Refusal) → v ≡ Refused x → here ≡ s
+  pub going : v ≡ Accepted → Scanning ws (labels rs) (offsets rs) s w here (at .entered) (at .rung)
 
-module _ (v : Verdict) (vars : ℕ) (ws : List ℕ) (rs : List RungRecord) (t : List ℕ) (w : ℕ) where
-  pub going-first : Going v vars ws rs t w t (begun v (length rs) w)
+module _ (v : Verdict) (ws : List ℕ) (rs : List RungRecord) (s : State) (w : ℕ) where
+  pub going-first : s .moved ≡ 0 → Going v ws rs s w s (begun v (length rs) w)
   unfolding begun
-  going-first = record {
+  going-first z = record {
     on-is = refl;
     within = omega arith;
+    sum = sym z;
     long = refl;
     untouched = λ x e. refl;
-    going = λ e. scanning-first vars ws (labels rs) (offsets rs) t w;
+    going = λ e. scanning-first ws (labels rs) (offsets rs) s w z;
   }
 
-  module _ (u : List ℕ) (at : Standing) (g : Going v vars ws rs t w u at) where
+  module _ (here : State) (at : Standing) (g : Going v ws rs s w here at) where
     module _ (ready : RowReady v ws w) (on : at .on ≡ true) where
       verdict : v ≡ Accepted
       verdict = accepts-taken v (and-left _ _ (sym (g .on-is) ∙ on))
@@ -169,20 +173,22 @@ module _ (v : Verdict) (vars : ℕ) (ws : List ℕ) (rs : List RungRecord) (t : 
       going-sum =
           let few = g .going verdict .few in
           let fits = ready .fits verdict in
-          omega (arith, few, fits .words, fits .rungs, going-needs .1)
+          omega (arith, g .sum, few, fits .words, fits .rungs, going-needs .1)
 
-      module _ (way : Way) (u′ : List ℕ) (e : Entered vars ws (recordAt rs (at .rung)) u (at .moved) way u′) (rung : ℕ) where
+      module _ (way : Way) (u : ℕ → State) (e : Entered ws (recordAt rs (at .rung)) here way u) (rung : ℕ) where
         pub going-nearer : w - arrived at way rung (length rs) w .entered < w - at .entered
         unfolding arrived
         going-nearer = let n = going-needs .1 in omega arith
 
-        pub going-next : (stays : length u′ ≡ length u) → rung ≡ nextRung (labels rs) way (at .rung) → Going v vars ws rs t w u′ (arrived at way rung (length rs) w)
+        pub going-next : (tells : u (way .moved) .moved ≡ way .moved) (stays : length (u (way .moved) .bytes) ≡ length (here .bytes)) → rung ≡ nextRung (labels rs) way (at .rung)
+            → Going v ws rs s w (u (way .moved)) (arrived at way rung (length rs) w)
         unfolding accepts arrived wayOf nextRung
-        going-next stays f =
+        going-next tells stays f =
             let n = going-needs in
             record {
               on-is = rw (verdict, accepts);
               within = add-within (n .1);
+              sum = sym tells;
               long = stays ∙ g .long;
               untouched = λ x r. absurd (not-both v x verdict r);
               going = λ a. go (e .ran) (e .run) (e .way);
@@ -197,23 +203,23 @@ module _ (v : Verdict) (vars : ℕ) (ws : List ℕ) (rs : List RungRecord) (t : 
             offset : recordAt rs (at .rung) .offset ≡ getD (offsets rs) (at .rung) 0
             offset = sym (List·getD-map (λ (r : RungRecord). r .offset) rs (at .rung) noRecord)
 
-            go : (ran : Ran) → RungRun vars ws (recordAt rs (at .rung) .offset) u (at .moved) ran u′ → way ≡ wayOf ran
-                → Scanning vars ws (labels rs) (offsets rs) t w u′ (at .entered + 1) (way .moved) rung
+            go : (ran : Ran) → RungRun ws (recordAt rs (at .rung) .offset) here ran u → way ≡ wayOf ran
+                → Scanning ws (labels rs) (offsets rs) s w (u (way .moved)) (at .entered + 1) rung
             go (Onward k m) run q =
                 let p : rung ≡ at .rung + 1 = f ∙ ap (λ s. nextRung (labels rs) s (at .rung)) q in
-                let sum : way .moved ≡ m = ap (λ s. s .moved) q in
-                rw (p, sum) (scan-onward vars ws (labels rs) (offsets rs) t w u (at .entered) (at .moved) (at .rung) (g .going verdict) (ready .fits verdict .words) inside (next .before) _ offset
-                (Onward k m) u′ run stays k m refl)
+                let m-is : m ≡ way .moved = sym (ap (λ y. y .moved) q) in
+                rw p (scan-onward ws (labels rs) (offsets rs) s w here (at .entered) (at .rung) (g .going verdict) (ready .fits verdict .words) inside (next .before) _ offset
+                (Onward k m) u run k (way .moved) (ap (Onward k) m-is) tells stays)
             go (Jumped l m) run q =
                 let p : rung ≡ search l (labels rs) = f ∙ ap (λ s. nextRung (labels rs) s (at .rung)) q in
-                let sum : way .moved ≡ m = ap (λ s. s .moved) q in
-                rw sum (scan-jumped vars ws (labels rs) (offsets rs) t w u (at .entered) (at .moved) (at .rung) (g .going verdict) (ready .fits verdict .words) inside (next .before) _ offset
-                (Jumped l m) u′ run stays l m rung refl p)
+                let m-is : m ≡ way .moved = sym (ap (λ y. y .moved) q) in
+                scan-jumped ws (labels rs) (offsets rs) s w here (at .entered) (at .rung) (g .going verdict) (ready .fits verdict .words) inside (next .before) _ offset
+                (Jumped l m) u run l (way .moved) rung (ap (Jumped l) m-is) tells stays p
 
-    pub going-ends : at .on ≡ false → RowScanned v vars ws rs t w (answered v at (length rs)) u
+    pub going-ends : at .on ≡ false → RowScanned v ws rs s w (answered v at (length rs)) (here .bytes)
     unfolding answered accepts goesOn
     going-ends off = record {
-      refused = λ x e. (ap (λ v. answered v at (length rs)) e, g .untouched x e);
+      refused = λ x e. (ap (λ v. answered v at (length rs)) e, ap (λ y. y .bytes) (g .untouched x e));
       scanned = λ e. rw e (go (g .going e) (halts e) (leb (length rs) (at .rung)) refl);
     }
       where
@@ -223,13 +229,13 @@ module _ (v : Verdict) (vars : ℕ) (ws : List ℕ) (rs : List RungRecord) (t : 
         many : length (labels rs) ≡ length rs
         many = length-map rs (λ r. r .label)
 
-        go : Scanning vars ws (labels rs) (offsets rs) t w u (at .entered) (at .moved) (at .rung) → goesOn (at .rung) (length rs) (at .entered) w ≡ false
-            → (b : Bool) → leb (length rs) (at .rung) ≡ b → Scanned vars ws (labels rs) (offsets rs) t w (answered Accepted at (length rs)) u
-        go s h true q =
+        go : Scanning ws (labels rs) (offsets rs) s w here (at .entered) (at .rung) → goesOn (at .rung) (length rs) (at .entered) w ≡ false
+            → (b : Bool) → leb (length rs) (at .rung) ≡ b → Scanned ws (labels rs) (offsets rs) s w (answered Accepted at (length rs)) (here .bytes)
+        go inv h true q =
             let n = many in
             let l = leb→le (length rs) (at .rung) (rw q tt) in
-            rw (q, answered) (scan-ended vars ws (labels rs) (offsets rs) t w u (at .entered) (at .moved) (at .rung) s (omega arith))
-        go s h false q =
+            rw (q, answered, g .sum) (scan-ended ws (labels rs) (offsets rs) s w here (at .entered) (at .rung) inv (omega arith))
+        go inv h false q =
             let n = many in
             let l = nleb→lt (length rs) (at .rung) (rw q tt) in
-            rw (q, answered) (scan-stopped vars ws (labels rs) (offsets rs) t w u (at .entered) (at .moved) (at .rung) s (omega arith) (eqb→eq (at .entered) w (rw (not-false (eqb (at .entered) w) (rw q at h)) tt)))
+            rw (q, answered, g .sum) (scan-stopped ws (labels rs) (offsets rs) s w here (at .entered) (at .rung) inv (omega arith) (eqb→eq (at .entered) w (rw (not-false (eqb (at .entered) w) (rw q at h)) tt)))

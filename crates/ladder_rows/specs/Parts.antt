@@ -11,6 +11,7 @@ use Rattle.questions.specs.Refusals.{refusalOf, verdictAnswer}
 use Rattle.questions.specs.declared.Refusal.{Refusal}
 use Rattle.questions.specs.declared.Verdict.{Verdict}
 use Rattle.questions.specs.declared.Verdict.the-variants.{Accepted, Refused}
+use Rattle.table.specs.State.{State}
 use Rattle.rungs.specs.Records.{RungRecord, labels, offsets, mostRecords, search}
 use Rattle.rows.specs.Parts.{gathered}
 use Rattle.rows.specs.declared.Rows.{Rows}
@@ -75,10 +76,11 @@ unfoldable pub wayOf : Ran → Way
 wayOf (Onward k m) = record { jumped = false; label = 0; moved = m }
 wayOf (Jumped l m) = record { jumped = true; label = l; moved = m }
 
-pub record Entered (vars : ℕ) (ws : List ℕ) (r : RungRecord) (t : List ℕ) (moved : ℕ) (s : Way) (u : List ℕ) : Type 0 where
+-- a record's rung, run in the state s. u is the state that was left, by how many times variables have been turned over
+pub record Entered (ws : List ℕ) (r : RungRecord) (s : State) (led : Way) (u : ℕ → State) : Type 0 where
   pub ran : Ran
-  pub run : RungRun vars ws (r .offset) t moved ran u
-  pub way : s ≡ wayOf ran
+  pub run : RungRun ws (r .offset) s ran u
+  pub way : led ≡ wayOf ran
 
 -- the rung that comes next in a row with these labels
 unfoldable pub nextRung : List ℕ → Way → ℕ → ℕ
@@ -98,6 +100,7 @@ answered Accepted at n = elim (leb n (at .rung)) [
 pub record RowReady (v : Verdict) (ws : List ℕ) (w : ℕ) : Type 0 where
   pub fits : v ≡ Accepted → WithinLimits ws w
 
-pub record RowScanned (v : Verdict) (vars : ℕ) (ws : List ℕ) (rs : List RungRecord) (t : List ℕ) (w : ℕ) (r : LadderScanned) (u : List ℕ) : Type 0 where
-  pub refused : (x : Refusal) → v ≡ Refused x → (r ≡ RefusedScan x) × (u ≡ t)
-  pub scanned : v ≡ Accepted → Scanned vars ws (labels rs) (offsets rs) t w r u
+-- a scan from the state s, which leaves the bytes u
+pub record RowScanned (v : Verdict) (ws : List ℕ) (rs : List RungRecord) (s : State) (w : ℕ) (r : LadderScanned) (u : List ℕ) : Type 0 where
+  pub refused : (x : Refusal) → v ≡ Refused x → (r ≡ RefusedScan x) × (u ≡ s .bytes)
+  pub scanned : v ≡ Accepted → Scanned ws (labels rs) (offsets rs) s w r u

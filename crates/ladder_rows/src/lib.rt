@@ -3,6 +3,7 @@
 ghost use mathlib.Core.Path.{_≡_};
 ghost use lib.ListN.{length};
 ghost use Prim.Native.Nat.{_+_, _≤_, _<_, _^_};
+ghost use Rattle.table.specs.State.{stateWith, stateOf};
 ghost use Rattle.rungs.specs.Records.{labels};
 ghost use Rattle.rows.specs.Rows.{recordOf, recordsOf};
 ghost use Rattle.ladder_definitions.specs.LadderScan.{callLadderScan, LadderScanDone};
@@ -179,7 +180,8 @@ fn goes_on(rung: usize, n: usize, entered: u32, watchdog: u32) -> bool
 // A rung is run, and leads on.
 fn enter(vars: u32, words: &[u32], r: Rung, table: &mut [u8], moved: u32) -> Way
     requires { ⌜ moved + length (now words) < 2 ^ 32 ⌝ }
-    ensures { λ s. ⌜ Entered vars (now (words .entry)) (recordOf r) (now (table .entry)) moved s (now (table .exit)) ⌝ }
+    ensures { λ s. ⌜ Entered (now (words .entry)) (recordOf r) (stateWith vars (now (table .entry)) moved)
+        s (stateWith vars (now (table .exit))) ⌝ }
 {
     match ladder_walk::run_rung(vars, words, r.offset as usize, table, moved) {
         Ran::Onward {
@@ -253,8 +255,8 @@ fn run(
     watchdog: u32,
 ) -> LadderScanned
     requires { ⌜ RowReady verdict (now words) watchdog ⌝ }
-    ensures { λ r. ⌜ RowScanned verdict vars (now (words .entry)) (recordsOf (now (row .entry))) (now (table .entry)) watchdog
-        r (now (table .exit)) ⌝ }
+    ensures { λ r. ⌜ RowScanned verdict (now (words .entry)) (recordsOf (now (row .entry)))
+        (stateOf vars (now (table .entry))) watchdog r (now (table .exit)) ⌝ }
 {
     let mut at = begin(verdict, row.len(), watchdog);
     while at.on {

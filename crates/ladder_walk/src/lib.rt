@@ -2,6 +2,7 @@
 // Words that hold no tree are passed over from the first that has no place there.
 ghost use Prim.Native.Nat.{_+_, _-_, _<_, _^_};
 ghost use lib.ListN.{length};
+ghost use Rattle.table.specs.State.{stateWith};
 ghost use Rattle.ladder_walk.specs.Walking.{ContactWorked, PartsJoined, RootsPassed, FrontWorked, OutputRun, RearRun, RungRun};
 use ladder_kinds::KindSort;
 
@@ -96,7 +97,7 @@ fn front_at(words: &[u32], from: usize, table: &[u8]) -> Worked
 // The output of a word, with a power: on to the position after the word, or away by a jump to a label.
 fn run_output(vars: u32, word: u32, next: usize, power: bool, table: &mut [u8], moved: u32) -> Ran
     requires { ⌜ moved + 1 < 2 ^ 32 ⌝ }
-    ensures { λ r. ⌜ OutputRun vars word next power (now (table .entry)) moved r (now (table .exit)) ⌝ }
+    ensures { λ r. ⌜ OutputRun word next power (stateWith vars (now (table .entry)) moved) r (stateWith vars (now (table .exit))) ⌝ }
 {
     let operand = word % rungs::OPERANDS;
     match word / rungs::OPERANDS {
@@ -143,7 +144,8 @@ fn run_output(vars: u32, word: u32, next: usize, power: bool, table: &mut [u8], 
 // The rear whose words begin at a position, with a power. Each output has a word of its own: the sum grows by the words left, at most.
 fn rear_at(vars: u32, words: &[u32], at: usize, power: bool, table: &mut [u8], moved: u32) -> Ran
     requires { ⌜ moved + (length (now words) - at) < 2 ^ 32 ⌝ }
-    ensures { λ r. ⌜ RearRun vars (now (words .entry)) at power (now (table .entry)) moved r (now (table .exit)) ⌝ }
+    ensures { λ r. ⌜ RearRun (now (words .entry)) at power (stateWith vars (now (table .entry)) moved)
+        r (stateWith vars (now (table .exit))) ⌝ }
 {
     let word = rungs::word_at(words, at);
     match ladder_kinds::sort_of(word / rungs::OPERANDS) {
@@ -166,7 +168,8 @@ fn rear_at(vars: u32, words: &[u32], at: usize, power: bool, table: &mut [u8], m
 // The rung whose words begin at a position.
 pub fn run_rung(vars: u32, words: &[u32], at: usize, table: &mut [u8], moved: u32) -> Ran
     requires { ⌜ moved + (length (now words) - at) < 2 ^ 32 ⌝ }
-    ensures { λ r. ⌜ RungRun vars (now (words .entry)) at (now (table .entry)) moved r (now (table .exit)) ⌝ }
+    ensures { λ r. ⌜ RungRun (now (words .entry)) at (stateWith vars (now (table .entry)) moved)
+        r (stateWith vars (now (table .exit))) ⌝ }
 {
     let front = front_at(words, at, table);
     rear_at(vars, words, front.next, front.value, table, moved)

@@ -1,4 +1,5 @@
 // One scan of a ladder: document 01, "What a ladder does".
+ghost use Rattle.table.specs.State.{stateOf};
 ghost use Rattle.ladder_walk.specs.Scanned.{WithinLimits, Scanned};
 use crate::Ran;
 use ladder_definitions::Counts;
@@ -14,8 +15,8 @@ pub fn run(
     watchdog: u32,
 ) -> LadderScanned
     requires { ⌜ WithinLimits (now words) watchdog ⌝ }
-    ensures { λ r. ⌜ Scanned vars (now (words .entry)) (now (labels .entry)) (now (offsets .entry)) (now (table .entry)) watchdog
-        r (now (table .exit)) ⌝ }
+    ensures { λ r. ⌜ Scanned (now (words .entry)) (now (labels .entry)) (now (offsets .entry))
+        (stateOf vars (now (table .entry))) watchdog r (now (table .exit)) ⌝ }
 {
     let mut entered: u32 = 0;
     let mut moved: u32 = 0;

@@ -19,6 +19,10 @@ pub record State : Type 0 where
 abbrev pub stateWith : ℕ → List ℕ → ℕ → State
 stateWith vars bytes moved = record { vars = vars; bytes = bytes; moved = moved }
 
+-- a state with other bytes
+abbrev pub withBytes : State → List ℕ → State
+withBytes s bytes = stateWith (s .vars) bytes (s .moved)
+
 -- a scan begins with nothing turned over
 abbrev pub stateOf : ℕ → List ℕ → State
 stateOf vars bytes = stateWith vars bytes 0

@@ -20,13 +20,13 @@ same-length : tie.Need-same-length
 same-length c = search needs
 
 returns : tie.Need-returns
-returns c = entered-onward _ _ _ _ _ _ _ (c .before .before .before .before .before .run-rung .ensures) _ _ (c .before .sum .given .1)
+returns c = entered-onward _ _ _ _ _ (c .before .before .before .before .before .run-rung .ensures) _ _ (c .before .sum .given .1)
 
 same-length-2 : tie.Need-same-length-2
 same-length-2 c = search needs
 
 returns-2 : tie.Need-returns-2
-returns-2 c = entered-jumped _ _ _ _ _ _ _ (c .before .before .before .before .before .run-rung .ensures) _ _ (c .before .label .given .1)
+returns-2 c = entered-jumped _ _ _ _ _ (c .before .before .before .before .before .run-rung .ensures) _ _ (c .before .label .given .1)
 
 pub enter-spec : {M : Type 1} → statement M
 enter-spec =

@@ -63,6 +63,7 @@ use Rattle.rows.proofs.gather as gather
 use Rattle.rows.proofs.gather.Symbol as gather-def
 use Rattle.rows.proofs.gather.Symbol.{name as #rows·gather}
 use Rattle.rows.proofs.gather.Met as gather-thm
+use Rattle.table.specs.State.{stateOf}
 use Rattle.ladder_rows.specs.Parts.{longHolds, RowAsked, RowReady, RowScanned}
 use Rattle.rungs.proofs.Again.{LentAgain, lends-again, comes-back}
 use Rattle.ladder_rows.proofs.Answers.{row-ready, row-done}
@@ -252,6 +253,9 @@ module _ {M : Type 1} (𝓤 : URA M) (H : Heap 𝓤) (A : Atoms 𝓤) (W : Given
   abbrev Asked : Verdict → List ℕ → Type 0
   Asked d zs = RowAsked vars (words .now) G long ts watchdog d × (zs ≡ ts)
 
+  abbrev Ran : Verdict → LadderScanned → List ℕ → Type 0
+  Ran d r zs = RowScanned d (words .now) rs (stateOf vars ts) watchdog r zs
+
   abbrev run-of : Verdict → Verdict × (ℕ × (RefT (List ℕ) × (RefT (List Rung) × (RefT (List ℕ) × (ℕ × Unit {0})))))
   run-of d = (d, (vars, (words, (row, (named-table γ, (watchdog, tt))))))
 
@@ -298,8 +302,8 @@ module _ {M : Type 1} (𝓤 : URA M) (H : Heap 𝓤) (A : Atoms 𝓤) (W : Given
           calls-at ! fm (Run 𝓤 H A at-mem run) known-run (to-run d v)
           (and-then ! (load ! (from ! (stop !)) (look ! 13 refl)) (and-then ! (load ! (from ! (stop !)) (look ! 25 refl)) (and-then ! (load ! (from ! (stop !)) (look ! 23 refl)) (and-then ! (load ! (from ! (stop !)) (look ! 21 refl)) (and-then ! (load ! (from ! (stop !)) (look ! 3 refl)) (and-then ! (load ! (from ! (stop !)) (look ! 17 refl)) (no-more !))))))) (λ w.
           use1 W (later (some (λ (r : LadderScanned). (tokens ⊛ ‵ (E.the-row .own r (w ∷ []))) ⊛ raw (ensured 𝓤 H A run-fn.ended (run-fn.clauses 𝓤 H A at-mem run) (κ₀, (κ₁, (κ₂, tt))) (run-of d) tt r)))) (id⊢ 𝓤 _) $ await ! tt $ pick ! (λ r.
-          split ! $ move ! (1 ∷ []) $ use1 W (some (λ (zs : Unit {0} × (Unit {0} × (Unit {0} × (Unit {0} × (List ℕ × (Unit {0} × Unit {0})))))). ‵ (lasts run-fn.ended (κ₀, (κ₁, (κ₂, tt))) (run-of d) zs) ⊛ raw (fact 𝓤 (RowScanned d vars (words .now) rs ts watchdog r (zs .1 .1 .1 .1 .0))))) (id⊢ 𝓤 _) $ pick ! (λ zs.
-          split ! $ move ! (1 ∷ []) $ heard ! (RowScanned d vars (words .now) rs ts watchdog r (zs .1 .1 .1 .1 .0)) (λ e. fsplit ! $ drop ! $ fsplit ! $ drop ! $ fsplit ! $ drop ! $ fsplit ! $ drop ! $ fsplit ! $ fsplit ! $ move ! (1 ∷ []) $ feqL ! (λ l.
+          split ! $ move ! (1 ∷ []) $ use1 W (some (λ (zs : Unit {0} × (Unit {0} × (Unit {0} × (Unit {0} × (List ℕ × (Unit {0} × Unit {0})))))). ‵ (lasts run-fn.ended (κ₀, (κ₁, (κ₂, tt))) (run-of d) zs) ⊛ raw (fact 𝓤 (Ran d r (zs .1 .1 .1 .1 .0))))) (id⊢ 𝓤 _) $ pick ! (λ zs.
+          split ! $ move ! (1 ∷ []) $ heard ! (Ran d r (zs .1 .1 .1 .1 .0)) (λ e. fsplit ! $ drop ! $ fsplit ! $ drop ! $ fsplit ! $ drop ! $ fsplit ! $ drop ! $ fsplit ! $ fsplit ! $ move ! (1 ∷ []) $ feqL ! (λ l.
           move ! (1 ∷ []) $ drop ! $ move ! (1 ∷ []) $ split ! $ move ! (1 ∷ []) $ peeks ! E.the-row (Is E.the-row) (shows 𝓤 H A E.the-row) r (w ∷ []) (λ is′.
           -- [the result; the tokens; the last list; the row; the words; _12; …; _11; …; room for _10; …; room for _9; …; room for _8; …; _7; …; room for _6; …; _5; …; _4; …; _3; …; _2; …; _1; …; room for _0; …]
           land ! (from ! (stop !)) (init ! 29 refl (typed-scanned r w is′)) $

@@ -50,6 +50,7 @@ use denote.Exit.{yes}
 use Rattle.questions.specs.declared.Verdict.{Verdict}
 use Rattle.questions.proofs.Verdict as VerdictType
 use Rattle.questions.proofs.Verdict.Laws as VerdictLaws
+use Rattle.table.specs.State.{State, stateWith, stateOf}
 use Rattle.rungs.specs.Records.{RungRecord, labels}
 use Rattle.rows.specs.Rows.{recordOf, recordsOf, recordAt, rungAt}
 use Rattle.rows.specs.Laws.Records.{records-at, records-length}
@@ -170,12 +171,12 @@ rest = mapBody spelt rest-named
 abbrev more : Code
 more = mapBody spelt more-named
 
--- a place in the loop: where the scan stands, the table, and what holds of them
-record Here (v : Verdict) (vars : ℕ) (ws : List ℕ) (rs : List RungRecord) (ts : List ℕ) (w : ℕ) : Type 0 where
+-- a place in the loop: where the scan stands, the table, and what holds of them. The scan begins in the state s; `with-list` gives the state with a table, by the sum so far
+record Here (v : Verdict) (ws : List ℕ) (rs : List RungRecord) (s : State) (w : ℕ) (with-list : List ℕ → ℕ → State) : Type 0 where
   at : Standing
   u : List ℕ
   is : Is S.the-row at (S′.lowered at ∷ [])
-  going : Going v vars ws rs ts w u at
+  going : Going v ws rs s w (with-list u (at .moved)) at
 
 module _ {M : Type 1} (𝓤 : URA M) (H : Heap 𝓤) (A : Atoms 𝓤) (at-mem : Memory → SProp 𝓤) (run : Routine → Fun 𝓤) where
   -- the contracts that the proof cites, and of each callee's `ensured` the clause alone
@@ -248,8 +249,18 @@ module _ {M : Type 1} (𝓤 : URA M) (H : Heap 𝓤) (A : Atoms 𝓤) (W : Given
   abbrev Post : Val → SProp 𝓤
   Post = walkOf 𝓤 H A scan.ended stayed (scan.clauses 𝓤 H A at-mem run) .post (((κ₁, (κ₂, (κ₃, tt))), (q₁, (q₂, (q₃, tt))), tt, x, vals), tt)
 
+  -- the state where the scan begins, the state with a table by the sum so far, and the state in turn i
+  abbrev begins : State
+  begins = stateOf vars ts
+
+  abbrev with-list : List ℕ → ℕ → State
+  with-list l = stateWith vars l
+
   abbrev Place : Type 0
-  Place = Here v vars (words .now) rs ts w
+  Place = Here v (words .now) rs begins w with-list
+
+  abbrev here : Place → State
+  here i = with-list (i .u) (i .at .moved)
 
   typed : (r : Standing) (z : Val) → Is S.the-row r (z ∷ []) → Holds (hasTy S′.mir z) × WT z
   typed r z is = LL.lawful S.the-type S′.the-laws 𝓤 H A W .typed r _ is .0
@@ -272,7 +283,7 @@ module _ {M : Type 1} (𝓤 : URA M) (H : Heap 𝓤) (A : Atoms 𝓤) (W : Given
   abbrev row-token : Item 𝓤
   row-token = ‵ (flft κ₂ q₂) ⊛ ‵ ftrue
 
-  exits : (i : Place) (r : LadderScanned) (z : Val) → Is L.the-row r (z ∷ []) → RowScanned v vars (words .now) rs ts w r (i .u)
+  exits : (i : Place) (r : LadderScanned) (z : Val) → Is L.the-row r (z ∷ []) → RowScanned v (words .now) rs begins w r (i .u)
       → ent 𝓤 (⋆ 𝓤 H A (‵ (flft κ₁ q₁) ∷ ‵ (flft κ₂ q₂) ∷ ‵ (flft κ₃ q₃) ∷ ‵ Own-words ∷ ‵ Own-row ∷ ‵ (Own-table (i .u)) ∷ [])) (Post z)
   exits i r z is e =
       qed W (‵ (flft κ₁ q₁) ∷ ‵ (flft κ₂ q₂) ∷ ‵ (flft κ₃ q₃) ∷ ‵ Own-words ∷ ‵ Own-row ∷ ‵ (Own-table (i .u)) ∷ []) ∵
@@ -345,7 +356,7 @@ module _ {M : Type 1} (𝓤 : URA M) (H : Heap 𝓤) (A : Atoms 𝓤) (W : Given
     goes-enter sum = qed W (tokens ∷ ‵ Owns ∷ []) ∵ says ! sum $ frame ! $ done !
 
     abbrev Said : Way → List ℕ → Type 0
-    Said s zs = Entered vars (words .now) (recordOf r) (i .u) (i .at .moved) s zs
+    Said s zs = Entered (words .now) (recordOf r) (here i) s (with-list zs)
 
   abbrev Nearer : Place → Place → Type 0
   Nearer j i = w - j .at .entered < w - i .at .entered
@@ -358,23 +369,24 @@ module _ {M : Type 1} (𝓤 : URA M) (H : Heap 𝓤) (A : Atoms 𝓤) (W : Given
     on : i .at .on ≡ true
     way : Is P.the-row p (P′.lowered p ∷ [])
     stays : length zs ≡ length (i .u)
-    entry : Entered vars (words .now) (recordAt rs (i .at .rung)) (i .u) (i .at .moved) p zs
+    entry : Entered (words .now) (recordAt rs (i .at .rung)) (here i) p (with-list zs)
 
   needed : (i : Place) → i .at .on ≡ true → (i .at .rung < n) × (i .at .entered < w)
-  needed i on = let h = going-needs v vars (words .now) rs ts w (i .u) (i .at) (i .going) ready on in let c = count in (omega arith, h .1)
+  needed i on = let h = going-needs v (words .now) rs begins w (here i) (i .at) (i .going) ready on in let c = count in (omega arith, h .1)
 
   small : (i : Place) → i .at .on ≡ true → (i .at .entered + 1 < 2 ^ 32) × (i .at .rung + 1 < 2 ^ 64)
-  small i on = going-fits v vars (words .now) rs ts w (i .u) (i .at) (i .going) ready on w-fits (subst (λ (k : ℕ). k < 2 ^ 64) (sym count) (room-r .0))
+  small i on = going-fits v (words .now) rs begins w (here i) (i .at) (i .going) ready on w-fits (subst (λ (k : ℕ). k < 2 ^ 64) (sym count) (room-r .0))
 
   sums : (i : Place) → i .at .on ≡ true → i .at .moved + length (words .now) < 2 ^ 32
-  sums i on = going-sum v vars (words .now) rs ts w (i .u) (i .at) (i .going) ready on
+  sums i on = going-sum v (words .now) rs begins w (here i) (i .at) (i .going) ready on
 
   abbrev next : Place → Way → ℕ → Standing
   next i p f = arrived (i .at) p f (length rs) w
 
   after : (i : Place) (p : Way) (zs : List ℕ) → Gone i p zs → (f : ℕ) → f ≡ nextRung (labels rs) p (i .at .rung) → Is S.the-row (next i p f) (S′.lowered (next i p f) ∷ []) → Place
+  unfolding arrived
   after i p zs g f e is =
-      record { at = next i p f; u = zs; is = is; going = going-next v vars (words .now) rs ts w (i .u) (i .at) (i .going) ready (g .on) p zs (g .entry) f (g .stays) e }
+      record { at = next i p f; u = zs; is = is; going = going-next v (words .now) rs begins w (here i) (i .at) (i .going) ready (g .on) p (with-list zs) (g .entry) f refl (g .stays) e }
 
   module _ (𝓣 : Tables 𝓤 H) (known-at : Triple 𝓤 (𝓣 .C #rows·rung-at) (RungAt 𝓤 H A at-mem run)) (known-next : Triple 𝓤 (𝓣 .C #ladder-rows·next-rung) (NextRung 𝓤 H A at-mem run))
       (known-begin : Triple 𝓤 (𝓣 .C #ladder-rows·begin) (Begin 𝓤 H A at-mem run)) (known-enter : Triple 𝓤 (𝓣 .C #ladder-rows·enter) (Enter 𝓤 H A at-mem run))
@@ -438,7 +450,7 @@ module _ {M : Type 1} (𝓤 : URA M) (H : Heap 𝓤) (A : Atoms 𝓤) (W : Given
           land-last ! (from ! (stop !)) (store ! 18 refl (typed (next i p f) z₂ is′)) $ rewrite ! 18 (λ (z : Val). ‵ (fat fullShare standing-ty l₇ 0 z)) (spelled (next i p f) z₂ is′) refl $
           forget ! 2 refl $ forget ! 14 refl $ forget ! 16 refl $
           keep ! (2 ∷ 3 ∷ 4 ∷ 5 ∷ 6 ∷ 7 ∷ 8 ∷ 9 ∷ 10 ∷ 11 ∷ 12 ∷ 13 ∷ 14 ∷ 15 ∷ 16 ∷ 17 ∷ 18 ∷ 19 ∷ 20 ∷ 21 ∷ 22 ∷ 23 ∷ 24 ∷ 25 ∷ 26 ∷ 27 ∷ 28 ∷ 29 ∷ 30 ∷ 31 ∷ 32 ∷ 33 ∷ 34 ∷ 0 ∷ 35 ∷ 36 ∷ 1 ∷ 37 ∷ []) $
-          again ! Nearer At i (after i p zs g f e (good (next i p f) z₂ is′)) (going-nearer v vars (words .now) rs ts w (i .u) (i .at) (i .going) ready (g .on) p zs (g .entry) f)))))))))
+          again ! Nearer At i (after i p zs g f e (good (next i p f) z₂ is′)) (going-nearer v (words .now) rs begins w (here i) (i .at) (i .going) ready (g .on) p (with-list zs) (g .entry) f)))))))))
 
       -- `enter`, on the record r
       enters : (i : Place) → i .at .on ≡ true → (r : Rung) (z : Val) → Is R.the-row r (z ∷ []) → recordOf r ≡ recordAt rs (i .at .rung) → ent 𝓤 (⋆ 𝓤 H A (AtRung i z)) (Wp 𝓤 H C Λ En rest (Turned i))
@@ -475,8 +487,8 @@ module _ {M : Type 1} (𝓤 : URA M) (H : Heap 𝓤) (A : Atoms 𝓤) (W : Given
           led : (p : Way) (y : Val) → Is P.the-row p (y ∷ []) → y ≡ P′.lowered p
           led p y is = ap only (P′.lowers .val-is p (y ∷ []) is)
 
-          there : (p : Way) (zs : List ℕ) → Entered vars (words .now) (recordOf r) (i .u) (i .at .moved) p zs → Entered vars (words .now) (recordAt rs (i .at .rung)) (i .u) (i .at .moved) p zs
-          there p zs e = subst (λ (y : RungRecord). Entered vars (words .now) y (i .u) (i .at .moved) p zs) e₀ e
+          there : (p : Way) (zs : List ℕ) → Entered (words .now) (recordOf r) (here i) p (with-list zs) → Entered (words .now) (recordAt rs (i .at .rung)) (here i) p (with-list zs)
+          there p zs e = subst (λ (y : RungRecord). Entered (words .now) y (here i) p (with-list zs)) e₀ e
 
       turns : (i : Place) → Sq W (At i) (runs C Λ En parts.turn-1 (anyQ (Turned i)))
       unfolding afterTurn
@@ -508,11 +520,12 @@ module _ {M : Type 1} (𝓤 : URA M) (H : Heap 𝓤) (A : Atoms 𝓤) (W : Given
           move ! (30 ∷ 31 ∷ []) $ free1 ! $ move ! (28 ∷ 29 ∷ []) $ free1 ! $ move ! (26 ∷ 27 ∷ []) $ free1 ! $ move ! (24 ∷ 25 ∷ []) $ free1 ! $ move ! (22 ∷ 23 ∷ []) $ free1 ! $ move ! (20 ∷ 21 ∷ []) $ free1 ! $ move ! (18 ∷ 19 ∷ []) $ free1 ! $ move ! (16 ∷ 17 ∷ []) $ free1 ! $ move ! (14 ∷ 15 ∷ []) $ free1 ! $ move ! (12 ∷ 13 ∷ []) $ free1 ! $ move ! (10 ∷ 11 ∷ []) $ free1 ! $ move ! (8 ∷ 9 ∷ []) $ free1 ! $ move ! (6 ∷ 7 ∷ []) $ free1 ! $ move ! (4 ∷ 5 ∷ []) $ free1 ! $ move ! (2 ∷ 3 ∷ []) $ free1 ! $ free1 ! $ free0 ! $
           by ! (exits i r z is (ends r e (is-false (i .at .on) off))))))))
         where
-          ends : (r : LadderScanned) → r ≡ answered v (i .at) n → i .at .on ≡ false → RowScanned v vars (words .now) rs ts w r (i .u)
-          ends r e off = subst (λ (y : LadderScanned). RowScanned v vars (words .now) rs ts w y (i .u)) (sym (e ∙ ap (λ (k : ℕ). answered v (i .at) k) (sym count))) (going-ends v vars (words .now) rs ts w (i .u) (i .at) (i .going) off)
+          ends : (r : LadderScanned) → r ≡ answered v (i .at) n → i .at .on ≡ false → RowScanned v (words .now) rs begins w r (i .u)
+          ends r e off = subst (λ (y : LadderScanned). RowScanned v (words .now) rs begins w y (i .u)) (sym (e ∙ ap (λ (k : ℕ). answered v (i .at) k) (sym count))) (going-ends v (words .now) rs begins w (here i) (i .at) (i .going) off)
 
     starts : Is S.the-row (begun v (length rs) w) (S′.lowered (begun v (length rs) w) ∷ []) → Place
-    starts is = record { at = begun v (length rs) w; u = ts; is = is; going = going-first v vars (words .now) rs ts w }
+    unfolding begun
+    starts is = record { at = begun v (length rs) w; u = ts; is = is; going = going-first v (words .now) rs begins w refl }
 
     walk : ent 𝓤 (onEntry 𝓤 H A scan.signature (κ₁, (κ₂, (κ₃, tt))) (q₁, (q₂, (q₃, tt))) x vals) (WpFn 𝓤 H C Λ code.function (vv ∷ vint w32 vars ∷ sw ∷ sr ∷ st ts ∷ vint w32 w ∷ []) Post)
     unfolding starts

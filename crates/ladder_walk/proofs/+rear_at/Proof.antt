@@ -3,7 +3,7 @@
 use Prim.Native.Nat.{ℕ, _-_, _<_}
 use native.Mathlib.Omega.{arith}
 use lib.ListN.{length}
-use mathlib.Core.Path.{_≡_}
+use mathlib.Core.Path.{_≡_, refl}
 use borrow.Author.Needs.{needs}
 use Rattle.ladder_kinds.specs.Kinds.{sortIn}
 use Rattle.ladder_definitions.specs.Laws.Trees.{inside-sort}
@@ -55,7 +55,7 @@ rear-at-same-length t c = search needs
 
 rear-at-returns : (t : ℕ) → rear-at-lts.Need-returns (rear-at-uses t) (rear-at-at t) rear-at.Post
 unfolding sortIn
-rear-at-returns t c = ran-output _ _ _ _ _ _ _ (c .before .before .before .before .before .before .before .word-at .ensures) _ _ (told _ _ (c .before .before .before .before .before .before .sort-of .ensures) _ (c .before .before .before .before .enum-told .given .1)) (c .before .before .run-output .ensures)
+rear-at-returns t c = ran-output _ _ _ _ _ (c .before .before .before .before .before .before .before .word-at .ensures) _ _ (told _ _ (c .before .before .before .before .before .before .sort-of .ensures) _ (c .before .before .before .before .enum-told .given .1)) (c .before .before .run-output .ensures)
 
 rear-at-enum-told-2 : (t : ℕ) → rear-at-lts.Need-enum-told-2 (rear-at-uses t) (rear-at-at t) rear-at.Post
 rear-at-enum-told-2 t c = search needs
@@ -97,24 +97,24 @@ rear-at-same-length-2 t c = search needs
 
 rear-at-returns-2 : (t : ℕ) → rear-at-lts.Need-returns-2 (rear-at-uses t) (rear-at-at t) rear-at.Post
 unfolding sortIn
-rear-at-returns-2 t c = ran-and _ _ _ _ _ _ _ (c .before .before .before .before .before .before .before .before .before .before .word-at .ensures) _ _ _ _ (told _ _ (c .before .before .before .before .before .before .before .before .before .sort-of .ensures) _ (c .before .before .before .before .before .before .before .enum-told2 .given .1)) (c .before .before .before .before .before .front-at .ensures) (c .before .before .rear-at .ensures)
+rear-at-returns-2 t c = ran-and _ _ _ _ _ (c .before .before .before .before .before .before .before .before .before .before .word-at .ensures) _ _ _ _ (told _ _ (c .before .before .before .before .before .before .before .before .before .sort-of .ensures) _ (c .before .before .before .before .before .before .before .enum-told2 .given .1)) (c .before .before .before .before .before .front-at .ensures) (c .before .before .rear-at .ensures)
 
 rear-at-same-length-3 : (t : ℕ) → rear-at-lts.Need-same-length-3 (rear-at-uses t) (rear-at-at t) rear-at.Post
 rear-at-same-length-3 t c = search needs
 
 rear-at-returns-3 : (t : ℕ) → rear-at-lts.Need-returns-3 (rear-at-uses t) (rear-at-at t) rear-at.Post
 unfolding sortIn
-rear-at-returns-3 t c = ran-or _ _ _ _ _ _ _ (c .before .before .before .before .before .before .before .before .before .before .before .before .before .before .word-at .ensures) _ _ _ _ _ _ (told _ _ (c .before .before .before .before .before .before .before .before .before .before .before .before .before .sort-of .ensures) _ (c .before .before .before .before .before .before .before .before .before .before .before .enum-told3 .given .1)) (c .before .before .before .before .before .before .before .before .before .rear-at2 .ensures) (c .before .before .before .before .before .next .given .1) (c .before .before .rear-at3 .ensures)
+rear-at-returns-3 t c = ran-or _ _ _ _ _ (c .before .before .before .before .before .before .before .before .before .before .before .before .before .before .word-at .ensures) _ _ _ _ _ _ (told _ _ (c .before .before .before .before .before .before .before .before .before .before .before .before .before .sort-of .ensures) _ (c .before .before .before .before .before .before .before .before .before .before .before .enum-told3 .given .1)) (c .before .before .before .before .before .before .before .before .before .rear-at2 .ensures) (c .before .before .before .before .before .next .given .1) refl (c .before .before .rear-at3 .ensures)
 
 rear-at-same-length-4 : (t : ℕ) → rear-at-lts.Need-same-length-4 (rear-at-uses t) (rear-at-at t) rear-at.Post
 rear-at-same-length-4 t c = search needs
 
 rear-at-returns-4 : (t : ℕ) → rear-at-lts.Need-returns-4 (rear-at-uses t) (rear-at-at t) rear-at.Post
 unfolding sortIn
-rear-at-returns-4 t c = ran-or-jumped _ _ _ _ _ _ _ (c .before .before .before .before .before .before .before .before .before .before .word-at .ensures) _ _ _ _ (told _ _ (c .before .before .before .before .before .before .before .before .before .sort-of .ensures) _ (c .before .before .before .before .before .before .before .enum-told3 .given .1)) (c .before .before .before .before .before .rear-at2 .ensures) (c .before .label .given .1)
+rear-at-returns-4 t c = ran-or-jumped _ _ _ _ _ (c .before .before .before .before .before .before .before .before .before .before .word-at .ensures) _ _ _ _ (told _ _ (c .before .before .before .before .before .before .before .before .before .sort-of .ensures) _ (c .before .before .before .before .before .before .before .enum-told3 .given .1)) (c .before .before .before .before .before .rear-at2 .ensures) (c .before .label .given .1)
 
 rear-at-returns-5 : (t : ℕ) → rear-at-lts.Need-returns-5 (rear-at-uses t) (rear-at-at t) rear-at.Post
-rear-at-returns-5 t c = ran-none _ _ _ _ _ _ _ (c .before .before .word-at .ensures) (not-rear _ _ (c .before .sort-of .ensures) (c .match .keys4))
+rear-at-returns-5 t c = ran-none _ _ _ _ _ (c .before .before .word-at .ensures) _ (not-rear _ _ (c .before .sort-of .ensures) (c .match .keys4))
 
 pub +rear-at-spec : {M : Type 1} → statement M
 +rear-at-spec = close μ-rear-at λ t. rear-at-lts.spec (rear-at-uses t)

@@ -1,6 +1,6 @@
 -- `ladder_walk::run_output` meets its contract: the word's kind and operand tell the output, and each arm runs its own. Assumes nothing.
 use native.Mathlib.Omega.{arith}
-use mathlib.Core.Path.{_≡_}
+use mathlib.Core.Path.{_≡_, refl}
 use borrow.Author.Needs.{needs}
 use Rattle.rungs.specs.Words.{numberOf}
 use Rattle.ladder_definitions.specs.Tree.{Output, coil, coiln, jump, jumpn, setCoil, resetCoil}
@@ -38,48 +38,48 @@ same-length c = search needs
 
 returns : tie.Need-returns
 unfolding outputKind
-returns c = ran-coil _ _ _ _ _ _ _ _ (c .before .before .before .before .match .keys1) (c .before .before .write .ensures)
+returns c = ran-coil _ _ _ _ _ _ refl (c .before .before .before .before .match .keys1) (c .before .before .write .ensures)
 
 same-length-2 : tie.Need-same-length-2
 same-length-2 c = search needs
 
 returns-2 : tie.Need-returns-2
 unfolding outputKind
-returns-2 c = ran-coiln _ _ _ _ _ _ _ _ (c .before .before .before .before .match .keys2) (c .before .before .write2 .ensures)
+returns-2 c = ran-coiln _ _ _ _ _ _ refl (c .before .before .before .before .match .keys2) (c .before .before .write2 .ensures)
 
 returns-3 : tie.Need-returns-3
 unfolding outputKind
-returns-3 c = jump-taken _ _ _ _ _ _ (c .before .match .keys3) (c .if1 .taken)
+returns-3 c = jump-taken _ _ _ _ _ refl (c .before .match .keys3) (c .if1 .taken)
 
 returns-4 : tie.Need-returns-4
 unfolding outputKind
-returns-4 c = jump-left _ _ _ _ _ _ (c .before .match .keys3) (c .if1 .left)
+returns-4 c = jump-left _ _ _ _ _ refl (c .before .match .keys3) (c .if1 .left)
 
 returns-5 : tie.Need-returns-5
 unfolding outputKind
-returns-5 c = jumpn-left _ _ _ _ _ _ (c .before .match .keys4) (c .if2 .taken)
+returns-5 c = jumpn-left _ _ _ _ _ refl (c .before .match .keys4) (c .if2 .taken)
 
 returns-6 : tie.Need-returns-6
 unfolding outputKind
-returns-6 c = jumpn-taken _ _ _ _ _ _ (c .before .match .keys4) (c .if2 .left)
+returns-6 c = jumpn-taken _ _ _ _ _ refl (c .before .match .keys4) (c .if2 .left)
 
 same-length-3 : tie.Need-same-length-3
 same-length-3 c = search needs
 
 returns-7 : tie.Need-returns-7
 unfolding outputKind
-returns-7 c = ran-set _ _ _ _ _ _ _ _ (c .before .before .before .before .match .keys5) (c .before .before .write-if .ensures)
+returns-7 c = ran-set _ _ _ _ _ _ refl (c .before .before .before .before .match .keys5) (c .before .before .write-if .ensures)
 
 same-length-4 : tie.Need-same-length-4
 same-length-4 c = search needs
 
 returns-8 : tie.Need-returns-8
 unfolding outputKind
-returns-8 c = ran-reset _ _ _ _ _ _ _ _ (c .before .before .before .before .match .keys6) (c .before .before .write-if2 .ensures)
+returns-8 c = ran-reset _ _ _ _ _ _ refl (c .before .before .before .before .match .keys6) (c .before .before .write-if2 .ensures)
 
 returns-9 : tie.Need-returns-9
 unfolding outputKind
-returns-9 c = no-output _ _ _ _ _ _ none
+returns-9 c = no-output _ _ _ _ _ none
   where
     none : (o : Output) → numberOf (c .before .before .args .word) ≡ outputKind o → ⊥
     none (coil v) e = omega arith

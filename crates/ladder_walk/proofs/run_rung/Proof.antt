@@ -14,7 +14,7 @@ same-length : tie.Need-same-length
 same-length c = search needs
 
 returns : tie.Need-returns
-returns c = ran-rung _ _ _ _ _ _ _ _ _ (c .before .before .before .before .front-at .ensures) (c .before .before .rear-at .ensures)
+returns c = ran-rung _ _ _ _ _ _ _ (c .before .before .before .before .front-at .ensures) (c .before .before .rear-at .ensures)
 
 pub run-rung-spec : {M : Type 1} → statement M
 run-rung-spec = tie.close (tie.spec front-at-requires rear-at-requires same-length returns)

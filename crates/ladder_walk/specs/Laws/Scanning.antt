@@ -6,7 +6,7 @@ use native.Mathlib.Omega.{arith}
 use mathlib.Core.Path.{_≡_, refl, sym, ap, _∙_}
 use mathlib.Core.List.{List, [], _∷_}
 use lib.ListN.{length, getD, drop, drop-of-length-le}
-use Rattle.table.specs.State.{State, stateWith, stateOf}
+use Rattle.table.specs.State.{State}
 use Rattle.table.specs.Halt.{Ended, Stopped}
 use Rattle.rungs.specs.Records.{search}
 use Rattle.ladder_definitions.specs.Tree.{Rung, Ladder}
@@ -34,24 +34,22 @@ scan-past gs rest n k g s x e = scan-step gs rest n k g s ∙ ap (λ y. scanFrom
 
 -- ---- the loop's invariant
 
-pub record Scanning (vars : ℕ) (ws ls os t : List ℕ) (w : ℕ) (u : List ℕ) (entered moved rung : ℕ) : Type 0 where
-  pub same : (gs : Ladder) → LadderHeld ws ls os gs → scanFrom gs (w - entered) entered (drop rung gs) (stateWith vars u moved) ≡ scanLadder gs w (stateOf vars t)
+-- here is the state where the next rung begins
+pub record Scanning (ws ls os : List ℕ) (s : State) (w : ℕ) (here : State) (entered rung : ℕ) : Type 0 where
+  pub same : (gs : Ladder) → LadderHeld ws ls os gs → scanFrom gs (w - entered) entered (drop rung gs) here ≡ scanLadder gs w s
   pub within : entered ≤ w
-  pub few : moved ≤ entered * mostWords
-  pub long : length u ≡ length t
+  pub few : here .moved ≤ entered * mostWords
+  pub long : length (here .bytes) ≡ length (s .bytes)
 
-pub scanning-first : (vars : ℕ) (ws ls os t : List ℕ) (w : ℕ) → Scanning vars ws ls os t w t 0 0 0
+pub scanning-first : (ws ls os : List ℕ) (s : State) (w : ℕ) → s .moved ≡ 0 → Scanning ws ls os s w s 0 0
 unfolding scanLadder
-scanning-first vars ws ls os t w = record { same = λ gs held. rw sub-zero refl; within = omega arith; few = omega arith; long = refl }
+scanning-first ws ls os s w z = record { same = λ gs held. rw sub-zero refl; within = omega arith; few = omega arith; long = refl }
 
-module _ (vars : ℕ) (ws ls os t : List ℕ) (w : ℕ) (u : List ℕ) (entered moved rung : ℕ) (inv : Scanning vars ws ls os t w u entered moved rung) where
-  abbrev here : State
-  here = stateWith vars u moved
-
-  done : (gs : Ladder) → LadderHeld ws ls os gs → (x : LadderResult) → scanFrom gs (w - entered) entered (drop rung gs) here ≡ x → x ≡ scanLadder gs w (stateOf vars t)
+module _ (ws ls os : List ℕ) (s : State) (w : ℕ) (here : State) (entered rung : ℕ) (inv : Scanning ws ls os s w here entered rung) where
+  done : (gs : Ladder) → LadderHeld ws ls os gs → (x : LadderResult) → scanFrom gs (w - entered) entered (drop rung gs) here ≡ x → x ≡ scanLadder gs w s
   done gs held x e = sym e ∙ inv .same gs held
 
-  pub scan-ended : length ls ≤ rung → Scanned vars ws ls os t w (EndedCase (record { rungs = entered; moved = moved })) u
+  pub scan-ended : length ls ≤ rung → Scanned ws ls os s w (EndedCase (record { rungs = entered; moved = here .moved })) (here .bytes)
   unfolding scanFrom scanEnds ladderScannedAnswer
   scan-ended h = record {
     same = λ gs held.
@@ -65,7 +63,7 @@ module _ (vars : ℕ) (ws ls os t : List ℕ) (w : ℕ) (u : List ℕ) (entered 
       over gs zero = refl
       over gs (suc n) = refl
 
-  pub scan-stopped : rung < length ls → entered ≡ w → Scanned vars ws ls os t w (StoppedCase (record { rungs = entered; moved = moved })) u
+  pub scan-stopped : rung < length ls → entered ≡ w → Scanned ws ls os s w (StoppedCase (record { rungs = entered; moved = here .moved })) (here .bytes)
   unfolding scanFrom scanEnds ladderScannedAnswer
   scan-stopped h z = record {
     same = λ gs held.
@@ -76,11 +74,11 @@ module _ (vars : ℕ) (ws ls os t : List ℕ) (w : ℕ) (u : List ℕ) (entered 
         record { answer = ap (λ x. scanEnds x .answer) e; same-table = ap (λ x. scanEnds x .table) e };
   }
 
-  module _ (small : length ws ≤ mostWords) (h : rung < length ls) (z : entered ≡ w → ⊥) (start : ℕ) (at : start ≡ getD os rung 0) (r : Ran) (v : List ℕ)
-      (run : RungRun vars ws start u moved r v) (stays : length v ≡ length u) where
+  module _ (small : length ws ≤ mostWords) (h : rung < length ls) (z : entered ≡ w → ⊥) (start : ℕ) (at : start ≡ getD os rung 0) (r : Ran) (u : ℕ → State)
+      (run : RungRun ws start here r u) where
     -- the scan after the rung
     after : (gs : Ladder) → LadderHeld ws ls os gs
-        → scanFrom gs (w - (entered + 1)) (entered + 1) (follow gs (drop (suc rung) gs) (runOf vars v r)) (left (runOf vars v r)) ≡ scanLadder gs w (stateOf vars t)
+        → scanFrom gs (w - (entered + 1)) (entered + 1) (follow gs (drop (suc rung) gs) (runOf u r)) (left (runOf u r)) ≡ scanLadder gs w s
     after gs held =
         let m = many ws ls os gs held in
         let a = apart gs rung (omega arith) in
@@ -89,26 +87,27 @@ module _ (vars : ℕ) (ws ls os t : List ℕ) (w : ℕ) (u : List ℕ) (entered 
         let n : w - entered ≡ suc (w - (entered + 1)) = omega arith in
         sym (ap (λ n. scanFrom gs n entered (drop rung gs) here) n
         ∙ ap (λ l. scanFrom gs (suc (w - (entered + 1))) entered l here) (a .here)
-        ∙ scan-past gs (drop (suc rung) gs) (w - (entered + 1)) entered (a .rung) here (runOf vars v r) d)
+        ∙ scan-past gs (drop (suc rung) gs) (w - (entered + 1)) entered (a .rung) here (runOf u r) d)
         ∙ inv .same gs held
 
     few-more : sumOf r ≤ (entered + 1) * mostWords
     few-more = let f = inv .few in let g = run .few in omega arith
 
-    pub scan-onward : (n m : ℕ) → r ≡ Onward n m → Scanning vars ws ls os t w v (entered + 1) m (rung + 1)
+    pub scan-onward : (n m : ℕ) → r ≡ Onward n m → u m .moved ≡ m → length (u m .bytes) ≡ length (here .bytes) → Scanning ws ls os s w (u m) (entered + 1) (rung + 1)
     unfolding runOf sumOf follow left
-    scan-onward n m q = let b = inv .within in record {
-      same = λ gs held. ap (λ k. scanFrom gs (w - (entered + 1)) (entered + 1) (drop k gs) (stateWith vars v m)) (add-one rung) ∙ (rw q at (after gs held));
+    scan-onward n m q tells stays = let b = inv .within in record {
+      same = λ gs held. ap (λ k. scanFrom gs (w - (entered + 1)) (entered + 1) (drop k gs) (u m)) (add-one rung) ∙ (rw q at (after gs held));
       within = omega arith;
-      few = rw q at few-more;
+      few = rw tells (rw q at few-more);
       long = stays ∙ inv .long;
     }
 
-    pub scan-jumped : (l m found : ℕ) → r ≡ Jumped l m → found ≡ search l ls → Scanning vars ws ls os t w v (entered + 1) m found
+    pub scan-jumped : (l m found : ℕ) → r ≡ Jumped l m → u m .moved ≡ m → length (u m .bytes) ≡ length (here .bytes) → found ≡ search l ls
+        → Scanning ws ls os s w (u m) (entered + 1) found
     unfolding runOf sumOf follow left from
-    scan-jumped l m found q f = let b = inv .within in record {
+    scan-jumped l m found q tells stays f = let b = inv .within in record {
       same = λ gs held. rw (f, held .same-labels) (rw q at (after gs held));
       within = omega arith;
-      few = rw q at few-more;
+      few = rw tells (rw q at few-more);
       long = stays ∙ inv .long;
     }

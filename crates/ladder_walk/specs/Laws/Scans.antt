@@ -45,7 +45,7 @@ module _ (vars : ℕ) (k : Kept) (t : List ℕ) (w : ℕ) where
       let last = later-yes (question11 (stateOf vars t)) _ (later-yes (ladderAnswer vars k) _ (sym scan-first ∙ e)) in
       record { words = omega (arith, most, same); rungs = watchdog-in-range mostRungWatchdog w (first-yes (question12 mostRungWatchdog w) [] last) }
 
-  pub scan-scans : scanQuestions vars k t w ≡ none → (r : LadderScanned) (u : List ℕ) → Scanned vars (k .words) (labels (k .records)) (offsets (k .records)) t w r u
+  pub scan-scans : scanQuestions vars k t w ≡ none → (r : LadderScanned) (u : List ℕ) → Scanned (k .words) (labels (k .records)) (offsets (k .records)) (stateOf vars t) w r u
       → LadderScanDone (callLadderScan vars k t w) r u
   unfolding callLadderScan
   scan-scans e r u scanned =

@@ -2,32 +2,34 @@
 -- Each rung adds to the sum as many as there are words, at most, and so it stays below 2^32. Assumes nothing.
 use Prim.Native.Nat.{_-_}
 use native.Mathlib.Omega.{arith}
+use mathlib.Core.Path.{refl}
 use borrow.Author.Needs.{needs}
+use Rattle.table.specs.State.{stateWith, stateOf}
 use Rattle.rungs.specs.Laws.Search.{ends-at}
 use Rattle.ladder_walk.specs.Laws.Scanning.{Scanning, scanning-first, scan-ended, scan-stopped, scan-onward, scan-jumped}
 use Rattle.ladder_walk.proofs.scan.run.Statement.{statement}
 use Rattle.ladder_walk.proofs.scan.run.Tie as tie
 
 abbrev Inv-loop : tie.InvT-loop
-Inv-loop vars words labels offsets table₀ watchdog entered₀ moved₀ rung₀ table entered moved rung = Scanning vars words labels offsets table₀ watchdog table entered moved rung
+Inv-loop vars words labels offsets table₀ watchdog entered₀ moved₀ rung₀ table entered moved rung = Scanning words labels offsets (stateOf vars table₀) watchdog (stateWith vars table moved) entered rung
 
 abbrev μ-loop : tie.MeasureT-loop
 μ-loop vars words labels offsets table₀ watchdog entered₀ moved₀ rung₀ table entered moved rung = watchdog - entered
 
 loop-holds : tie.Need-loop-holds Inv-loop μ-loop
-loop-holds c = scanning-first _ _ _ _ _ _
+loop-holds c = scanning-first _ _ _ _ _ refl
 
 same-length : tie.Need-same-length Inv-loop μ-loop
 same-length c = c .before .loop .inv .long
 
 returns : tie.Need-returns Inv-loop μ-loop
-returns c = scan-ended _ _ _ _ _ _ _ _ _ _ (c .before .loop .inv) (c .if1 .taken)
+returns c = scan-ended _ _ _ _ _ _ _ _ (c .before .loop .inv) (c .if1 .taken)
 
 same-length-2 : tie.Need-same-length-2 Inv-loop μ-loop
 same-length-2 c = c .before .before .loop .inv .long
 
 returns-2 : tie.Need-returns-2 Inv-loop μ-loop
-returns-2 c = scan-stopped _ _ _ _ _ _ _ _ _ _ (c .before .before .loop .inv) (c .before .if1 .left) (c .if2 .taken)
+returns-2 c = scan-stopped _ _ _ _ _ _ _ _ (c .before .before .loop .inv) (c .before .if1 .left) (c .if2 .taken)
 
 add-entered : tie.Need-add-entered Inv-loop μ-loop
 add-entered c = omega (arith, c .before .before .loop .inv .within)
@@ -51,7 +53,7 @@ loop-less : tie.Need-loop-less Inv-loop μ-loop
 loop-less c = omega (arith, c .before .before .before .before .before .before .before .before .before .before .loop .inv .within)
 
 loop-again : tie.Need-loop-again Inv-loop μ-loop
-loop-again c = scan-onward _ _ _ _ _ _ _ _ _ _ (c .before .before .before .before .before .before .before .before .before .before .loop .inv) (c .before .before .before .before .before .before .before .before .before .before .before .before .before .before .before .pre .words) (c .before .before .before .before .before .before .before .before .before .if1 .left) (c .before .before .before .before .before .before .before .before .if2 .left) _ (c .before .before .before .before .before .before .before .word-at .ensures) _ _ (c .before .before .before .before .before .run-rung .ensures) (c .before .before .before .before .before .run-rung .kept .1 .1 .1 .0) _ _ (c .before .past-rung .given .1)
+loop-again c = scan-onward _ _ _ _ _ _ _ _ (c .before .before .before .before .before .before .before .before .before .before .loop .inv) (c .before .before .before .before .before .before .before .before .before .before .before .before .before .before .before .pre .words) (c .before .before .before .before .before .before .before .before .before .if1 .left) (c .before .before .before .before .before .before .before .before .if2 .left) _ (c .before .before .before .before .before .before .before .word-at .ensures) _ _ (c .before .before .before .before .before .run-rung .ensures) _ _ (c .before .past-rung .given .1) refl (c .before .before .before .before .before .run-rung .kept .1 .1 .1 .0)
 
 enum-known-label : tie.Need-enum-known-label Inv-loop μ-loop
 enum-known-label c = search needs
@@ -66,7 +68,7 @@ loop-less-2 : tie.Need-loop-less-2 Inv-loop μ-loop
 loop-less-2 c = omega (arith, c .before .before .before .before .before .before .before .before .before .before .before .before .loop .inv .within)
 
 loop-again-2 : tie.Need-loop-again-2 Inv-loop μ-loop
-loop-again-2 c = scan-jumped _ _ _ _ _ _ _ _ _ _ (c .before .before .before .before .before .before .before .before .before .before .before .before .loop .inv) (c .before .before .before .before .before .before .before .before .before .before .before .before .before .before .before .before .before .pre .words) (c .before .before .before .before .before .before .before .before .before .before .before .if1 .left) (c .before .before .before .before .before .before .before .before .before .before .if2 .left) _ (c .before .before .before .before .before .before .before .before .before .word-at .ensures) _ _ (c .before .before .before .before .before .before .before .run-rung .ensures) (c .before .before .before .before .before .before .before .run-rung .kept .1 .1 .1 .0) _ _ _ (c .before .before .before .label .given .1) (ends-at _ _ _ _ (c .before .search-label .ensures) (c .place-of .ensures))
+loop-again-2 c = scan-jumped _ _ _ _ _ _ _ _ (c .before .before .before .before .before .before .before .before .before .before .before .before .loop .inv) (c .before .before .before .before .before .before .before .before .before .before .before .before .before .before .before .before .before .pre .words) (c .before .before .before .before .before .before .before .before .before .before .before .if1 .left) (c .before .before .before .before .before .before .before .before .before .before .if2 .left) _ (c .before .before .before .before .before .before .before .before .before .word-at .ensures) _ _ (c .before .before .before .before .before .before .before .run-rung .ensures) _ _ _ (c .before .before .before .label .given .1) refl (c .before .before .before .before .before .before .before .run-rung .kept .1 .1 .1 .0) (ends-at _ _ _ _ (c .before .search-label .ensures) (c .place-of .ensures))
 
 pub run-spec : {M : Type 1} → statement M
 run-spec =
