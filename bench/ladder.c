@@ -1,7 +1,7 @@
-/* The five calls of document 01, the search for a label and the list reader, with document 02's requests up to Req 05, in plain C, for
+/* The five calls of document 01, the search for a label and the list reader, with document 02's requests up to Req 06, in plain C, for
    comparison. Written from the documents alone; it shares nothing with the proved code.
-   Standard input: a number of turns, LF, and one request of the vectors' format. Each turn works on a fresh copy of the table;
-   the times entered need none, since a list scan sets them for itself alone.
+   Standard input: a number of turns, LF, and one request of the vectors' format. Each turn works on a fresh copy of the table
+   and of the timer records; the times entered need none, since a list scan sets them for itself alone.
    Standard output: the request's answer line, as the program test_vectors prints it. Standard error: nanoseconds a turn. */
 #include <stdint.h>
 #include <stdio.h>
@@ -9,9 +9,12 @@
 #include <string.h>
 #include <time.h>
 
-enum { MOST_VARS = 1024, MOST_RUNGS = 256, MOST_RUNG_WORDS = 128, MOST_WORDS = 8192, MOST_CODE = 16384, SCRATCH = 32, MOST_BRACKETS = 15 };
+enum { MOST_VARS = 1024, MOST_RUNGS = 256, MOST_RUNG_WORDS = 128, MOST_WORDS = 8192, MOST_CODE = 16384, SCRATCH = 32, MOST_BRACKETS = 15,
+       MOST_TIMERS = 32, TIMER_NUMBERS = 65536 };
 
 typedef struct { uint16_t label; uint32_t offset, length, times; } Rung;
+typedef struct { uint32_t preset, start; uint16_t variable; uint8_t running, done; } Timer;
+typedef struct { Timer *row; size_t count; uint32_t now; } Timers;
 typedef struct { int number; size_t place; } No;
 
 static const No YES = {0, 0};
@@ -43,7 +46,7 @@ static size_t rear_end(const uint32_t *w, size_t at, size_t end)
     while (owed > 0) {
         if (at >= end) return 0;
         uint32_t k = kind(w[at]);
-        if ((k >= 5 && k <= 8) || k == 11 || k == 12) { owed--; at++; }
+        if ((k >= 5 && k <= 8) || (k >= 11 && k <= 13)) { owed--; at++; }
         else if (k == 9 && operand(w[at]) == 0) { at = front_end(w, at + 1, end); if (at == 0) return 0; }
         else if (k == 10 && operand(w[at]) == 0) { owed++; at++; }
         else return 0;
@@ -104,21 +107,42 @@ static unsigned rear_scratch(const uint32_t *w, size_t *at)
     return larger(a + 1, rear_scratch(w, at));
 }
 
-/* Questions 5 to 8 and, where asked, 9. */
-static No asked(uint32_t vars, const uint32_t *w, size_t n, const Rung *r, size_t m, int scratch)
+/* ---- questions; d is null in the calls that get no timer records */
+
+/* Question 16. */
+static No timers_asked(uint32_t vars, const Timers *d)
+{
+    if (!d) return YES;
+    if (d->count > MOST_TIMERS) return no(16, 0);
+    for (size_t j = 0; j < d->count; j++) {
+        if (d->row[j].variable >= vars) return no(16, 0);
+        for (size_t i = 0; i < j; i++) if (d->row[i].variable == d->row[j].variable) return no(16, 0);
+    }
+    return YES;
+}
+
+/* How many timer numbers question 17 lets pass. */
+static size_t timers_there(const Timers *d) { return d ? d->count : TIMER_NUMBERS; }
+
+/* Questions 5 to 8, 17 and, where asked, 9. */
+static No asked(uint32_t vars, const uint32_t *w, size_t n, const Rung *r, size_t m, const Timers *d, int scratch)
 {
     if (m > MOST_RUNGS || n > MOST_WORDS) return no(5, 0);
     for (size_t i = 0; i < m; i++) if (r[i].length > MOST_RUNG_WORDS) return no(5, 0);
+    size_t timers = timers_there(d);
+    int missing = 0;
     for (size_t i = 0; i < m; i++)
         for (size_t j = r[i].offset; j < r[i].offset + r[i].length; j++) {
             uint32_t k = kind(w[j]);
             if ((k == 1 || k == 2 || k == 5 || k == 6 || k == 11 || k == 12) && operand(w[j]) >= vars) return no(6, i);
+            if (k == 13 && operand(w[j]) >= timers) missing = 1;
         }
     for (size_t j = 0; j < m; j++)
         for (size_t i = 0; i < j; i++) if (r[i].label == r[j].label) return no(7, j);
     for (size_t i = 0; i < m; i++)
         for (size_t j = r[i].offset; j < r[i].offset + r[i].length; j++)
             if ((kind(w[j]) == 7 || kind(w[j]) == 8) && !search(r, m, operand(w[j])).found) return no(8, i);
+    if (missing) return no(17, 0);
     if (scratch)
         for (size_t i = 0; i < m; i++) {
             size_t at = r[i].offset;
@@ -128,11 +152,13 @@ static No asked(uint32_t vars, const uint32_t *w, size_t n, const Rung *r, size_
     return YES;
 }
 
-static No ladder_asked(uint32_t vars, const uint32_t *w, size_t n, const Rung *r, size_t m)
+static No ladder_asked(uint32_t vars, const uint32_t *w, size_t n, const Rung *r, size_t m, const Timers *d)
 {
     if (vars < 1 || vars > MOST_VARS) return no(1, 0);
+    No refused = timers_asked(vars, d);
+    if (refused.number) return refused;
     if (!holds(w, n, r, m)) return no(4, 0);
-    return asked(vars, w, n, r, m, 1);
+    return asked(vars, w, n, r, m, d, 1);
 }
 
 static No table_asked(uint32_t vars, const uint8_t *t, size_t bytes)
@@ -160,8 +186,20 @@ typedef struct { No no; int ended; uint32_t rungs, instructions, moved; } Scan;
 /* Writes a variable; it has moved where the byte changed. */
 static void write_variable(uint8_t *t, uint32_t x, int value, Scan *s) { s->moved += t[x] != value; t[x] = (uint8_t)value; }
 
+/* "Its variable then gets done, and that write counts as a coil's." */
+static void work_timer(const Timers *d, uint32_t number, int power, uint8_t *t, Scan *s)
+{
+    Timer *timer = &d->row[number];
+    if (power) {
+        if (!timer->running) { timer->start = d->now; timer->done = 0; }
+        timer->running = 1;
+        timer->done = timer->done || d->now - timer->start >= timer->preset;
+    } else timer->running = timer->done = 0;
+    write_variable(t, timer->variable, timer->done, s);
+}
+
 /* -1 onward, else the label of a taken jump. */
-static int32_t run_rear(const uint32_t *w, size_t *at, int power, uint8_t *t, Scan *s)
+static int32_t run_rear(const uint32_t *w, size_t *at, int power, uint8_t *t, const Timers *d, Scan *s)
 {
     uint32_t word = w[(*at)++];
     switch (kind(word)) {
@@ -171,15 +209,16 @@ static int32_t run_rear(const uint32_t *w, size_t *at, int power, uint8_t *t, Sc
     case 8: return power ? -1 : (int32_t)operand(word);
     case 11: if (power) write_variable(t, operand(word), 1, s); return -1;
     case 12: if (power) write_variable(t, operand(word), 0, s); return -1;
-    case 9: { int f = front_value(w, at, t); return run_rear(w, at, power & f, t, s); }
-    default: { int32_t a = run_rear(w, at, power, t, s); return a >= 0 ? a : run_rear(w, at, power, t, s); }
+    case 13: work_timer(d, operand(word), power, t, s); return -1;
+    case 9: { int f = front_value(w, at, t); return run_rear(w, at, power & f, t, d, s); }
+    default: { int32_t a = run_rear(w, at, power, t, d, s); return a >= 0 ? a : run_rear(w, at, power, t, d, s); }
     }
 }
 
-static Scan ladder_scan(uint32_t vars, const uint32_t *w, size_t n, const Rung *r, size_t m, uint8_t *t, size_t bytes, uint32_t watchdog)
+static Scan ladder_scan(uint32_t vars, const uint32_t *w, size_t n, const Rung *r, size_t m, uint8_t *t, size_t bytes, uint32_t watchdog, const Timers *d)
 {
     Scan s = {YES, 0, 0, 0, 0};
-    s.no = ladder_asked(vars, w, n, r, m);
+    s.no = ladder_asked(vars, w, n, r, m, d);
     if (s.no.number) return s;
     s.no = table_asked(vars, t, bytes);
     if (s.no.number) return s;
@@ -191,18 +230,22 @@ static Scan ladder_scan(uint32_t vars, const uint32_t *w, size_t n, const Rung *
         s.rungs++;
         size_t at = r[rung].offset;
         int power = front_value(w, &at, t);
-        int32_t jump = run_rear(w, &at, power, t, &s);
+        int32_t jump = run_rear(w, &at, power, t, d, &s);
         rung = jump < 0 ? rung + 1 : search(r, m, (uint32_t)jump).place;
     }
 }
 
 /* ---- lists */
 
-enum { LD = 1, LDN, ST, STN, AND, ANDN, OR, ORN, XOR, XORN, NOT, JMP, JMPC, JMPCN, S, R };
+enum { LD = 1, LDN, ST, STN, AND, ANDN, OR, ORN, XOR, XORN, NOT, JMP, JMPC, JMPCN, S, R, TON, OPS = TON };
 
-static No list_asked(uint32_t vars, const uint32_t *c, size_t n, const Rung *r, size_t m)
+static int is_jump(uint32_t op) { return op >= JMP && op <= JMPCN; }
+
+static No list_asked(uint32_t vars, const uint32_t *c, size_t n, const Rung *r, size_t m, const Timers *d)
 {
     if (vars < 1 || vars > MOST_VARS) return no(1, 0);
+    No refused = timers_asked(vars, d);
+    if (refused.number) return refused;
     if (n < 1 || n > MOST_CODE || m < 1 || m > MOST_RUNGS) return no(10, 0);
     uint64_t start = 0;
     for (size_t i = 0; i < m; i++) {
@@ -210,12 +253,15 @@ static No list_asked(uint32_t vars, const uint32_t *c, size_t n, const Rung *r, 
         start += r[i].length;
     }
     if (start != n) return no(10, 0);
+    size_t timers = timers_there(d);
+    int missing = 0;
     for (size_t i = 0; i < n; i++) {
         uint32_t op = kind(c[i]), x = operand(c[i]);
-        if (op < 1 || op > R) return no(10, 0);
-        if (op <= XORN || op >= S ? x >= vars + SCRATCH : op == NOT ? x != 0 : x > n) return no(10, 0);
+        if (op < 1 || op > OPS) return no(10, 0);
+        if (op <= XORN || op == S || op == R ? x >= vars + SCRATCH : op == NOT ? x != 0 : op != TON && x > n) return no(10, 0);
+        if (op == TON && x >= timers) missing = 1;
     }
-    return YES;
+    return missing ? no(17, 0) : YES;
 }
 
 /* Writes a byte of the table; "Scratch bytes don't count." */
@@ -226,10 +272,10 @@ static void write_byte(uint32_t vars, uint8_t *t, uint32_t x, int value, Scan *s
 }
 
 /* "a list scan that isn't refused sets every field for that scan alone, and a refused one touches none" */
-static Scan list_scan(uint32_t vars, const uint32_t *c, size_t n, Rung *r, size_t m, uint8_t *t, size_t bytes, uint32_t watchdog)
+static Scan list_scan(uint32_t vars, const uint32_t *c, size_t n, Rung *r, size_t m, uint8_t *t, size_t bytes, uint32_t watchdog, const Timers *d)
 {
     Scan s = {YES, 0, 0, 0, 0};
-    s.no = list_asked(vars, c, n, r, m);
+    s.no = list_asked(vars, c, n, r, m, d);
     if (s.no.number) return s;
     s.no = table_asked(vars, t, bytes);
     if (s.no.number) return s;
@@ -262,6 +308,7 @@ static Scan list_scan(uint32_t vars, const uint32_t *c, size_t n, Rung *r, size_
         case JMPCN: if (!acc) to = x; break;
         case S: if (acc) write_byte(vars, t, x, 1, &s); break;
         case R: if (acc) write_byte(vars, t, x, 0, &s); break;
+        case TON: work_timer(d, x, acc, t, &s); break;
         }
         if (to != pc + 1) {
             size_t low = 0, high = m;
@@ -305,6 +352,7 @@ static size_t rear_code(const uint32_t *w, size_t at, uint32_t depth, Out *o)
     case 6: emit(o, STN, x); return at + 1;
     case 11: emit(o, S, x); return at + 1;
     case 12: emit(o, R, x); return at + 1;
+    case 13: emit(o, TON, x); return at + 1;
     case 7: case 8: emit(o, k == 7 ? JMPC : JMPCN, o->starts[search(o->rungs, o->m, x).place]); return at + 1;
     case 9: at = join_code(w, at + 1, AND, depth, o); return rear_code(w, at, depth, o);
     default:
@@ -321,7 +369,7 @@ static Translation translate(uint32_t vars, const uint32_t *w, size_t n, const R
 {
     Translation t = {YES, 0, 0, 0};
     uint32_t starts[MOST_RUNGS];
-    t.no = ladder_asked(vars, w, n, r, m);
+    t.no = ladder_asked(vars, w, n, r, m, NULL);
     if (t.no.number) return t;
     memset(starts, 0, sizeof starts);
     Out count = {code, 0, 0, vars, r, 0, starts};   /* counting needs no jump's rung, and has no record to search */
@@ -351,7 +399,6 @@ static Translation translate(uint32_t vars, const uint32_t *w, size_t n, const R
 enum { NAME_BYTES = 6 };
 
 static int is_capital(int b) { return b >= 'A' && b <= 'Z'; }
-static int is_jump(uint32_t op) { return op >= JMP && op <= JMPCN; }
 
 /* A name as one number, its first letter lowest; 0 where it is empty or "isn't capitals before zeros". */
 static uint64_t name_key(const uint8_t *name)
@@ -364,10 +411,10 @@ static uint64_t name_key(const uint8_t *name)
 }
 
 /* Question 14; keys gets the names' numbers. */
-static No names_asked(const uint8_t *names, size_t bytes, uint64_t keys[R])
+static No names_asked(const uint8_t *names, size_t bytes, uint64_t keys[OPS])
 {
-    if (bytes != R * NAME_BYTES) return no(14, 0);
-    for (size_t i = 0; i < R; i++) {
+    if (bytes != OPS * NAME_BYTES) return no(14, 0);
+    for (size_t i = 0; i < OPS; i++) {
         keys[i] = name_key(names + i * NAME_BYTES);
         if (keys[i] == 0) return no(14, 0);
         for (size_t j = 0; j < i; j++) if (keys[j] == keys[i]) return no(14, 0);
@@ -392,6 +439,7 @@ static void put_list(Lines *l, uint32_t vars, const uint32_t *c, const Rung *r, 
             if (op != NOT) {
                 put(l, ' ');
                 if (is_jump(op)) { put(l, '@'); put_number(l, x); }
+                else if (op == TON) { put(l, 'd'); put_number(l, x); }
                 else if (x < vars) { put(l, 'v'); put_number(l, x); }
                 else { put(l, 't'); put_number(l, x - vars); }
             }
@@ -405,10 +453,10 @@ typedef struct { No no; size_t bytes; } ListingDone;
 static ListingDone listing(uint32_t vars, const uint32_t *c, size_t n, const Rung *r, size_t m, uint8_t *out, size_t room, const uint8_t *names, size_t name_bytes)
 {
     ListingDone d = {YES, 0};
-    uint64_t keys[R];
+    uint64_t keys[OPS];
     d.no = names_asked(names, name_bytes, keys);
     if (d.no.number) return d;
-    d.no = list_asked(vars, c, n, r, m);
+    d.no = list_asked(vars, c, n, r, m, NULL);
     if (d.no.number) return d;
     Lines count = {out, 0, 0};
     put_list(&count, vars, c, r, m, names);
@@ -481,11 +529,11 @@ static void rear(Reader *p)
         while (!p->stuck && ((b = peek(p)) == 'c' || b == 'n' || b == '(')) { word(p, 9, 0); factor(p); take(p, '&'); }
         if (p->stuck) return;
         b = peek(p);
-        if (b == 'o' || b == 'q' || b == 'j' || b == 'k' || b == 's' || b == 'r') {
+        if (b == 'o' || b == 'q' || b == 'j' || b == 'k' || b == 's' || b == 'r' || b == 't') {
             p->at++;
             uint32_t x = number(p);
             if (p->stuck) return;
-            word(p, b == 'o' ? 5 : b == 'q' ? 6 : b == 'j' ? 7 : b == 'k' ? 8 : b == 's' ? 11 : 12, x);
+            word(p, b == 'o' ? 5 : b == 'q' ? 6 : b == 'j' ? 7 : b == 'k' ? 8 : b == 's' ? 11 : b == 'r' ? 12 : 13, x);
         } else if (b == '[') {
             if (!opens(p)) return;
             rear(p);
@@ -525,7 +573,7 @@ static ReadDone read_text(uint32_t vars, const uint8_t *text, size_t bytes, uint
         read_rungs[m].times = 0;
         m++;
     } while (p.at < bytes);
-    d.no = asked(vars, read_words, p.put, read_rungs, m, 0);
+    d.no = asked(vars, read_words, p.put, read_rungs, m, NULL, 0);
     if (d.no.number) return d;
     if (p.put > word_room || m > rung_room) { d.no = no(13, 0); return d; }
     memcpy(words, read_words, p.put * sizeof *words);
@@ -538,21 +586,21 @@ static ReadDone read_text(uint32_t vars, const uint8_t *text, size_t bytes, uint
 /* ---- the list reader: lines as Listing prints them, a label line first. A label line begins with L before a digit; no name has one. */
 
 /* The op whose name stands here. */
-static uint32_t op_named(Reader *p, const uint64_t keys[R])
+static uint32_t op_named(Reader *p, const uint64_t keys[OPS])
 {
     uint64_t key = 0;
     int b;
     for (int k = 0; k < NAME_BYTES && is_capital(b = peek(p)); k++) { key |= (uint64_t)b << 8 * k; p->at++; }
-    for (uint32_t op = LD; op <= R; op++) if (keys[op - 1] == key) return op;
+    for (uint32_t op = LD; op <= OPS; op++) if (keys[op - 1] == key) return op;
     p->stuck = 1;
     return 0;
 }
 
-/* "v below V, t below 32, and for each op only the sort of operand it takes" */
+/* "v below V, t below 32, and for each op only the sort of operand it takes"; a timer is "d with its number" */
 static uint32_t list_operand(Reader *p, uint32_t vars, uint32_t op)
 {
     int b = peek(p);
-    uint32_t limit = is_jump(op) ? (b == '@' ? 65536 : 0) : b == 'v' ? vars : b == 't' ? SCRATCH : 0;
+    uint32_t limit = is_jump(op) ? (b == '@' ? 65536 : 0) : op == TON ? (b == 'd' ? TIMER_NUMBERS : 0) : b == 'v' ? vars : b == 't' ? SCRATCH : 0;
     if (limit == 0) { p->stuck = 1; return 0; }
     p->at++;
     uint32_t x = number(p);
@@ -568,7 +616,7 @@ static int at_label(const Reader *p)
 }
 
 /* One line; rungs counts the records. Both counts end at one more than question 10 takes. */
-static void list_line(Reader *p, uint32_t vars, const uint64_t keys[R], size_t *rungs)
+static void list_line(Reader *p, uint32_t vars, const uint64_t keys[OPS], size_t *rungs)
 {
     if (at_label(p)) {
         p->at++;
@@ -588,7 +636,7 @@ static void list_line(Reader *p, uint32_t vars, const uint64_t keys[R], size_t *
 static Translation read_list(uint32_t vars, const uint8_t *text, size_t bytes, uint32_t *code, size_t code_room, Rung *out, size_t rung_room, const uint8_t *names, size_t name_bytes)
 {
     Translation t = {YES, 0, 0, 0};
-    uint64_t keys[R];
+    uint64_t keys[OPS];
     t.no = names_asked(names, name_bytes, keys);
     if (t.no.number) return t;
     if (vars < 1 || vars > MOST_VARS) { t.no = no(1, 0); return t; }
@@ -596,7 +644,7 @@ static Translation read_list(uint32_t vars, const uint8_t *text, size_t bytes, u
     size_t m = 0;
     do list_line(&p, vars, keys, &m); while (!p.stuck && p.at < bytes);
     if (p.stuck) { t.no = no(15, 0); return t; }
-    t.no = list_asked(vars, read_words, p.put, read_rungs, m);
+    t.no = list_asked(vars, read_words, p.put, read_rungs, m, NULL);
     if (t.no.number) return t;
     if (p.put > code_room || m > rung_room) { t.no = no(13, 0); return t; }
     memcpy(code, read_words, p.put * sizeof *code);
@@ -619,6 +667,7 @@ static uint32_t next(void)
 static uint32_t lent_words[20000], words[20000];
 static Rung lent_rungs[400], rungs[400];
 static uint8_t lent_bytes[70000], bytes[70000], names[120];
+static Timer lent_timers[40], timers[40];
 
 static size_t in_words(void) { size_t n = next(); for (size_t i = 0; i < n; i++) lent_words[i] = next(); return n; }
 static size_t in_bytes(uint8_t *to) { size_t n = next(); for (size_t i = 0; i < n; i++) to[i] = (uint8_t)next(); return n; }
@@ -633,6 +682,19 @@ static size_t in_rungs(void)
         lent_rungs[i].times = next();
     }
     return m;
+}
+
+static size_t in_timers(void)
+{
+    size_t k = next();
+    for (size_t i = 0; i < k; i++) {
+        lent_timers[i].preset = next();
+        lent_timers[i].start = next();
+        lent_timers[i].variable = (uint16_t)next();
+        lent_timers[i].running = (uint8_t)next();
+        lent_timers[i].done = (uint8_t)next();
+    }
+    return k;
 }
 
 static void fill(void)
@@ -664,6 +726,11 @@ static void out_rungs(size_t n)
 static void out_table(size_t n) { for (size_t i = 0; i < n; i++) printf(" %u", bytes[i]); }
 static void out_times(size_t m) { for (size_t i = 0; i < m; i++) printf(" %u", lent_rungs[i].times); }
 
+static void out_timers(size_t k)
+{
+    for (size_t i = 0; i < k; i++) printf(" %u %u %u %u %u", timers[i].preset, timers[i].start, timers[i].variable, timers[i].running, timers[i].done);
+}
+
 static void out_lines(size_t n)
 {
     size_t k = n;
@@ -684,12 +751,13 @@ int main(void)
     Scan s = {YES, 0, 0, 0, 0};
     ListingDone l = {YES, 0};
     Search f = {0, 0, 0};
+    Timers d = {timers, 0, 0};
     if (call == 1 || call == 7) { n = in_bytes(lent_bytes); a = next(); b = next(); }
     else if (call == 6) { m = in_rungs(); b = next(); }
     else {
         n = in_words();
         m = in_rungs();
-        if (call == 3 || call == 4) { a = in_bytes(lent_bytes); b = next(); }
+        if (call == 3 || call == 4) { a = in_bytes(lent_bytes); b = next(); d.count = in_timers(); d.now = next(); }
         else { a = next(); if (call == 2) b = next(); }
     }
     if (call == 5 || call == 7) name_bytes = in_bytes(names);
@@ -703,7 +771,8 @@ int main(void)
         else if (call == 7) t = read_list(vars, lent_bytes, n, words, a, rungs, b, names, name_bytes);
         else {
             memcpy(bytes, lent_bytes, a);
-            s = call == 3 ? ladder_scan(vars, lent_words, n, lent_rungs, m, bytes, a, (uint32_t)b) : list_scan(vars, lent_words, n, lent_rungs, m, bytes, a, (uint32_t)b);
+            memcpy(timers, lent_timers, d.count * sizeof *timers);
+            s = call == 3 ? ladder_scan(vars, lent_words, n, lent_rungs, m, bytes, a, (uint32_t)b, &d) : list_scan(vars, lent_words, n, lent_rungs, m, bytes, a, (uint32_t)b, &d);
         }
     }
     double end = now();
@@ -720,6 +789,7 @@ int main(void)
     else if (call == 5) out_lines(a);
     else out_table(a);
     if (call == 4) out_times(m);
+    if (call == 3 || call == 4) out_timers(d.count);
     printf("\n");
     fprintf(stderr, "%.1f\n", turns ? (end - begin) / turns : 0.0);
     return 0;

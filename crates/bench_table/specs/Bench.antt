@@ -3,31 +3,32 @@
 -- theirs is the number of rungs that they enter, so that a watchdog asked before the end would show. J stands below the table, and so do the latches,
 -- sums and times entered of document 02, Req 01, 02 and 04, through the same definitions. Assumes nothing.
 use mathlib.Core.Path.{_≡_, refl}
-use mathlib.Core.Bool.{xor}
+use mathlib.Core.Bool.{Bool, true, false, xor}
 use mathlib.Core.Option.{Option, none, some}
 use mathlib.Core.List.{List, [], _∷_, _++_, map, zipWith, flatMap}
 use Prim.Native.Nat.{ℕ, _-_}
 use lib.ListN.{length, replicate, take}
-use Rattle.questions.specs.Tests.{all, firstFailed}
+use Rattle.questions.specs.Tests.{all, firstFailed, different}
 use Rattle.questions.specs.Bytes.{bytes}
 use Rattle.questions.specs.Questions.{ask, askEach, firstNo, varsInRange, question1, question2, question12, longEnough, question13}
-use Rattle.table.specs.State.{stateOf, scratchBytes, valueAt, value, writtenAt, turns, write, writeIf}
+use Rattle.table.specs.State.{stateOf, scratchBytes, valueAt, value, writtenAt, turns, write, writeIf, setTimer, runTimer}
 use Rattle.table.specs.Halt.{Halt, Ended, Stopped}
-use Rattle.table.specs.Questions.{tableInRange, question11}
+use Rattle.table.specs.Questions.{tableInRange, question11, timersInRange, question16}
+use Rattle.table.specs.Timer.{Timer, elapsed, started, tested, powered}
 use Rattle.rungs.specs.Records.{RungRecord, laid, lay, search, present, startOf, isStart, enter, longest, fieldsOf, rowOf}
 use Rattle.rungs.specs.Buffers.{Buffers, buffers, asBuffers, needs, written, writtenOver, writtenWords, writtenRecords}
 use Rattle.ladder_definitions.specs.Tree.{frontAll, rearAll, rungAll, inputVariable, outputNames, number}
 use Rattle.ladder_definitions.specs.Meaning.{scanLadder, scanFrom, runRung, runRear, runOutput, workFront, workInput, jumpIf, unlessJumped, from, follow, left}
 use Rattle.ladder_definitions.specs.Entries.{entriesFrom, rungsEntered, occurrences, timesEntered}
 use Rattle.ladder_definitions.specs.Kept.{Kept, inputKind, outputKind, inputWord, outputWord, frontWords, rearWords, rungWords, encode, putInput, putFront, putOutput, putRearAnd, putRearOr, kinds, decodeWords, oneRung, decodeRung, decodeFrom, decode}
-use Rattle.ladder_definitions.specs.Questions.{ladderOf, holdsLadder, question4, sizesInRange, question5, inputBelow, outputBelow, question6, newLabels, question7, outputLeads, question8, joinScratch, frontScratch, rearScratch, rungScratch, scratchInRange, question9, namedBelow, namedLeads, ladderQuestions, ladderAnswer}
+use Rattle.ladder_definitions.specs.Questions.{question17, timersKnown, outputTimed, namedTimed, ladderOf, holdsLadder, question4, sizesInRange, question5, inputBelow, outputBelow, question6, newLabels, question7, outputLeads, question8, joinScratch, frontScratch, rearScratch, rungScratch, scratchInRange, question9, namedBelow, namedLeads, formQuestions, ladderQuestions, ladderAnswer}
 use Rattle.ladder_definitions.specs.LadderScan.{callLadderScan, scanned, refused, scanEnds as ladderScanEnds, scanQuestions as ladderScanQuestions}
 use Rattle.text_grammar.specs.Reader.{mapP, bind, followed, digitOf, digitsFrom, numeralOf, chain, termBy, frontBy, factorBy, factorOf, termOf, frontOf, opensFactor, branchBy, rearBy, outputAt, endBy, endOf, rearOf, lineOf, linesOf, textOf}
 use Rattle.text_grammar.specs.Questions.{question3}
 use Rattle.text_definitions.specs.Read.{readText, kept, writtenKept, textLadder, refused as readRefused}
 use Rattle.list_definitions.specs.Instruction.{Instr, LD, LDN, ST, AND, ANDN, OR, JMPC, operand, opOf, operandNumber, onlyNot, ops, instrWord, decodeInstr, decodeCode, codeOf}
 use Rattle.list_definitions.specs.Machine.{scanList, scanMachine, begin, fresh, step, count, does, halted}
-use Rattle.list_definitions.specs.Questions.{operandInRange, wordInRange, recordsLaid, listInRange, question10}
+use Rattle.list_definitions.specs.Questions.{operandInRange, wordInRange, recordsLaid, listInRange, question10, question17 as listQuestion17, timersKnown as listTimersKnown, operandTimed}
 use Rattle.list_definitions.specs.ListScan.{listOf, callListScan, scanned as listScanned, refused as listRefused, scanEnds as listScanEnds, scanQuestions as listScanQuestions}
 use Rattle.translation_definitions.specs.Translate.{F, R, join, outputCode, rungCode, listRecords, translate}
 use Rattle.translation_definitions.specs.BothScans.{instructionWatchdog}
@@ -115,7 +116,7 @@ variablesOf r bytes = take (length (r .before)) bytes
 -- List scan, after Ladder scan gave x and Translate wrote a list with its counts
 byListScan : Row → Scan → Counts → List ℕ → List RungRecord → Outcome
 byListScan r x counts words records =
-    let c = callListScan (length (r .before)) words records (start r) (instructionWatchdog (x .halt) (x .rungs) (counts .longest) (r .watchdog)) in
+    let c = callListScan (length (r .before)) words records (start r) [] 0 (instructionWatchdog (x .halt) (x .rungs) (counts .longest) (r .watchdog)) in
     elim (c .answer) [
       | listRefused refusal ↦ refusedAt (refusal .number) (refusal .place)
       | listScanned halt n ↦ scans x (record { halt = halt; rungs = n .rungs; moved = n .moved; variables = variablesOf r (c .table) })
@@ -134,7 +135,7 @@ byTranslate r x k =
 -- Ladder scan, after Read wrote a kept ladder
 byLadderScan : Row → Kept → Outcome
 byLadderScan r k =
-    let c = callLadderScan (length (r .before)) k (start r) (r .watchdog) in
+    let c = callLadderScan (length (r .before)) k (start r) [] 0 (r .watchdog) in
     elim (c .answer) [
       | refused refusal ↦ refusedAt (refusal .number) (refusal .place)
       | scanned halt n ↦ byTranslate r (record { halt = halt; rungs = n .rungs; moved = n .moved; variables = variablesOf r (c .table) }) k
@@ -213,11 +214,11 @@ asSaid rows = map (λ r. asFar (run r) (r .outcome)) rows ≡ map (λ (r : Row).
 
 all-tables : asSaid table × asSaid latches × asSaid moves
 unfolding asSaid table listA outcomeA latches latchList latched moves stoppedA run asFar start room instructionWatchdog variablesOf byListScan byTranslate byLadderScan bytes
-    all firstFailed ask askEach firstNo varsInRange question1 question2 question3 question4 question5 question6 question7 question8 question9 question10 question11 question12 question13 longEnough
+    all firstFailed ask askEach firstNo varsInRange question1 question2 question3 question4 question5 question6 question7 question8 question9 question10 question11 question12 question13 question16 question17 listQuestion17 timersInRange different timersKnown listTimersKnown outputTimed namedTimed operandTimed longEnough
     valueAt value writtenAt turns write writeIf xor tableInRange laid lay search present startOf isStart enter longest fieldsOf rowOf asBuffers needs written writtenOver writtenWords writtenRecords zipWith flatMap
     frontAll rearAll rungAll scanLadder scanFrom runRung runRear runOutput workFront workInput jumpIf unlessJumped from follow left
     inputKind inputVariable inputWord outputKind outputNames number outputWord frontWords rearWords rungWords encode putInput putFront putOutput putRearAnd putRearOr kinds decodeWords oneRung decodeRung decodeFrom decode
-    ladderOf holdsLadder sizesInRange inputBelow namedBelow outputBelow newLabels namedLeads outputLeads joinScratch frontScratch rearScratch rungScratch scratchInRange ladderQuestions ladderAnswer callLadderScan ladderScanQuestions ladderScanEnds
+    ladderOf holdsLadder sizesInRange inputBelow namedBelow outputBelow newLabels namedLeads outputLeads joinScratch frontScratch rearScratch rungScratch scratchInRange formQuestions ladderQuestions ladderAnswer callLadderScan ladderScanQuestions ladderScanEnds
     mapP bind followed digitOf digitsFrom numeralOf chain termBy frontBy factorBy factorOf termOf frontOf opensFactor branchBy rearBy outputAt endBy endOf rearOf lineOf linesOf textOf
     readText writtenKept textLadder operand opOf operandNumber onlyNot ops instrWord decodeInstr decodeCode codeOf scanList scanMachine begin fresh step count does halted
     operandInRange wordInRange recordsLaid listInRange listOf callListScan listScanQuestions listScanEnds F R join outputCode rungCode listRecords translate countsOf listWritten translateKept
@@ -267,19 +268,82 @@ entered r =
     let vars = length (r .before) in
     let gs = textLadder (r .text) in
     let list = translate vars gs in (
-      timesEntered gs (r .rungWatchdog) (stateOf vars table),
-      callListScan vars (map instrWord (list .code)) (list .records) table (r .watchdog) .times (replicate (length gs) 7),
+      timesEntered gs (r .rungWatchdog) (stateOf vars table [] 0),
+      callListScan vars (map instrWord (list .code)) (list .records) table [] 0 (r .watchdog) .times (replicate (length gs) 7),
     )
 
 -- And every field.
 entries-worked : map entered entries ≡ map (λ (r : Entries). (r .ladder, r .list)) entries
 unfolding entries entered bytes
-    all ask firstNo varsInRange question1 question10 question11 question12 valueAt value writtenAt turns write writeIf xor tableInRange laid lay search startOf isStart enter zipWith flatMap
+    all ask firstNo varsInRange question1 question10 question11 question12 question16 listQuestion17 timersInRange different listTimersKnown operandTimed valueAt value writtenAt turns write writeIf xor tableInRange laid lay search startOf isStart enter zipWith flatMap
     runRung runRear runOutput workFront workInput jumpIf unlessJumped from follow left entriesFrom rungsEntered occurrences timesEntered number
     mapP bind followed digitOf digitsFrom numeralOf chain termBy frontBy factorBy factorOf termOf frontOf opensFactor branchBy rearBy outputAt endBy endOf rearOf lineOf linesOf textOf textLadder
     operand opOf operandNumber onlyNot ops instrWord decodeInstr decodeCode codeOf scanList scanMachine begin fresh step count does halted
     operandInRange wordInRange recordsLaid listInRange listOf callListScan listScanQuestions listScanEnds F R join outputCode rungCode listRecords translate
 entries-worked = refl
+
+-- ---- document 02, Req 06
+
+-- scans in turn, at these ticks, on the table and with the timer records that the one before left, v0 as given before each: the variables and the records after
+record Ticked : Type 0 where
+  tick : ℕ
+  input : Bool
+  variables : List ℕ
+  timers : List Timer
+
+timer : ℕ → ℕ → ℕ → ℕ → ℕ → Timer
+timer preset start variable running done = record { preset = preset; start = start; variable = variable; running = running; done = done }
+
+-- 10:c0>t0 20:c1>o2, a dispatch that waits three ticks, begun four ticks before the wrap at 2^32: power comes, is lost, comes back and holds across the wrap
+dispatch : List Ticked
+dispatch =
+    record { tick = 4294967292; input = true; variables = 1 ∷ 0 ∷ 0 ∷ []; timers = timer 3 4294967292 1 1 0 ∷ [] }
+    ∷ record { tick = 4294967293; input = false; variables = 0 ∷ 0 ∷ 0 ∷ []; timers = timer 3 4294967292 1 0 0 ∷ [] }
+    ∷ record { tick = 4294967294; input = true; variables = 1 ∷ 0 ∷ 0 ∷ []; timers = timer 3 4294967294 1 1 0 ∷ [] }
+    ∷ record { tick = 0; input = true; variables = 1 ∷ 0 ∷ 0 ∷ []; timers = timer 3 4294967294 1 1 0 ∷ [] }
+    ∷ record { tick = 1; input = true; variables = 1 ∷ 1 ∷ 1 ∷ []; timers = timer 3 4294967294 1 1 1 ∷ [] }
+    ∷ record { tick = 9; input = false; variables = 0 ∷ 0 ∷ 0 ∷ []; timers = timer 3 4294967294 1 0 0 ∷ [] }
+    ∷ []
+
+-- the variables and timer records that a call left, from those that it was lent
+record Left : Type 0 where
+  table : List ℕ
+  timers : List Timer
+
+inTurn : (ℕ → List ℕ → List Timer → Left) → List ℕ → List Timer → List Ticked → List (List ℕ × List Timer)
+inTurn call table timers [] = []
+inTurn call table timers (s ∷ later) =
+    let left = call (s .tick) (writtenAt table 0 (s .input)) timers in
+    (take 3 (left .table), left .timers) ∷ inTurn call (left .table) (left .timers) later
+
+keptDispatch : Kept
+keptDispatch = encode (textLadder (bytes "10:c0>t0\n20:c1>o2\n"))
+
+byLadder : ℕ → List ℕ → List Timer → Left
+byLadder now table timers = let c = callLadderScan 3 keptDispatch table timers now 2 in record { table = c .table; timers = c .timers }
+
+byList : ℕ → List ℕ → List Timer → Left
+byList now table timers =
+    let list = translate 3 (ladderOf keptDispatch) in
+    let c = callListScan 3 (map instrWord (list .code)) (list .records) table timers now 4 in
+    record { table = c .table; timers = c .timers }
+
+expected : List (List ℕ × List Timer)
+expected = map (λ (s : Ticked). (s .variables, s .timers)) dispatch
+
+-- And every tick, by ladder and list.
+dispatch-worked : (inTurn byLadder (replicate 35 0) (timer 3 0 1 0 0 ∷ []) dispatch ≡ expected) × (inTurn byList (replicate 35 0) (timer 3 0 1 0 0 ∷ []) dispatch ≡ expected)
+unfolding dispatch expected inTurn keptDispatch byLadder byList timer bytes
+    all firstFailed ask askEach firstNo varsInRange question1 question4 question5 question6 question7 question8 question9 question10 question11 question12 question16 question17 listQuestion17
+    timersInRange different timersKnown listTimersKnown outputTimed namedTimed operandTimed valueAt value writtenAt turns write writeIf setTimer runTimer elapsed started tested powered xor tableInRange
+    laid lay search present startOf isStart enter zipWith flatMap scanLadder scanFrom runRung runRear runOutput workFront workInput jumpIf unlessJumped from follow left
+    frontAll rearAll rungAll inputKind inputVariable inputWord outputKind outputNames number outputWord frontWords rearWords rungWords encode putInput putFront putOutput putRearAnd putRearOr
+    kinds decodeWords oneRung decodeRung decodeFrom decode ladderOf holdsLadder sizesInRange inputBelow namedBelow outputBelow newLabels namedLeads outputLeads joinScratch frontScratch rearScratch rungScratch
+    scratchInRange formQuestions callLadderScan ladderScanQuestions ladderScanEnds
+    mapP bind followed digitOf digitsFrom numeralOf chain termBy frontBy factorBy factorOf termOf frontOf opensFactor branchBy rearBy outputAt endBy endOf rearOf lineOf linesOf textOf textLadder
+    operand opOf operandNumber onlyNot ops instrWord decodeInstr decodeCode codeOf scanList scanMachine begin fresh step count does halted
+    operandInRange wordInRange recordsLaid listInRange listOf callListScan listScanQuestions listScanEnds F R join outputCode rungCode listRecords translate
+dispatch-worked = (refl, refl)
 
 -- J, of so many contacts: 0:c0&c0& .. &c0>o0
 textJ : ℕ → List ℕ

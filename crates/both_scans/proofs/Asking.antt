@@ -8,59 +8,85 @@ use mathlib.Core.List.{List, [], _∷_, _++_}
 use lib.Dec.{leb}
 use lib.ListN.{length}
 use borrow.Author.Tests.{eq-eqb, ne-eqb}
-use Rattle.questions.specs.Questions.{Answer, ask, firstNo, question12, question13, mostRungWatchdog, mostInstructionWatchdog}
+use Rattle.questions.specs.Questions.{Answer, ask, firstNo, question12, question13, mostInstructionWatchdog}
 use Rattle.questions.specs.Refusals.{refusalOf, verdictAnswer}
-use Rattle.questions.specs.Laws.Answers.{first-yes, later-yes, first-append, in-range-watchdog}
+use Rattle.questions.specs.Laws.Answers.{first-yes, first-append, in-range-watchdog}
 use Rattle.questions.specs.declared.Refusal.{Refusal as RefusalCase}
-use Rattle.questions.specs.declared.Refusal.the-variants.{Table, Watchdog}
+use Rattle.questions.specs.declared.Refusal.the-variants.{Table, Watchdog, Timers}
 use Rattle.questions.specs.declared.Verdict.the-variants.{Accepted, Refused}
-use Rattle.table.specs.State.{stateOf}
-use Rattle.table.specs.Questions.{question11, tableInRange}
+use Rattle.table.specs.TimerRecords.{numberTimers}
 use Rattle.rungs.specs.Buffers.{needs}
 use Rattle.ladder_definitions.specs.Kept.{Kept}
-use Rattle.ladder_definitions.specs.Questions.{ladderOf, ladderAnswer}
+use Rattle.ladder_definitions.specs.Questions.{ladderOf}
+use Rattle.ladder_definitions.specs.LadderScan.{scanQuestions}
+use Rattle.ladder_definitions.specs.Laws.Accepting.{scan-passed}
 use Rattle.translation_definitions.specs.Translate.{translate}
 use Rattle.translation_definitions.specs.TranslateKept.{listBuffers}
-use Rattle.translation_definitions.specs.BothScans.{Lent, copyQuestion, tablesQuestions, bothQuestions, pairedWatchdog}
-use Rattle.translation_definitions.specs.Laws.Boths.{ladder-before, paired-legal}
-use Rattle.both_scans.specs.Parts.{bothAsked, askedWatchdog, chosenWatchdog}
+use Rattle.translation_definitions.specs.BothScans.{Lent, copyQuestion, copyQuestions, bothQuestions, pairedWatchdog}
+use Rattle.translation_definitions.specs.Laws.Boths.{paired-legal}
+use Rattle.both_scans.specs.Parts.{Lengths, copyLengths, bothAsked, askedWatchdog, chosenWatchdog}
 use Rattle.both_scans.specs.declared.ListWatchdog.{ListWatchdog}
 use Rattle.both_scans.specs.declared.ListWatchdog.the-variants.{Given, Paired}
 
 -- ---- the first "no"
 
-module _ (vars : ℕ) (k : Kept) (table : List ℕ) (lb sb n w : ℕ) where
-  pub asked-refused : (x : RefusalCase) → ladderAnswer vars k ≡ some (refusalOf x) → verdictAnswer (Refused x) ≡ bothAsked vars k table lb sb n w
+module _ (vars : ℕ) (k : Kept) (table timers : List ℕ) (m : Lengths) (n w : ℕ) where
+  pub asked-refused : (x : RefusalCase) → scanQuestions vars k table (numberTimers timers) n ≡ some (refusalOf x) → verdictAnswer (Refused x) ≡ bothAsked vars k table timers m n w
   unfolding bothAsked firstNo verdictAnswer
   asked-refused x e = rw e refl
 
-  module _ (ok : ladderAnswer vars k ≡ none) where
-    pub asked-table : tableInRange (stateOf vars table) ≡ false → verdictAnswer (Refused Table) ≡ bothAsked vars k table lb sb n w
-    unfolding bothAsked firstNo verdictAnswer question11 ask refusalOf
-    asked-table e = rw (ok, e) refl
+  module _ (ok : scanQuestions vars k table (numberTimers timers) n ≡ none) where
+    pub asked-ladder-timers : (m .ladderNumbers ≡ length timers → ⊥) → verdictAnswer (Refused Timers) ≡ bothAsked vars k table timers m n w
+    unfolding bothAsked firstNo verdictAnswer copyQuestion ask refusalOf
+    asked-ladder-timers h = rw (ok, ne-eqb (m .ladderNumbers) (length timers) h) refl
 
-    module _ (legal : tableInRange (stateOf vars table) ≡ true) where
-      pub asked-ladder-copy : (lb ≡ length table → ⊥) → verdictAnswer (Refused Table) ≡ bothAsked vars k table lb sb n w
-      unfolding bothAsked firstNo verdictAnswer question11 copyQuestion ask refusalOf
-      asked-ladder-copy h = rw (ok, legal, ne-eqb lb (length table) h) refl
+    module _ (first : m .ladderNumbers ≡ length timers) where
+      pub asked-list-timers : (m .listNumbers ≡ length timers → ⊥) → verdictAnswer (Refused Timers) ≡ bothAsked vars k table timers m n w
+      unfolding bothAsked firstNo verdictAnswer copyQuestion ask refusalOf
+      asked-list-timers h = rw (ok, eq-eqb (m .ladderNumbers) (length timers) first, ne-eqb (m .listNumbers) (length timers) h) refl
 
-      module _ (first : lb ≡ length table) where
-        pub asked-list-copy : (sb ≡ length table → ⊥) → verdictAnswer (Refused Table) ≡ bothAsked vars k table lb sb n w
-        unfolding bothAsked firstNo verdictAnswer question11 copyQuestion ask refusalOf
-        asked-list-copy h = rw (ok, legal, eq-eqb lb (length table) first, ne-eqb sb (length table) h) refl
+      module _ (second : m .listNumbers ≡ length timers) where
+        pub asked-ladder-copy : (m .ladderBytes ≡ length table → ⊥) → verdictAnswer (Refused Table) ≡ bothAsked vars k table timers m n w
+        unfolding bothAsked firstNo verdictAnswer copyQuestion ask refusalOf
+        asked-ladder-copy h =
+            rw (ok, eq-eqb (m .ladderNumbers) (length timers) first, eq-eqb (m .listNumbers) (length timers) second, ne-eqb (m .ladderBytes) (length table) h) refl
 
-        module _ (second : sb ≡ length table) where
-          pub asked-rungs : leb n mostRungWatchdog ≡ false → verdictAnswer (Refused Watchdog) ≡ bothAsked vars k table lb sb n w
-          unfolding bothAsked firstNo verdictAnswer question11 copyQuestion question12 ask refusalOf
-          asked-rungs h = rw (ok, legal, eq-eqb lb (length table) first, eq-eqb sb (length table) second, h) refl
+        module _ (third : m .ladderBytes ≡ length table) where
+          pub asked-list-copy : (m .listBytes ≡ length table → ⊥) → verdictAnswer (Refused Table) ≡ bothAsked vars k table timers m n w
+          unfolding bothAsked firstNo verdictAnswer copyQuestion ask refusalOf
+          asked-list-copy h =
+              rw (
+                ok,
+                eq-eqb (m .ladderNumbers) (length timers) first,
+                eq-eqb (m .listNumbers) (length timers) second,
+                eq-eqb (m .ladderBytes) (length table) third,
+                ne-eqb (m .listBytes) (length table) h,
+              ) refl
 
-          pub asked-instructions : leb n mostRungWatchdog ≡ true → leb w mostInstructionWatchdog ≡ false → verdictAnswer (Refused Watchdog) ≡ bothAsked vars k table lb sb n w
-          unfolding bothAsked firstNo verdictAnswer question11 copyQuestion question12 ask refusalOf
-          asked-instructions h g = rw (ok, legal, eq-eqb lb (length table) first, eq-eqb sb (length table) second, h, g) refl
+          module _ (fourth : m .listBytes ≡ length table) where
+            pub asked-instructions : leb w mostInstructionWatchdog ≡ false → verdictAnswer (Refused Watchdog) ≡ bothAsked vars k table timers m n w
+            unfolding bothAsked firstNo verdictAnswer copyQuestion question12 ask refusalOf
+            asked-instructions g =
+                rw (
+                  ok,
+                  eq-eqb (m .ladderNumbers) (length timers) first,
+                  eq-eqb (m .listNumbers) (length timers) second,
+                  eq-eqb (m .ladderBytes) (length table) third,
+                  eq-eqb (m .listBytes) (length table) fourth,
+                  g,
+                ) refl
 
-          pub asked-accepted : leb n mostRungWatchdog ≡ true → leb w mostInstructionWatchdog ≡ true → verdictAnswer Accepted ≡ bothAsked vars k table lb sb n w
-          unfolding bothAsked firstNo verdictAnswer question11 copyQuestion question12 ask
-          asked-accepted h g = rw (ok, legal, eq-eqb lb (length table) first, eq-eqb sb (length table) second, h, g) refl
+            pub asked-accepted : leb w mostInstructionWatchdog ≡ true → verdictAnswer Accepted ≡ bothAsked vars k table timers m n w
+            unfolding bothAsked firstNo verdictAnswer copyQuestion question12 ask
+            asked-accepted g =
+                rw (
+                  ok,
+                  eq-eqb (m .ladderNumbers) (length timers) first,
+                  eq-eqb (m .listNumbers) (length timers) second,
+                  eq-eqb (m .ladderBytes) (length table) third,
+                  eq-eqb (m .listBytes) (length table) fourth,
+                  g,
+                ) refl
 
 -- ---- every question in order, 13 last
 
@@ -70,40 +96,36 @@ unfolding firstNo
 exchanged none a b later e f = rw (e, f refl) refl
 exchanged (some r) a b later e f = refl
 
-module _ (vars : ℕ) (k : Kept) (table : List ℕ) (lent : Lent) (n : ℕ) where
+-- how many numbers and bytes the copies were lent
+abbrev pub lent-lengths : Lent → Lengths
+lent-lengths lent = copyLengths (length (lent .ladderTimers)) (length (lent .listTimers)) (length (lent .ladderTable)) (length (lent .listTable))
+
+module _ (vars : ℕ) (k : Kept) (table timers : List ℕ) (now : ℕ) (lent : Lent) (n : ℕ) where
   abbrev early : List Answer
-  early = ladderAnswer vars k ∷ tablesQuestions vars table (length (lent .ladderTable)) (length (lent .listTable)) ++ question12 mostRungWatchdog n ∷ []
+  early =
+      scanQuestions vars k table (numberTimers timers) n
+      ∷ copyQuestions table timers (length (lent .ladderTimers)) (length (lent .listTimers)) (length (lent .ladderTable)) (length (lent .listTable))
 
   abbrev pub room : Answer
   room = question13 (needs (listBuffers (translate vars (ladderOf k))) (lent .buffers))
 
-  by-asked : (w : ℕ) → firstNo (bothQuestions vars k table lent n w)
-      ≡ firstNo (bothAsked vars k table (length (lent .ladderTable)) (length (lent .listTable)) n w ∷ room ∷ [])
-  unfolding bothAsked
-  by-asked w =
-      ladder-before vars k table lent n w
-      ∙ first-append (ladderAnswer vars k ∷ tablesQuestions vars table (length (lent .ladderTable)) (length (lent .listTable))
-      ++ question12 mostRungWatchdog n ∷ question12 mostInstructionWatchdog w ∷ []) (room ∷ [])
+  by-asked : (w : ℕ) → firstNo (bothQuestions vars k table timers lent n w) ≡ firstNo (bothAsked vars k table timers (lent-lengths lent) n w ∷ room ∷ [])
+  unfolding bothQuestions bothAsked
+  by-asked w = first-append (early ++ question12 mostInstructionWatchdog w ∷ []) (room ∷ [])
 
-  early-legal : firstNo early ≡ none → question12 mostInstructionWatchdog (pairedWatchdog vars k table n) ≡ none
-  early-legal e =
-      let e1 = later-yes _ _ e in
-      let e2 = later-yes _ _ e1 in
-      let e3 = later-yes _ _ e2 in
-      let e4 = later-yes _ _ e3 in
-      paired-legal vars k table n (first-yes _ _ e) (first-yes _ _ e4)
+  early-legal : firstNo early ≡ none → question12 mostInstructionWatchdog (pairedWatchdog vars k table timers now n) ≡ none
+  early-legal e = let p = scan-passed vars k table (numberTimers timers) n (first-yes _ _ e) in paired-legal vars k table timers now n (p .accepted) (p .watchdog)
 
-  paired-asked : bothAsked vars k table (length (lent .ladderTable)) (length (lent .listTable)) n (pairedWatchdog vars k table n)
-      ≡ bothAsked vars k table (length (lent .ladderTable)) (length (lent .listTable)) n 0
+  paired-asked : bothAsked vars k table timers (lent-lengths lent) n (pairedWatchdog vars k table timers now n) ≡ bothAsked vars k table timers (lent-lengths lent) n 0
   unfolding bothAsked
   paired-asked =
-      first-append early (question12 mostInstructionWatchdog (pairedWatchdog vars k table n) ∷ [])
-      ∙ exchanged (firstNo early) (question12 mostInstructionWatchdog 0) (question12 mostInstructionWatchdog (pairedWatchdog vars k table n)) []
+      first-append early (question12 mostInstructionWatchdog (pairedWatchdog vars k table timers now n) ∷ [])
+      ∙ exchanged (firstNo early) (question12 mostInstructionWatchdog 0) (question12 mostInstructionWatchdog (pairedWatchdog vars k table timers now n)) []
       (in-range-watchdog mostInstructionWatchdog 0 (omega arith)) early-legal
       ∙ sym (first-append early (question12 mostInstructionWatchdog 0 ∷ []))
 
-  pub asked-all : (watchdog : ListWatchdog) → firstNo (bothQuestions vars k table lent n (chosenWatchdog watchdog vars k table n))
-      ≡ firstNo (bothAsked vars k table (length (lent .ladderTable)) (length (lent .listTable)) n (askedWatchdog watchdog) ∷ room ∷ [])
+  pub asked-all : (watchdog : ListWatchdog) → firstNo (bothQuestions vars k table timers lent n (chosenWatchdog watchdog vars k table timers now n))
+      ≡ firstNo (bothAsked vars k table timers (lent-lengths lent) n (askedWatchdog watchdog) ∷ room ∷ [])
   unfolding chosenWatchdog askedWatchdog
   asked-all (Given w) = by-asked w
-  asked-all Paired = by-asked (pairedWatchdog vars k table n) ∙ ap (λ a. firstNo (a ∷ room ∷ [])) paired-asked
+  asked-all Paired = by-asked (pairedWatchdog vars k table timers now n) ∙ ap (λ a. firstNo (a ∷ room ∷ [])) paired-asked

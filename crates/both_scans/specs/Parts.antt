@@ -4,18 +4,18 @@ use mathlib.Core.Path.{_≡_}
 use mathlib.Core.Bool.{true, false}
 use mathlib.Core.List.{List, [], _∷_, _++_}
 use lib.ListN.{length, take, drop}
-use Rattle.questions.specs.Questions.{Answer, firstNo, question12, mostRungWatchdog, mostInstructionWatchdog}
+use Rattle.questions.specs.Questions.{Answer, firstNo, question12, mostInstructionWatchdog}
+use Rattle.table.specs.TimerRecords.{numberTimers}
 use Rattle.table.specs.Halt.{Halt}
 use Rattle.rungs.specs.Records.{RungRecord}
 use Rattle.ladder_definitions.specs.Kept.{Kept}
-use Rattle.ladder_definitions.specs.Questions.{ladderAnswer}
-use Rattle.ladder_definitions.specs.LadderScan.{callLadderScan, LadderScanDone}
+use Rattle.ladder_definitions.specs.LadderScan.{scanQuestions, callLadderScan, LadderScanNumbers}
 use Rattle.ladder_definitions.specs.declared.LadderScanned.{LadderScanned}
 use Rattle.ladder_definitions.specs.declared.LadderScanned.the-variants.{Ended as LadderEnded, Stopped as LadderStopped, Refused as LadderRefused}
-use Rattle.list_definitions.specs.ListScan.{callListScan, ListScanDone}
+use Rattle.list_definitions.specs.ListScan.{callListScan, ListScanNumbers}
 use Rattle.list_definitions.specs.declared.ListScanned.{ListScanned}
 use Rattle.list_definitions.specs.declared.ListScanned.the-variants.{Ended as ListEnded, Stopped as ListStopped, Refused as ListRefused}
-use Rattle.translation_definitions.specs.BothScans.{tablesQuestions, haltOf, instructionWatchdog, pairedWatchdog}
+use Rattle.translation_definitions.specs.BothScans.{copyQuestions, haltOf, instructionWatchdog, pairedWatchdog}
 use Rattle.translation_definitions.specs.declared.Counts.{Counts as CountsStruct}
 use Rattle.translation_definitions.specs.declared.BothEnds.{BothEnds as EndsStruct}
 use Rattle.both_scans.specs.declared.ListWatchdog.{ListWatchdog}
@@ -23,14 +23,28 @@ use Rattle.both_scans.specs.declared.ListWatchdog.the-variants.{Given, P
 use Rattle.both_scans.specs.declared.LadderEnd.{LadderEnd}
 use Rattle.both_scans.specs.declared.ListEnd.{ListEnd}
 
--- the table copied to the start of a lent one, as far as that reaches
+-- a slice copied to the start of a lent one, as far as that reaches
 unfoldable pub copied : List ℕ → List ℕ → List ℕ
-copied table lent = take (length lent) table ++ drop (length table) lent
+copied from lent = take (length lent) from ++ drop (length from) lent
 
--- the questions before 13, over the lengths of the two lent tables
-unfoldable pub bothAsked : ℕ → Kept → List ℕ → ℕ → ℕ → ℕ → ℕ → Answer
-bothAsked vars k table ladderBytes listBytes n w =
-    firstNo (ladderAnswer vars k ∷ tablesQuestions vars table ladderBytes listBytes ++ question12 mostRungWatchdog n ∷ question12 mostInstructionWatchdog w ∷ [])
+-- how many numbers and bytes the copies are lent
+pub record Lengths : Type 0 where
+  pub ladderNumbers : ℕ
+  pub listNumbers : ℕ
+  pub ladderBytes : ℕ
+  pub listBytes : ℕ
+
+abbrev pub copyLengths : ℕ → ℕ → ℕ → ℕ → Lengths
+copyLengths ladderNumbers listNumbers ladderBytes listBytes =
+    record { ladderNumbers = ladderNumbers; listNumbers = listNumbers; ladderBytes = ladderBytes; listBytes = listBytes }
+
+-- the questions before 13, over the lengths of the copies
+unfoldable pub bothAsked : ℕ → Kept → List ℕ → List ℕ → Lengths → ℕ → ℕ → Answer
+bothAsked vars k table timers m n w =
+    firstNo (scanQuestions vars k table (numberTimers timers) n
+    ∷ copyQuestions table timers (m .ladderNumbers) (m .listNumbers) (m .ladderBytes) (m .listBytes)
+    ++ question12 mostInstructionWatchdog w
+    ∷ [])
 
 -- the watchdog that question 12 is put to
 unfoldable pub askedWatchdog : ListWatchdog → ℕ
@@ -42,10 +56,10 @@ unfoldable pub watchdogBy : ListWatchdog → Halt → ℕ → ℕ → ℕ → �
 watchdogBy (Given w) halt k longest n = w
 watchdogBy Paired halt k longest n = instructionWatchdog halt k longest n
 
--- the same from the ladder and its table
-unfoldable pub chosenWatchdog : ListWatchdog → ℕ → Kept → List ℕ → ℕ → ℕ
-chosenWatchdog (Given w) vars k table n = w
-chosenWatchdog Paired vars k table n = pairedWatchdog vars k table n
+-- the same from the ladder, its table and timer records, and the tick
+unfoldable pub chosenWatchdog : ListWatchdog → ℕ → Kept → List ℕ → List ℕ → ℕ → ℕ → ℕ
+chosenWatchdog (Given w) vars k table timers now n = w
+chosenWatchdog Paired vars k table timers now n = pairedWatchdog vars k table timers now n
 
 unfoldable pub ladderEnd : LadderScanned → LadderEnd
 ladderEnd (LadderEnded c) = record { ended = true; counts = c }
@@ -57,14 +71,23 @@ listEnd (ListEnded c) = record { ended = true; counts = c }
 listEnd (ListStopped c) = record { ended = false; counts = c }
 listEnd (ListRefused r) = record { ended = false; counts = record { instructions = 0; rungs = 0; moved = 0 } }
 
--- both scans were called, the ladder's on the table t, the list's on u with the times v, and `r` has how they ended
-pub record ScansRun (vars : ℕ) (k : Kept) (code : List ℕ) (records : List RungRecord) (counts : CountsStruct) (n : ℕ) (watchdog : ListWatchdog) (t u : List ℕ)
-    (r : EndsStruct) (t′ u′ v v′ : List ℕ) : Type 0 where
+-- what one scan was lent, or left: a table, and the numbers of timer records
+pub record Memory : Type 0 where
+  pub bytes : List ℕ
+  pub numbers : List ℕ
+
+abbrev pub memory : List ℕ → List ℕ → Memory
+memory bytes numbers = record { bytes = bytes; numbers = numbers }
+
+-- both scans were called at the tick `now`, the ladder's on the memory t, the list's on u with the times v, and `r` has how they ended
+pub record ScansRun (vars : ℕ) (k : Kept) (code : List ℕ) (records : List RungRecord) (counts : CountsStruct) (now n : ℕ) (watchdog : ListWatchdog) (t u : Memory)
+    (r : EndsStruct) (t′ u′ : Memory) (v v′ : List ℕ) : Type 0 where
   pub ladder : LadderScanned
-  pub ladder-done : LadderScanDone (callLadderScan vars k t n) ladder t′
+  pub ladder-run : LadderScanNumbers (callLadderScan vars k (t .bytes) (numberTimers (t .numbers)) now n) ladder (t′ .bytes) (t .numbers) (t′ .numbers)
   pub list : ListScanned
-  pub list-done : ListScanDone
-      (callListScan vars code records u (watchdogBy watchdog (haltOf (ladderEnd ladder .ended)) (ladderEnd ladder .counts .rungs) (counts .longest) n)) list u′ v v′
+  pub list-run : ListScanNumbers
+      (callListScan vars code records (u .bytes) (numberTimers (u .numbers)) now
+      (watchdogBy watchdog (haltOf (ladderEnd ladder .ended)) (ladderEnd ladder .counts .rungs) (counts .longest) n)) list (u′ .bytes) (u .numbers) (u′ .numbers) v v′
   pub ends : r ≡ record {
     counts = counts;
     «ladder_ended» = ladderEnd ladder .ended;

@@ -10,12 +10,11 @@ ghost use Rattle.ladder_definitions.specs.Questions.{mostRungWords};
 ghost use Rattle.translation_definitions.specs.Translate.{codeBound};
 ghost use Rattle.translation_definitions.specs.BothScans.{lends, haltOf, bothScans, pairedScans, bothScannedAnswer, BothScansDone};
 ghost use Rattle.translation_definitions.specs.BothAgree.{BothPromise, PairedPromise};
-ghost use Rattle.both_scans.specs.Parts.{copied, bothAsked, askedWatchdog, watchdogBy, chosenWatchdog, ladderEnd, listEnd};
-ghost use Rattle.both_scans.specs.Parts.{ScansRun};
+ghost use Rattle.both_scans.specs.Parts.{copied, copyLengths, bothAsked, askedWatchdog, watchdogBy, chosenWatchdog};
+ghost use Rattle.both_scans.specs.Parts.{ladderEnd, listEnd, memory, ScansRun};
 use ladder_definitions::LadderScanned;
 use list_definitions::ListScanned;
 use questions::MOST_INSTRUCTION_WATCHDOG;
-use questions::MOST_RUNG_WATCHDOG;
 use questions::Refusal;
 use questions::Verdict;
 use translation::translate;
@@ -56,7 +55,21 @@ fn copy_table(table: &[u8], lent: &mut [u8])
     }
 }
 
-// Questions 1, 4 to 9, 11 of the table and of each copy's length, 12 of both watchdogs.
+// The numbers of timer records into a lent slice, as far as that reaches.
+fn copy_numbers(numbers: &[u32], lent: &mut [u32])
+    ensures { λ _. ⌜ now (lent .exit) ≡ copied (now (numbers .entry)) (now (lent .entry)) ⌝ }
+{
+    let mut i: usize = 0;
+    while i < numbers.len() {
+        if lent.len() <= i {
+            return;
+        }
+        lent[i] = numbers[i];
+        i += 1;
+    }
+}
+
+// Ladder scan's questions, 16 and 11 of each copy's length, 12 of the instruction watchdog.
 fn both_answer(
     vars: u32,
     words: &[u32],
@@ -65,6 +78,9 @@ fn both_answer(
     lengths: &[u32],
     times: &[u32],
     table: &[u8],
+    timers: &[u32],
+    ladder_numbers: usize,
+    list_numbers: usize,
     ladder_bytes: usize,
     list_bytes: usize,
     rung_watchdog: u32,
@@ -72,25 +88,36 @@ fn both_answer(
 ) -> Verdict
     ensures { λ r. ⌜ verdictAnswer r ≡ bothAsked vars
         (keptOf (now (words .entry)) (now (labels .entry)) (now (offsets .entry)) (now (lengths .entry)) (now (times .entry)))
-        (now (table .entry)) «ladder_bytes» «list_bytes» «rung_watchdog» «instruction_watchdog» ⌝ }
+        (now (table .entry)) (now (timers .entry)) (copyLengths «ladder_numbers» «list_numbers» «ladder_bytes» «list_bytes»)
+        «rung_watchdog» «instruction_watchdog» ⌝ }
 {
-    match ladder::ladder_answer(vars, words, labels, offsets, lengths, times) {
+    match ladder::scan_questions(
+        vars,
+        words,
+        labels,
+        offsets,
+        lengths,
+        times,
+        table,
+        timers,
+        rung_watchdog,
+    ) {
         Verdict::Refused(refusal) => {
             return Verdict::Refused(refusal);
         }
         Verdict::Accepted => {}
     }
-    if !table::table_in_range(vars, table) {
-        return Verdict::Refused(Refusal::Table);
+    if ladder_numbers != timers.len() {
+        return Verdict::Refused(Refusal::Timers);
+    }
+    if list_numbers != timers.len() {
+        return Verdict::Refused(Refusal::Timers);
     }
     if ladder_bytes != table.len() {
         return Verdict::Refused(Refusal::Table);
     }
     if list_bytes != table.len() {
         return Verdict::Refused(Refusal::Table);
-    }
-    if !questions::watchdog_in_range(MOST_RUNG_WATCHDOG, rung_watchdog) {
-        return Verdict::Refused(Refusal::Watchdog);
     }
     if !questions::watchdog_in_range(MOST_INSTRUCTION_WATCHDOG, instruction_watchdog) {
         return Verdict::Refused(Refusal::Watchdog);
@@ -167,7 +194,7 @@ fn list_end(answer: ListScanned) -> ListEnd
     }
 }
 
-// Both scans, each on a copy of the table, once the list is written.
+// Both scans, each on a copy of the table and of the timer records, once the list is written.
 fn scan_written(
     vars: u32,
     words: &[u32],
@@ -176,8 +203,12 @@ fn scan_written(
     lengths: &[u32],
     times: &[u32],
     table: &[u8],
+    timers: &[u32],
+    tick: u32,
     ladder_copy: &mut [u8],
     list_copy: &mut [u8],
+    ladder_numbers: &mut [u32],
+    list_numbers: &mut [u32],
     code: &[u32],
     code_labels: &[u16],
     code_offsets: &[u32],
@@ -192,13 +223,17 @@ fn scan_written(
         (keptOf (now (words .entry)) (now (labels .entry)) (now (offsets .entry)) (now (lengths .entry)) (now (times .entry)))
         (now (code .entry)) (rowOf (now («code_labels» .entry)) (now («code_offsets» .entry)) (now («code_lengths» .entry))
         (now («code_times» .entry)))
-        counts «rung_watchdog» watchdog
-        (copied (now (table .entry)) (now («ladder_copy» .entry))) (copied (now (table .entry)) (now («list_copy» .entry))) r
-        (now («ladder_copy» .exit)) (now («list_copy» .exit)) (now («code_times» .entry)) (now («code_times» .exit)) ⌝ }
+        counts tick «rung_watchdog» watchdog
+        (memory (copied (now (table .entry)) (now («ladder_copy» .entry))) (copied (now (timers .entry)) (now («ladder_numbers» .entry))))
+        (memory (copied (now (table .entry)) (now («list_copy» .entry))) (copied (now (timers .entry)) (now («list_numbers» .entry)))) r
+        (memory (now («ladder_copy» .exit)) (now («ladder_numbers» .exit))) (memory (now («list_copy» .exit)) (now («list_numbers» .exit)))
+        (now («code_times» .entry)) (now («code_times» .exit)) ⌝ }
 {
     copy_table(table, ladder_copy);
     copy_table(table, list_copy);
-    let ladder = ladder_end(ladder::ladder_scan(
+    copy_numbers(timers, ladder_numbers);
+    copy_numbers(timers, list_numbers);
+    let ladder = ladder_end(ladder::ladder_scan_packed(
         vars,
         words,
         labels,
@@ -206,9 +241,11 @@ fn scan_written(
         lengths,
         times,
         ladder_copy,
+        ladder_numbers,
+        tick,
         rung_watchdog,
     ));
-    let list = list_end(list::list_scan(
+    let list = list_end(list::list_scan_packed(
         vars,
         code,
         code_labels,
@@ -216,6 +253,8 @@ fn scan_written(
         code_lengths,
         code_times,
         list_copy,
+        list_numbers,
+        tick,
         list_watchdog(watchdog, ladder, counts.longest, rung_watchdog),
     ));
     let ladder_counts = ladder.counts;
@@ -238,8 +277,12 @@ fn scan_both(
     lengths: &[u32],
     times: &[u32],
     table: &[u8],
+    timers: &[u32],
+    tick: u32,
     ladder_table: &mut [u8],
     list_table: &mut [u8],
+    ladder_timers: &mut [u32],
+    list_timers: &mut [u32],
     code: &mut [u32],
     code_labels: &mut [u16],
     code_offsets: &mut [u32],
@@ -250,14 +293,14 @@ fn scan_both(
 ) -> BothScanned
     ensures { λ r. ⌜ BothScansDone (bothScans vars
         (keptOf (now (words .entry)) (now (labels .entry)) (now (offsets .entry)) (now (lengths .entry)) (now (times .entry)))
-        (now (table .entry))
-        (lends (now («ladder_table» .entry)) (now («list_table» .entry))
+        (now (table .entry)) (now (timers .entry)) tick
+        (lends (now («ladder_table» .entry)) (now («list_table» .entry)) (now («ladder_timers» .entry)) (now («list_timers» .entry))
         (buffers (now (code .entry)) (now («code_labels» .entry)) (now («code_offsets» .entry)) (now («code_lengths» .entry))
         (now («code_times» .entry))))
         «rung_watchdog» (chosenWatchdog watchdog vars
         (keptOf (now (words .entry)) (now (labels .entry)) (now (offsets .entry)) (now (lengths .entry)) (now (times .entry)))
-        (now (table .entry)) «rung_watchdog»)) r
-        (lends (now («ladder_table» .exit)) (now («list_table» .exit))
+        (now (table .entry)) (now (timers .entry)) tick «rung_watchdog»)) r
+        (lends (now («ladder_table» .exit)) (now («list_table» .exit)) (now («ladder_timers» .exit)) (now («list_timers» .exit))
         (buffers (now (code .exit)) (now («code_labels» .exit)) (now («code_offsets» .exit)) (now («code_lengths» .exit))
         (now («code_times» .exit)))) ⌝ }
 {
@@ -269,6 +312,9 @@ fn scan_both(
         lengths,
         times,
         table,
+        timers,
+        ladder_timers.len(),
+        list_timers.len(),
         ladder_table.len(),
         list_table.len(),
         rung_watchdog,
@@ -304,8 +350,12 @@ fn scan_both(
                 lengths,
                 times,
                 table,
+                timers,
+                tick,
                 ladder_table,
                 list_table,
+                ladder_timers,
+                list_timers,
                 &code[..n],
                 &code_labels[..m],
                 &code_offsets[..m],
@@ -319,7 +369,8 @@ fn scan_both(
     }
 }
 
-// Translates a ladder and scans the ladder and its list, each on a copy of the table, under any two watchdogs.
+// Translates a ladder and scans the ladder and its list, each on a copy of the table and of the timer records, under any two watchdogs. The
+// timer records, and each copy of them, are one slice with five numbers for each.
 pub fn both_scans(
     vars: u32,
     words: &[u32],
@@ -328,8 +379,12 @@ pub fn both_scans(
     lengths: &[u32],
     times: &[u32],
     table: &[u8],
+    timers: &[u32],
+    tick: u32,
     ladder_table: &mut [u8],
     list_table: &mut [u8],
+    ladder_timers: &mut [u32],
+    list_timers: &mut [u32],
     code: &mut [u32],
     code_labels: &mut [u16],
     code_offsets: &mut [u32],
@@ -340,22 +395,22 @@ pub fn both_scans(
 ) -> BothScanned
     ensures { λ r. ⌜ BothScansDone (bothScans vars
         (keptOf (now (words .entry)) (now (labels .entry)) (now (offsets .entry)) (now (lengths .entry)) (now (times .entry)))
-        (now (table .entry))
-        (lends (now («ladder_table» .entry)) (now («list_table» .entry))
+        (now (table .entry)) (now (timers .entry)) tick
+        (lends (now («ladder_table» .entry)) (now («list_table» .entry)) (now («ladder_timers» .entry)) (now («list_timers» .entry))
         (buffers (now (code .entry)) (now («code_labels» .entry)) (now («code_offsets» .entry)) (now («code_lengths» .entry))
         (now («code_times» .entry))))
         «rung_watchdog» «instruction_watchdog») r
-        (lends (now («ladder_table» .exit)) (now («list_table» .exit))
+        (lends (now («ladder_table» .exit)) (now («list_table» .exit)) (now («ladder_timers» .exit)) (now («list_timers» .exit))
         (buffers (now (code .exit)) (now («code_labels» .exit)) (now («code_offsets» .exit)) (now («code_lengths» .exit))
         (now («code_times» .exit)))) ⌝ }
     ensures { λ r. ⌜ BothPromise vars
         (keptOf (now (words .entry)) (now (labels .entry)) (now (offsets .entry)) (now (lengths .entry)) (now (times .entry)))
-        (now (table .entry))
-        (lends (now («ladder_table» .entry)) (now («list_table» .entry))
+        (now (table .entry)) (now (timers .entry)) tick
+        (lends (now («ladder_table» .entry)) (now («list_table» .entry)) (now («ladder_timers» .entry)) (now («list_timers» .entry))
         (buffers (now (code .entry)) (now («code_labels» .entry)) (now («code_offsets» .entry)) (now («code_lengths» .entry))
         (now («code_times» .entry))))
         «rung_watchdog» «instruction_watchdog» (bothScannedAnswer r)
-        (lends (now («ladder_table» .exit)) (now («list_table» .exit))
+        (lends (now («ladder_table» .exit)) (now («list_table» .exit)) (now («ladder_timers» .exit)) (now («list_timers» .exit))
         (buffers (now (code .exit)) (now («code_labels» .exit)) (now («code_offsets» .exit)) (now («code_lengths» .exit))
         (now («code_times» .exit)))) ⌝ }
 {
@@ -367,8 +422,12 @@ pub fn both_scans(
         lengths,
         times,
         table,
+        timers,
+        tick,
         ladder_table,
         list_table,
+        ladder_timers,
+        list_timers,
         code,
         code_labels,
         code_offsets,
@@ -389,8 +448,12 @@ pub fn paired_scans(
     lengths: &[u32],
     times: &[u32],
     table: &[u8],
+    timers: &[u32],
+    tick: u32,
     ladder_table: &mut [u8],
     list_table: &mut [u8],
+    ladder_timers: &mut [u32],
+    list_timers: &mut [u32],
     code: &mut [u32],
     code_labels: &mut [u16],
     code_offsets: &mut [u32],
@@ -400,22 +463,22 @@ pub fn paired_scans(
 ) -> BothScanned
     ensures { λ r. ⌜ BothScansDone (pairedScans vars
         (keptOf (now (words .entry)) (now (labels .entry)) (now (offsets .entry)) (now (lengths .entry)) (now (times .entry)))
-        (now (table .entry))
-        (lends (now («ladder_table» .entry)) (now («list_table» .entry))
+        (now (table .entry)) (now (timers .entry)) tick
+        (lends (now («ladder_table» .entry)) (now («list_table» .entry)) (now («ladder_timers» .entry)) (now («list_timers» .entry))
         (buffers (now (code .entry)) (now («code_labels» .entry)) (now («code_offsets» .entry)) (now («code_lengths» .entry))
         (now («code_times» .entry))))
         «rung_watchdog») r
-        (lends (now («ladder_table» .exit)) (now («list_table» .exit))
+        (lends (now («ladder_table» .exit)) (now («list_table» .exit)) (now («ladder_timers» .exit)) (now («list_timers» .exit))
         (buffers (now (code .exit)) (now («code_labels» .exit)) (now («code_offsets» .exit)) (now («code_lengths» .exit))
         (now («code_times» .exit)))) ⌝ }
     ensures { λ r. ⌜ PairedPromise vars
         (keptOf (now (words .entry)) (now (labels .entry)) (now (offsets .entry)) (now (lengths .entry)) (now (times .entry)))
-        (now (table .entry))
-        (lends (now («ladder_table» .entry)) (now («list_table» .entry))
+        (now (table .entry)) (now (timers .entry)) tick
+        (lends (now («ladder_table» .entry)) (now («list_table» .entry)) (now («ladder_timers» .entry)) (now («list_timers» .entry))
         (buffers (now (code .entry)) (now («code_labels» .entry)) (now («code_offsets» .entry)) (now («code_lengths» .entry))
         (now («code_times» .entry))))
         «rung_watchdog» (bothScannedAnswer r)
-        (lends (now («ladder_table» .exit)) (now («list_table» .exit))
+        (lends (now («ladder_table» .exit)) (now («list_table» .exit)) (now («ladder_timers» .exit)) (now («list_timers» .exit))
         (buffers (now (code .exit)) (now («code_labels» .exit)) (now («code_offsets» .exit)) (now («code_lengths» .exit))
         (now («code_times» .exit)))) ⌝ }
 {
@@ -427,8 +490,12 @@ pub fn paired_scans(
         lengths,
         times,
         table,
+        timers,
+        tick,
         ladder_table,
         list_table,
+        ladder_timers,
+        list_timers,
         code,
         code_labels,
         code_offsets,

@@ -5,11 +5,12 @@ use mathlib.Core.Bool.{true, false, xor}
 use mathlib.Core.List.{List, [], _∷_, _++_, map}
 use Prim.Native.Nat.{ℕ}
 use lib.ListN.{replicate, length, take}
-use Rattle.table.specs.State.{State, stateOf, scratchBytes, variables, valueAt, value, writtenAt, turns, write, writeIf}
+use Rattle.table.specs.Timer.{Timer, elapsed, started, tested, powered}
+use Rattle.table.specs.State.{State, stateOf, scratchBytes, variables, valueAt, value, writtenAt, turns, write, writeIf, setTimer, runTimer}
 use Rattle.table.specs.Halt.{Halt, Ended, Stopped}
 use Rattle.table.specs.Writes.{Write, wrote, wroteIf, made, replay, changesByte, changesVariable, changes}
 use Rattle.rungs.specs.Records.{search}
-use Rattle.ladder_definitions.specs.Tree.{contact, contactn, Front, input, frontAnd, frontOr, coil, coiln, jump, jumpn, setCoil, resetCoil, Rear, output, rearAnd, rearOr, Rung, Ladder}
+use Rattle.ladder_definitions.specs.Tree.{contact, contactn, Front, input, frontAnd, frontOr, coil, coiln, jump, jumpn, setCoil, resetCoil, timer, Rear, output, rearAnd, rearOr, Rung, Ladder}
 use Rattle.ladder_definitions.specs.Meaning.{scanLadder, scanFrom, runRung, runRear, runOutput, workFront, workInput, jumpIf, unlessJumped, from, follow, left}
 use Rattle.ladder_definitions.specs.Writes.{outputWrites, unlessJumpedWrites, rearWrites, rungWrites, writesFrom, ladderWrites}
 
@@ -41,6 +42,10 @@ s v = output (setCoil v)
 
 abbrev pub r : ℕ → Rear
 r v = output (resetCoil v)
+
+-- 02, Req 06
+abbrev pub t : ℕ → Rear
+t n = output (timer n)
 
 -- a ladder, its variables before, the rung watchdog; how the scan halts, the rungs entered, how often variables were turned over, and the variables after
 pub record Row : Type 0 where
@@ -102,7 +107,7 @@ expected r = record { halt = r .halt; rungs = r .rungs; moved = r .moved; variab
 
 -- "scratch is 0"
 unfoldable pub start : Row → State
-start r = stateOf (length (r .before)) (r .before ++ replicate scratchBytes 0)
+start r = stateOf (length (r .before)) (r .before ++ replicate scratchBytes 0) [] 0
 
 unfoldable pub ladderOutcome : Row → Outcome
 ladderOutcome r = let x = scanLadder (r .ladder) (r .watchdog) (start r) in record { halt = x .halt; rungs = x .rungs; moved = x .state .moved; variables = variables (x .state) }
@@ -206,3 +211,72 @@ writes-told : (map changed rows ≡ map (λ (r : Row). r .moved) rows) × (map r
 unfolding rows further latches moves written start changed replayed made replay changesByte changesVariable changes ladderWrites writesFrom rungWrites rearWrites outputWrites unlessJumpedWrites wroteIf
     runRung runRear runOutput workFront workInput jumpIf unlessJumped search from follow left valueAt value writtenAt write writeIf
 writes-told = (refl, refl)
+
+-- ---- 02, Req 06
+
+-- a ladder, its variables and timer records before, `now`, the rung watchdog; how the scan halts, the rungs entered, how often variables were turned over, and
+-- the variables and timer records after
+pub record TimedRow : Type 0 where
+  pub ladder : Ladder
+  pub before : List ℕ
+  pub timers : List Timer
+  pub now : ℕ
+  pub watchdog : ℕ
+  pub halt : Halt
+  pub rungs : ℕ
+  pub moved : ℕ
+  pub after : List ℕ
+  pub left : List Timer
+
+abbrev pub timed : ℕ → ℕ → ℕ → ℕ → ℕ → Timer
+timed preset start variable running done = record { preset = preset; start = start; variable = variable; running = running; done = done }
+
+-- 10:c0>t0 20:c1>o2, a dispatch v2 that waits for v0 to hold as long as timer 0 says, whose variable is v1
+abbrev pub delay : Ladder
+delay = rung 10 (c 0) (t 0) ∷ rung 20 (c 1) (o 2) ∷ []
+
+-- 10:c0>t0 20:n0>t0, two rungs with one timer, whose variable is v1
+abbrev pub shared : Ladder
+shared = rung 10 (c 0) (t 0) ∷ rung 20 (n 0) (t 0) ∷ []
+
+unfoldable pub timedRows : List TimedRow
+timedRows =
+    -- power comes at tick 10; one tick too early; at tick 13
+    record { ladder = delay; before = 1 ∷ 0 ∷ 0 ∷ []; timers = timed 3 0 1 0 0 ∷ []; now = 10; watchdog = 9; halt = Ended; rungs = 2; moved = 0; after = 1 ∷ 0 ∷ 0 ∷ []; left = timed 3 10 1 1 0 ∷ [] }
+    ∷ record { ladder = delay; before = 1 ∷ 0 ∷ 0 ∷ []; timers = timed 3 10 1 1 0 ∷ []; now = 12; watchdog = 9; halt = Ended; rungs = 2; moved = 0; after = 1 ∷ 0 ∷ 0 ∷ []; left = timed 3 10 1 1 0 ∷ [] }
+    ∷ record { ladder = delay; before = 1 ∷ 0 ∷ 0 ∷ []; timers = timed 3 10 1 1 0 ∷ []; now = 13; watchdog = 9; halt = Ended; rungs = 2; moved = 2; after = 1 ∷ 1 ∷ 1 ∷ []; left = timed 3 10 1 1 1 ∷ [] }
+    -- power is lost, and comes back
+    ∷ record { ladder = delay; before = 0 ∷ 1 ∷ 1 ∷ []; timers = timed 3 10 1 1 1 ∷ []; now = 14; watchdog = 9; halt = Ended; rungs = 2; moved = 2; after = 0 ∷ 0 ∷ 0 ∷ []; left = timed 3 10 1 0 0 ∷ [] }
+    ∷ record { ladder = delay; before = 1 ∷ 0 ∷ 0 ∷ []; timers = timed 3 10 1 0 0 ∷ []; now = 15; watchdog = 9; halt = Ended; rungs = 2; moved = 0; after = 1 ∷ 0 ∷ 0 ∷ []; left = timed 3 15 1 1 0 ∷ [] }
+    -- across the wrap at 2^32
+    ∷ record { ladder = delay; before = 1 ∷ 0 ∷ 0 ∷ []; timers = timed 3 4294967294 1 1 0 ∷ []; now = 0; watchdog = 9; halt = Ended; rungs = 2; moved = 0; after = 1 ∷ 0 ∷ 0 ∷ []; left = timed 3 4294967294 1 1 0 ∷ [] }
+    ∷ record { ladder = delay; before = 1 ∷ 0 ∷ 0 ∷ []; timers = timed 3 4294967294 1 1 0 ∷ []; now = 1; watchdog = 9; halt = Ended; rungs = 2; moved = 2; after = 1 ∷ 1 ∷ 1 ∷ []; left = timed 3 4294967294 1 1 1 ∷ [] }
+    -- preset 0
+    ∷ record { ladder = delay; before = 1 ∷ 0 ∷ 0 ∷ []; timers = timed 0 0 1 0 0 ∷ []; now = 7; watchdog = 9; halt = Ended; rungs = 2; moved = 2; after = 1 ∷ 1 ∷ 1 ∷ []; left = timed 0 7 1 1 1 ∷ [] }
+    -- comes in done
+    ∷ record { ladder = delay; before = 1 ∷ 0 ∷ 0 ∷ []; timers = timed 3 10 1 1 1 ∷ []; now = 10; watchdog = 9; halt = Ended; rungs = 2; moved = 2; after = 1 ∷ 1 ∷ 1 ∷ []; left = timed 3 10 1 1 1 ∷ [] }
+    -- stopped before the rung that reads its variable
+    ∷ record { ladder = delay; before = 1 ∷ 0 ∷ 0 ∷ []; timers = timed 0 0 1 0 0 ∷ []; now = 7; watchdog = 1; halt = Stopped; rungs = 1; moved = 1; after = 1 ∷ 1 ∷ 0 ∷ []; left = timed 0 7 1 1 1 ∷ [] }
+    -- two rungs with one timer: the second takes back what the first did; a record that no rung names stays
+    ∷ record { ladder = shared; before = 1 ∷ 0 ∷ []; timers = timed 0 0 1 0 0 ∷ timed 5 6 0 7 8 ∷ []; now = 9; watchdog = 9; halt = Ended; rungs = 2; moved = 2; after = 1 ∷ 0 ∷ []; left = timed 0 9 1 0 0 ∷ timed 5 6 0 7 8 ∷ [] }
+    ∷ []
+
+pub record TimedOutcome : Type 0 where
+  pub outcome : Outcome
+  pub timers : List Timer
+
+unfoldable pub timedExpected : TimedRow → TimedOutcome
+timedExpected r = record { outcome = record { halt = r .halt; rungs = r .rungs; moved = r .moved; variables = r .after }; timers = r .left }
+
+unfoldable pub timedStart : TimedRow → State
+timedStart r = stateOf (length (r .before)) (r .before ++ replicate scratchBytes 0) (r .timers) (r .now)
+
+unfoldable pub timedOutcome : TimedRow → TimedOutcome
+timedOutcome r =
+    let x = scanLadder (r .ladder) (r .watchdog) (timedStart r) in
+    record { outcome = record { halt = x .halt; rungs = x .rungs; moved = x .state .moved; variables = variables (x .state) }; timers = x .state .timers }
+
+timers-scanned : map timedOutcome timedRows ≡ map timedExpected timedRows
+unfolding timedRows timedStart timedOutcome timedExpected scanLadder scanFrom runRung runRear runOutput workFront workInput jumpIf unlessJumped search from follow left valueAt value writtenAt turns write writeIf
+    setTimer runTimer elapsed started tested powered xor variables
+timers-scanned = refl

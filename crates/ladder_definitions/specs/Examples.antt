@@ -1,4 +1,4 @@
--- Worked words and records, worked questions 4 to 9, and bench ladder J. Assumes nothing.
+-- Worked words and records, worked questions 4 to 9 and 17, and bench ladder J. Assumes nothing.
 use mathlib.Core.Path.{_≡_, refl}
 use mathlib.Core.Option.{some}
 use mathlib.Core.List.{List, [], _∷_, _++_, map, flatMap}
@@ -9,8 +9,8 @@ use Rattle.questions.specs.Tests.{all, firstFailed}
 use Rattle.questions.specs.Questions.{Answer, yes, ask, askEach, varsInRange, question1, firstNo}
 use Rattle.ladder_definitions.specs.Tree.{Front, frontAnd, rearOr, Rung, Ladder, frontAll, rearAll, rungAll, inputVariable, outputNames, number}
 use Rattle.ladder_definitions.specs.Kept.{inputKind, outputKind, inputWord, outputWord, frontWords, rearWords, rungWords, encode, decode, decodeFrom, decodeRung, decodeWords, oneRung, kinds, putInput, putFront, putOutput, putRearAnd, putRearOr}
-use Rattle.ladder_definitions.specs.Questions.{ladderOf, holdsLadder, question4, sizesInRange, question5, question6, question7, question8, scratchInRange, question9, newLabels, inputBelow, namedBelow, outputBelow, namedLeads, outputLeads, joinScratch, frontScratch, rearScratch, rungScratch, ladderQuestions, ladderAnswer}
-use Rattle.ladder_definitions.specs.Bench.{rung, c, o, j, k, ladderA, latch}
+use Rattle.ladder_definitions.specs.Questions.{ladderOf, holdsLadder, question4, sizesInRange, question5, question6, question7, question8, scratchInRange, question9, timersKnown, question17, namedTimed, outputTimed, newLabels, inputBelow, namedBelow, outputBelow, namedLeads, outputLeads, joinScratch, frontScratch, rearScratch, rungScratch, formQuestions, ladderQuestions, ladderAnswer}
+use Rattle.ladder_definitions.specs.Bench.{rung, c, o, j, k, ladderA, latch, delay}
 
 -- the kept words and records of case A
 A-encoded : encode ladderA ≡ record {
@@ -27,6 +27,14 @@ latch-encoded : encode latch ≡ record {
 }
 unfolding encode lay rungWords frontWords rearWords inputWord inputKind inputVariable outputWord outputKind outputNames number flatMap
 latch-encoded = refl
+
+-- 02, Req 06: kind 13
+delay-encoded : encode delay ≡ record {
+  words = 65536 ∷ 851968 ∷ 65537 ∷ 327682 ∷ [];
+  records = record { label = 10; offset = 0; length = 2 } ∷ record { label = 20; offset = 2; length = 2 } ∷ [];
+}
+unfolding encode lay rungWords frontWords rearWords inputWord inputKind inputVariable outputWord outputKind outputNames number flatMap
+delay-encoded = refl
 
 -- a front of m brackets, each the second part of an and: (c0&(c0&( .. c0&c0)))
 nested : ℕ → Front
@@ -62,10 +70,11 @@ answers =
     ∷ question4 (record { words = 65536 ∷ 327680 ∷ []; records = record { label = 0; offset = 1; length = 2 } ∷ [] })
     ∷ question4 (record { words = 65536 ∷ 327680 ∷ []; records = record { label = 0; offset = 0; length = 2 } ∷ [] })
     ∷ question4 (record { words = 196609 ∷ 65536 ∷ 65536 ∷ 327680 ∷ []; records = record { label = 0; offset = 0; length = 4 } ∷ [] })
-    -- 4 of the kinds 11, 12 and 13
+    -- 4 of the kinds 11, 12, 13 and 14
     ∷ question4 (record { words = 65536 ∷ 720896 ∷ []; records = record { label = 0; offset = 0; length = 2 } ∷ [] })
     ∷ question4 (record { words = 65536 ∷ 786432 ∷ []; records = record { label = 0; offset = 0; length = 2 } ∷ [] })
     ∷ question4 (record { words = 65536 ∷ 851968 ∷ []; records = record { label = 0; offset = 0; length = 2 } ∷ [] })
+    ∷ question4 (record { words = 65536 ∷ 917504 ∷ []; records = record { label = 0; offset = 0; length = 2 } ∷ [] })
     -- 5: 256 rungs and 257, 128 words in a rung and 130, 8,192 words and 8,194
     ∷ question5 (replicate 256 (contacts 1))
     ∷ question5 (replicate 257 (contacts 1))
@@ -90,28 +99,35 @@ answers =
     -- 9
     ∷ question9 (rung 0 (nested 33) (o 0) ∷ [])
     ∷ question9 (rung 0 (nested 34) (o 0) ∷ [])
+    -- 17: timer 0 of one record, and of none; a timer number is neither a variable nor a label
+    ∷ question17 1 delay
+    ∷ question17 0 delay
+    ∷ question17 0 ladderA
+    ∷ question6 3 delay
+    ∷ question8 delay
     ∷ []
 
 answers-worked : answers ≡
     yes ∷ refused 1 0 ∷ refused 1 0 ∷ refused 4 0
-    ∷ refused 4 0 ∷ refused 4 0 ∷ yes ∷ refused 4 0 ∷ yes ∷ yes ∷ refused 4 0
+    ∷ refused 4 0 ∷ refused 4 0 ∷ yes ∷ refused 4 0 ∷ yes ∷ yes ∷ yes ∷ refused 4 0
     ∷ yes ∷ refused 5 0 ∷ yes ∷ refused 5 0 ∷ yes ∷ refused 5 0
     ∷ yes ∷ refused 6 1 ∷ refused 6 0 ∷ yes ∷ refused 6 0
     ∷ yes ∷ refused 7 2 ∷ refused 7 3
     ∷ yes ∷ refused 8 1 ∷ yes
     ∷ yes ∷ refused 9 0
+    ∷ yes ∷ refused 17 0 ∷ yes ∷ yes ∷ yes
     ∷ []
-unfolding answers refused nested joined contacts labelled ladderQuestions ladderAnswer ladderOf
+unfolding answers refused nested joined contacts labelled formQuestions ladderQuestions ladderAnswer ladderOf
     encode lay rungWords frontWords rearWords inputWord inputKind inputVariable outputWord outputKind outputNames number flatMap
     decode decodeFrom decodeRung decodeWords oneRung kinds putInput putFront putOutput putRearAnd putRearOr ask askEach firstNo firstFailed all
     varsInRange question1 holdsLadder question4 sizesInRange question5 question6 question7 question8 scratchInRange question9 newLabels present search
-    frontAll rearAll rungAll inputBelow namedBelow outputBelow namedLeads outputLeads joinScratch frontScratch rearScratch rungScratch
+    frontAll rearAll rungAll inputBelow namedBelow outputBelow namedLeads outputLeads joinScratch frontScratch rearScratch rungScratch namedTimed outputTimed timersKnown question17
 answers-worked = refl
 
 -- document 01, "Bench ladders": "J 64 contacts joined by & and a coil: 128 words, taken; 65: refused 5."
 J-worked : map {B = ℕ × Answer} (λ n. let kept = encode (contacts n ∷ []) in (length (kept .words), ladderAnswer 1 kept)) (64 ∷ 65 ∷ [])
     ≡ (128, yes) ∷ (130, refused 5 0) ∷ []
-unfolding refused joined contacts ladderQuestions ladderAnswer ladderOf
+unfolding refused joined contacts formQuestions ladderQuestions ladderAnswer ladderOf
     encode lay rungWords frontWords rearWords inputWord inputKind inputVariable outputWord outputKind outputNames number flatMap
     decode decodeFrom decodeRung decodeWords oneRung kinds putInput putFront putOutput ask askEach firstNo firstFailed all
     varsInRange question1 holdsLadder question4 sizesInRange question5 question6 question7 question8 scratchInRange question9 newLabels present search

@@ -8,7 +8,7 @@ use lib.Dec.{eqb, leb}
 use lib.ListN.{length, take, drop, getD}
 use Rattle.rungs.specs.Words.{word, numberOf, operandOf, isOperand}
 use Rattle.rungs.specs.Records.{RungRecord, lay, rowOf}
-use Rattle.ladder_definitions.specs.Tree.{Input, contact, contactn, Front, input, frontAnd, frontOr, Output, coil, coiln, jump, jumpn, setCoil, resetCoil, Rear, output, rearAnd, rearOr, Rung, Ladder, Named, aVariable, aLabel, inputVariable, outputNames, number}
+use Rattle.ladder_definitions.specs.Tree.{Input, contact, contactn, Front, input, frontAnd, frontOr, Output, coil, coiln, jump, jumpn, setCoil, resetCoil, timer, Rear, output, rearAnd, rearOr, Rung, Ladder, Named, aVariable, aLabel, aTimer, inputVariable, outputNames, number}
 
 pub record Kept : Type 0 where
   pub words : List ℕ
@@ -20,6 +20,7 @@ keptOf words labels offsets lengths times = record { words = words; records = ro
 
 -- "Kinds: 1 contact, 2 negated contact, 3 front-and, 4 front-or, 5 coil, 6 negated coil, 7 jump, 8 negated jump, 9 rear-and, 10 rear-or.
 -- Operand: a variable for 1, 2, 5, 6; a label for 7, 8; 0 otherwise." 02, Req 01: "outputs s and r, kinds 11 and 12"; their operand is a variable.
+-- Req 06: "an output t with a timer number, kind 13".
 unfoldable pub inputKind : Input → ℕ
 inputKind (contact v) = 1
 inputKind (contactn v) = 2
@@ -31,6 +32,7 @@ outputKind (jump l) = 7
 outputKind (jumpn l) = 8
 outputKind (setCoil v) = 11
 outputKind (resetCoil v) = 12
+outputKind (timer n) = 13
 
 unfoldable pub inputWord : Input → ℕ
 inputWord i = word (inputKind i) (inputVariable i)
@@ -39,32 +41,32 @@ unfoldable pub outputWord : Output → ℕ
 outputWord o = word (outputKind o) (number (outputNames o))
 
 -- the sort of a word, by its kind: "A front is built of 1 to 4. A rear is an output (5 to 8), or 9 with a front and a rear, or 10 with two rears.";
--- 02's set and reset coils are outputs
+-- 02's set and reset coils and timers are outputs
 pub data KindSort : Type 0 where
   contactSort joinedSort outputSort rearAndSort rearOrSort noSort : KindSort
 
--- by kind, from 0 to 12
+-- by kind, from 0 to 13
 unfoldable pub kindSorts : List KindSort
 kindSorts =
     noSort
     ∷ contactSort ∷ contactSort ∷ joinedSort ∷ joinedSort
     ∷ outputSort ∷ outputSort ∷ outputSort ∷ outputSort ∷ rearAndSort ∷ rearOrSort
-    ∷ outputSort ∷ outputSort ∷ []
+    ∷ outputSort ∷ outputSort ∷ outputSort ∷ []
 
 unfoldable pub kindSort : ℕ → KindSort
 kindSort kind = getD kindSorts kind noSort
 
 -- what a word's operand names, by its kind
 pub data NameSort : Type 0 where
-  variableName labelName noName : NameSort
+  variableName labelName timerName noName : NameSort
 
--- by kind, from 0 to 12
+-- by kind, from 0 to 13
 unfoldable pub nameSorts : List NameSort
 nameSorts =
     noName
     ∷ variableName ∷ variableName ∷ noName ∷ noName
     ∷ variableName ∷ variableName ∷ labelName ∷ labelName ∷ noName ∷ noName
-    ∷ variableName ∷ variableName ∷ []
+    ∷ variableName ∷ variableName ∷ timerName ∷ []
 
 unfoldable pub nameSort : ℕ → NameSort
 nameSort kind = getD nameSorts kind noName
@@ -73,6 +75,7 @@ nameSort kind = getD nameSorts kind noName
 unfoldable pub namedSort : Named → NameSort
 namedSort (aVariable v) = variableName
 namedSort (aLabel l) = labelName
+namedSort (aTimer n) = timerName
 
 -- "A tree is its root word, then its first part, then its second."
 unfoldable pub frontWords : Front → List ℕ
@@ -126,13 +129,13 @@ putRearOr (suc o) ts = none
 abbrev pub noKind : ℕ → Trees → Option Trees
 noKind o ts = none
 
--- by kind, from 0 to 12
+-- by kind, from 0 to 13
 unfoldable pub kinds : List (ℕ → Trees → Option Trees)
 kinds =
     noKind
     ∷ putInput contact ∷ putInput contactn ∷ putFront frontAnd ∷ putFront frontOr
     ∷ putOutput coil ∷ putOutput coiln ∷ putOutput jump ∷ putOutput jumpn ∷ putRearAnd ∷ putRearOr
-    ∷ putOutput setCoil ∷ putOutput resetCoil ∷ []
+    ∷ putOutput setCoil ∷ putOutput resetCoil ∷ putOutput timer ∷ []
 
 unfoldable pub decodeWords : List ℕ → Option Trees
 decodeWords [] = some (trees [] [])

@@ -1,16 +1,20 @@
--- The call Ladder scan: its answer and the table afterwards, for all inputs. Document 01, "What a ladder does", "Questions before work". Assumes nothing.
+-- The call Ladder scan: its answer, the table and the timer records afterwards, for all inputs. Document 01, "What a ladder does", "Questions before work"; 02,
+-- Req 06. Assumes nothing.
 use Prim.Native.Nat.{ℕ}
 use mathlib.Core.Path.{_≡_}
 use mathlib.Core.Option.{none, some}
 use mathlib.Core.List.{List, [], _∷_, _++_}
+use lib.ListN.{length}
 use Rattle.questions.specs.Questions.{Refusal, Answer, firstNo, question1, question12, mostRungWatchdog}
 use Rattle.questions.specs.Refusals.{refusalOf}
+use Rattle.table.specs.Timer.{Timer}
 use Rattle.table.specs.State.{stateOf}
+use Rattle.table.specs.TimerRecords.{Columns, columnTimers, columnsAfter, numberTimers, numbersAfter}
 use Rattle.table.specs.Halt.{Halt, Ended, Stopped}
-use Rattle.table.specs.Questions.{question11}
+use Rattle.table.specs.Questions.{question11, question16}
 use Rattle.ladder_definitions.specs.Meaning.{LadderResult, scanLadder}
 use Rattle.ladder_definitions.specs.Kept.{Kept}
-use Rattle.ladder_definitions.specs.Questions.{ladderOf, ladderQuestions}
+use Rattle.ladder_definitions.specs.Questions.{ladderOf, question9, question17, formQuestions}
 use Rattle.ladder_definitions.specs.declared.Counts.{Counts as CountsStruct}
 use Rattle.ladder_definitions.specs.declared.LadderScanned.{LadderScanned}
 use Rattle.ladder_definitions.specs.declared.LadderScanned.the-variants.{Ended as EndedCase, Stopped as StoppedCase, Refused as RefusedCase}
@@ -33,19 +37,29 @@ pub data LadderScanAnswer : Type 0 where
 pub record LadderScanCall : Type 0 where
   pub answer : LadderScanAnswer
   pub table : List ℕ
+  pub timers : List Timer
 
 unfoldable pub scanEnds : LadderResult → LadderScanCall
-scanEnds x = record { answer = scanned (x .halt) (countsOf x); table = x .state .bytes }
+scanEnds x = record { answer = scanned (x .halt) (countsOf x); table = x .state .bytes; timers = x .state .timers }
 
--- question 1, questions 4 to 9, then 11 and 12, in order
-unfoldable pub scanQuestions : ℕ → Kept → List ℕ → ℕ → Answer
-scanQuestions vars k table watchdog = firstNo (question1 vars ∷ ladderQuestions vars k ++ question11 (stateOf vars table) ∷ question12 mostRungWatchdog watchdog ∷ [])
+-- questions 1, 16, 4 to 8, 17, 9, 11 and 12, in order: 02, Req 06, "16 .., after question 1; 17 .., after question 8 for ladders"
+unfoldable pub scanQuestions : ℕ → Kept → List ℕ → List Timer → ℕ → Answer
+scanQuestions vars k table timers watchdog =
+    let gs = ladderOf k in
+    firstNo (question1 vars
+    ∷ question16 vars timers
+    ∷ formQuestions vars k
+    ++ question17 (length timers) gs
+    ∷ question9 gs
+    ∷ question11 vars table
+    ∷ question12 mostRungWatchdog watchdog
+    ∷ [])
 
--- a refusal leaves the table, and else the ladder is scanned
-unfoldable pub callLadderScan : ℕ → Kept → List ℕ → ℕ → LadderScanCall
-callLadderScan vars k table watchdog = elim (scanQuestions vars k table watchdog) [
-  | some refusal ↦ record { answer = refused refusal; table = table }
-  | none ↦ scanEnds (scanLadder (ladderOf k) watchdog (stateOf vars table))
+-- a refusal leaves the table and the timer records, and else the ladder is scanned, at the tick `now`
+unfoldable pub callLadderScan : ℕ → Kept → List ℕ → List Timer → ℕ → ℕ → LadderScanCall
+callLadderScan vars k table timers now watchdog = elim (scanQuestions vars k table timers watchdog) [
+  | some refusal ↦ record { answer = refused refusal; table = table; timers = timers }
+  | none ↦ scanEnds (scanLadder (ladderOf k) watchdog (stateOf vars table timers now))
 ]
 
 -- the counts in the struct Counts
@@ -58,7 +72,18 @@ ladderScannedAnswer (EndedCase c) = scanned Ended (countsIn c)
 ladderScannedAnswer (StoppedCase c) = scanned Stopped (countsIn c)
 ladderScannedAnswer (RefusedCase refusal) = refused (refusalOf refusal)
 
--- the promise of ladder_scan: answer and table are those of the definition
-pub record LadderScanDone (call : LadderScanCall) (r : LadderScanned) (table : List ℕ) : Type 0 where
+-- the promise of ladder_scan: answer, table and timer records are those of the definition
+pub record LadderScanDone (call : LadderScanCall) (r : LadderScanned) (table : List ℕ) (timers : List Timer) : Type 0 where
   pub answer : ladderScannedAnswer r ≡ call .answer
   pub same-table : table ≡ call .table
+  pub same-timers : timers ≡ call .timers
+
+-- 02, Req 06: the same where the timer records are lent as one slice with five numbers for each, ns before and ms afterwards,
+pub record LadderScanNumbers (call : LadderScanCall) (r : LadderScanned) (table ns ms : List ℕ) : Type 0 where
+  pub done : LadderScanDone call r table (numberTimers ms)
+  pub numbers : ms ≡ numbersAfter ns (call .timers)
+
+-- and where they are lent as five slices, c before and d afterwards
+pub record LadderScanColumns (call : LadderScanCall) (r : LadderScanned) (table : List ℕ) (c d : Columns) : Type 0 where
+  pub done : LadderScanDone call r table (columnTimers d)
+  pub slices : d ≡ columnsAfter c (call .timers)

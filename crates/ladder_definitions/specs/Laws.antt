@@ -2,6 +2,7 @@
 pub mod Decoding
 pub mod Watchdog
 pub mod Scratch
+pub mod Timed
 pub mod Accepting
 pub mod Held
 pub mod Trees

@@ -4,10 +4,10 @@ use Prim.Native.Nat.{ℕ, zero, suc, _+_}
 use mathlib.Core.Bool.{Bool, true, false, not, _&&_, _||_}
 use mathlib.Core.List.{[], _∷_}
 use lib.ListN.{drop}
-use Rattle.table.specs.State.{State, value, write, writeIf}
+use Rattle.table.specs.State.{State, value, write, writeIf, runTimer}
 use Rattle.table.specs.Halt.{Halt, Ended, Stopped}
 use Rattle.rungs.specs.Records.{search}
-use Rattle.ladder_definitions.specs.Tree.{Input, contact, contactn, Front, input, frontAnd, frontOr, Output, coil, coiln, jump, jumpn, setCoil, resetCoil, Rear, output, rearAnd, rearOr, Rung, Ladder, labels}
+use Rattle.ladder_definitions.specs.Tree.{Input, contact, contactn, Front, input, frontAnd, frontOr, Output, coil, coiln, jump, jumpn, setCoil, resetCoil, timer, Rear, output, rearAnd, rearOr, Rung, Ladder, labels}
 
 -- what working a front gives: its value, and the state that it leaves
 pub record Worked : Type 0 where
@@ -45,7 +45,7 @@ jumpIf true l s = jumped l s
 jumpIf false l s = onward s
 
 -- "A coil writes p, a negated coil the opposite. A jump is taken when p is true, a negated one when p is false.": figure 6.
--- 02, Req 01: "With power on, S writes 1 and R writes 0. With power off they write nothing.": a set coil, a reset coil
+-- 02, Req 01: "With power on, S writes 1 and R writes 0. With power off they write nothing.": a set coil, a reset coil. Req 06: a timer
 unfoldable pub runOutput : Output → Bool → State → Run
 runOutput (coil v) p s = onward (write s v p)
 runOutput (coiln v) p s = onward (write s v (not p))
@@ -53,6 +53,7 @@ runOutput (jump l) p s = jumpIf p l s
 runOutput (jumpn l) p s = jumpIf (not p) l s
 runOutput (setCoil v) p s = onward (writeIf p s v true)
 runOutput (resetCoil v) p s = onward (writeIf p s v false)
+runOutput (timer n) p s = onward (runTimer s n p)
 
 -- "if a took a jump, b is skipped; else b gets the same p, over the table that a left": figure 6, rear-or-jump, rear-or-nojump
 unfoldable pub unlessJumped : Run → (State → Run) → Run

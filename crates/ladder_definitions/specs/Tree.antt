@@ -11,15 +11,17 @@ pub data Front : Type 0 where
   input : Input → Front
   frontAnd frontOr : Front → Front → Front
 
--- coil(var), coiln(var), jump(label), jumpn(label); and 02, Req 01: "Add outputs s and r", set and reset coils
+-- coil(var), coiln(var), jump(label), jumpn(label); and 02, Req 01: "Add outputs s and r", set and reset coils; Req 06: "Add an output t with a
+-- timer number"
 pub data Output : Type 0 where
-  coil coiln jump jumpn setCoil resetCoil : ℕ → Output
+  coil coiln jump jumpn setCoil resetCoil timer : ℕ → Output
 
 -- what an output names
 pub data Named : Type 0 where
-  aVariable aLabel : ℕ → Named
+  aVariable aLabel aTimer : ℕ → Named
 
--- document 01, "The kept ladder": "Operand: a variable for 1, 2, 5, 6; a label for 7, 8"; a variable too for 02's set and reset coils
+-- document 01, "The kept ladder": "Operand: a variable for 1, 2, 5, 6; a label for 7, 8"; a variable too for 02's set and reset coils, and
+-- a timer number for its timers
 unfoldable pub inputVariable : Input → ℕ
 inputVariable (contact v) = v
 inputVariable (contactn v) = v
@@ -31,10 +33,12 @@ outputNames (jump l) = aLabel l
 outputNames (jumpn l) = aLabel l
 outputNames (setCoil v) = aVariable v
 outputNames (resetCoil v) = aVariable v
+outputNames (timer n) = aTimer n
 
 unfoldable pub number : Named → ℕ
 number (aVariable v) = v
 number (aLabel l) = l
+number (aTimer n) = n
 
 -- document 01: "A rear is an output (5 to 8), or 9 with a front and a rear, or 10 with two rears."
 pub data Rear : Type 0 where

@@ -1,5 +1,5 @@
 // The kinds of kept words by name, the sort of a kind, and the limits of a kept ladder. Document 01, "The kept ladder";
-// document 02, Req 01.
+// document 02, Req 01 and Req 06.
 ghost use mathlib.Core.Path.{_≡_};
 ghost use Rattle.ladder_definitions.specs.Kept.{kindSort};
 ghost use Rattle.ladder_kinds.specs.Kinds.{sortIn, namesVariable, namesLabel};
@@ -28,12 +28,14 @@ pub const SET_COIL: u32 = 11;
 
 pub const RESET_COIL: u32 = 12;
 
+pub const TIMER: u32 = 13;
+
 // At most 128 words a rung, 8,192 words; the rungs are rungs::MOST_RECORDS at most.
 pub const MOST_RUNG_WORDS: usize = 128;
 
 pub const MOST_WORDS: usize = 8192;
 
-// A contact; a front-and or a front-or; a coil or a jump; a rear-and; a rear-or; or no kind.
+// A contact; a front-and or a front-or; a coil, a jump or a timer; a rear-and; a rear-or; or no kind.
 pub enum KindSort {
     Contact,
     Joined,
@@ -59,6 +61,7 @@ pub fn sort_of(kind: u32) -> KindSort
         REAR_OR => KindSort::RearOr,
         SET_COIL => KindSort::Output,
         RESET_COIL => KindSort::Output,
+        TIMER => KindSort::Output,
         _ => KindSort::NoKind,
     }
 }

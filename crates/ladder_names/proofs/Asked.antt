@@ -1,28 +1,30 @@
--- Laws of questions 5 to 8: the first test that fails, the words of a rung tested one by one, the walk over a ladder's rungs, labels.
+-- Laws of questions 5 to 8 and 17: the first test that fails, the words of a rung tested one by one, timers, the walk over a ladder's rungs, labels.
 -- Assumes nothing.
-use Prim.Native.Nat.{ℕ, zero, suc, _+_, _-_, _/_, _%_, _≤_, _<_}
+use Prim.Native.Nat.{ℕ, zero, suc, _+_, _-_, _*_, _/_, _%_, _^_, _≤_, _<_}
 use native.Mathlib.Numerals.{add-one}
 use native.Mathlib.Omega.{arith}
+use native.Mathlib.Decide.{decLt}
 use mathlib.Core.Path.{_≡_, refl, sym, ap, _∙_}
-use mathlib.Core.Bool.{Bool, true, false, true≢false, not, _&&_, and-assoc, and-true, and-false, _||_}
+use mathlib.Core.Bool.{Bool, true, false, true≢false, not, _&&_, and-assoc, and-true, and-false, _||_, or-true}
 use mathlib.Core.Option.{none, some}
 use mathlib.Core.List.{List, [], _∷_, _++_, map, flatMap, append-assoc, append-nil}
-use lib.Dec.{T, leb, ltb, ltb→lt}
+use lib.Dec.{T, eqb, leb, ltb, ltb→lt}
 use lib.ListN.{length, getD, take, drop, length-append, length-drop, length-map}
 use lib.Seq.{drop-cons, drop-drop, take-append-seam, drop-append-seam, length-take-le, getD-take}
 use mir.Facts.{and-yes}
 use borrow.Author.Count.{below-more}
-use borrow.Author.Tests.{lt-ltb, le-ltb, le-leb, lt-leb}
+use borrow.Author.Tests.{eq-eqb, ne-eqb, lt-ltb, le-ltb, le-leb, lt-leb}
 use Rattle.questions.specs.Tests.{all, firstFailed}
 use Rattle.questions.specs.Laws.Tests.{T→true, all-head, all-tail, all-getD, all-weaker, all-ends, failed-none}
 use Rattle.rungs.specs.Words.{operands, word, numberOf, operandOf}
 use Rattle.rungs.specs.Records.{search, present}
 use Rattle.rungs.specs.Laws.Search.{search-before, search-past}
-use Rattle.ladder_definitions.specs.Tree.{Input, contact, contactn, Front, input, frontAnd, frontOr, Output, coil, coiln, jump, jumpn, setCoil, resetCoil, Rear, output, rearAnd, rearOr, Rung, Ladder, inputVariable, outputNames, number, frontAll, rearAll, rungAll}
+use Rattle.ladder_definitions.specs.Tree.{Input, contact, contactn, Front, input, frontAnd, frontOr, Output, coil, coiln, jump, jumpn, setCoil, resetCoil, timer, Rear, output, rearAnd, rearOr, Rung, Ladder, inputVariable, outputNames, number, frontAll, rearAll, rungAll}
 use Rattle.ladder_definitions.specs.Kept.{inputKind, outputKind, noName, nameSorts, nameSort, inputWord, outputWord, frontWords, rearWords, rungWords, encode, inputFits, outputFits}
-use Rattle.ladder_definitions.specs.Questions.{mostRungs, mostWords, sizesInRange, inputBelow, namedBelow, outputBelow, newLabels, namedLeads, outputLeads}
-use Rattle.ladder_kinds.specs.Kinds.{namesVariable, namesLabel}
-use Rattle.ladder_names.specs.Asking.{LadderIn, placeOf, RungEnd, lengthInRange, operandBelow, operandLeads, wordBelow, wordStays, wordLeads, SizesAsked, RiseAsked, LabelsAsked}
+use Rattle.ladder_definitions.specs.Questions.{mostRungs, mostWords, sizesInRange, inputBelow, namedBelow, outputBelow, newLabels, namedLeads, outputLeads, namedTimed, outputTimed, timersKnown}
+use Rattle.ladder_kinds.specs.Kinds.{namesVariable, namesLabel, namesTimer}
+use Rattle.ladder_kinds.specs.Laws.Sorts.{timer-tests}
+use Rattle.ladder_names.specs.Asking.{LadderIn, placeOf, RungEnd, lengthInRange, operandBelow, operandLeads, operandTimed, wordBelow, wordStays, wordLeads, wordTimed, SizesAsked, RiseAsked, LabelsAsked, TimersAsked}
 use Rattle.ladder_definitions.specs.Roots.{frontKind, rearKind}
 use Rattle.ladder_names.specs.declared.Found.{Found}
 use Rattle.ladder_names.specs.declared.Found.the-variants.{At, Nothing}
@@ -176,6 +178,7 @@ below-tests vars = tests-of (operandBelow vars) (inputBelow vars) (outputBelow v
     outputs (jumpn l) = refl
     outputs (setCoil v) = refl
     outputs (resetCoil v) = refl
+    outputs (timer n) = refl
 
 pub leads-tests : (ls : List ℕ) → Tests (wordLeads ls) (λ i. true) (outputLeads ls)
 unfolding operandLeads namesLabel nameSort nameSorts inputKind outputKind outputNames number outputLeads namedLeads
@@ -195,6 +198,27 @@ leads-tests ls = tests-of (operandLeads ls) (λ i. true) (outputLeads ls) inputs
     outputs (jumpn l) = refl
     outputs (setCoil v) = refl
     outputs (resetCoil v) = refl
+    outputs (timer n) = refl
+
+timed-tests : (records : ℕ) → Tests (wordTimed records) (λ i. true) (outputTimed records)
+unfolding operandTimed namesTimer nameSort nameSorts inputKind outputKind outputNames number outputTimed namedTimed
+timed-tests records = tests-of (operandTimed records) (λ i. true) (outputTimed records) inputs outputs roots
+  where
+    roots : (k : ℕ) → nameSort k ≡ noName → operandTimed records k 0 ≡ true
+    roots k e = rw (e, namesTimer)
+
+    inputs : (i : Input) → operandTimed records (inputKind i) (inputVariable i) ≡ true
+    inputs (contact v) = refl
+    inputs (contactn v) = refl
+
+    outputs : (o : Output) → operandTimed records (outputKind o) (number (outputNames o)) ≡ outputTimed records o
+    outputs (coil v) = refl
+    outputs (coiln v) = refl
+    outputs (jump l) = refl
+    outputs (jumpn l) = refl
+    outputs (setCoil v) = refl
+    outputs (resetCoil v) = refl
+    outputs (timer n) = refl
 
 -- what the code asks of a kind and an operand
 pub below-operand : (vars k o : ℕ) (r : Bool) → r ≡ namesVariable k → (not r || ltb o vars) ≡ operandBelow vars k o
@@ -219,6 +243,59 @@ stays-leads ls ws e =
     either : (a b : Bool) → T a → T (a || b)
     either true b t = tt
     either false b t = absurd t
+
+-- ---- question 17
+
+-- the greatest that the word of a timer with a record may be, less the first word past all timers, modulo 2^32
+abbrev lastKnown : ℕ → ℕ
+lastKnown records = 2 ^ 32 - 1 - operands + records
+
+-- what the code asks of a word w, which less that word is x
+timed-word : (records w x : ℕ) → records < operands → x < 2 ^ 32 → (x + 14 * operands) % 2 ^ 32 ≡ w → not (ltb (lastKnown records) x) ≡ wordTimed records w
+unfolding operandTimed
+timed-word records w x h l e = rw (← (timer-tests (numberOf w))) (go (decLt (lastKnown records) x) (decLt w (13 * operands)) (decLt w (14 * operands)))
+  where
+    go : Dec (lastKnown records < x) → Dec (w < 13 * operands) → Dec (w < 14 * operands)
+        → not (ltb (lastKnown records) x) ≡ (not (eqb (numberOf w) 13) || ltb (operandOf w) records)
+    go (yes c) a b = rw (lt-ltb (lastKnown records) x c, eq-eqb (numberOf w) 13 (omega arith), le-ltb (operandOf w) records (omega arith)) refl
+    go (no c) (yes a) b = rw (le-ltb (lastKnown records) x (omega arith), ne-eqb (numberOf w) 13 (λ e. omega arith)) refl
+    go (no c) (no a) (yes b) = rw (le-ltb (lastKnown records) x (omega arith), eq-eqb (numberOf w) 13 (omega arith), lt-ltb (operandOf w) records (omega arith)) refl
+    go (no c) (no a) (no b) = rw (le-ltb (lastKnown records) x (omega arith), ne-eqb (numberOf w) 13 (λ e. omega arith)) refl
+
+many-records : (records : ℕ) (ws : List ℕ) → operands ≤ records → all (wordTimed records) ws ≡ true
+unfolding operandTimed all
+many-records records [] h = refl
+many-records records (w ∷ ws) h = rw (lt-ltb (operandOf w) records (omega arith), or-true (not (namesTimer (numberOf w))), many-records records ws h)
+
+module _ {records : ℕ} {ws : List ℕ} where
+  timers-asked : {r : Bool} → r ≡ all (wordTimed records) ws → TimersAsked records ws r
+  unfolding timersKnown
+  timers-asked e = record { same = λ gs l. e ∙ ap (all (wordTimed records)) (l .words) ∙ ladder-tested (timed-tests records) gs (l .fits) }
+
+  -- more records than there are timer numbers
+  pub timers-many : operands ≤ records → TimersAsked records ws true
+  timers-many h = timers-asked (sym (many-records records ws h))
+
+-- the loop's invariant: whether a timer before place i is unknown, with what is left to ask from i on
+pub record TimersTo (records : ℕ) (ws : List ℕ) (unknown : Bool) (i : ℕ) : Type 0 where
+  pub asked : AskedTo (wordTimed records) ws (not unknown) i
+
+pub timers-start : (records : ℕ) (ws : List ℕ) → TimersTo records ws false 0
+timers-start records ws = record { asked = asked-start (wordTimed records) ws }
+
+module _ {records : ℕ} {ws : List ℕ} {unknown : Bool} {i : ℕ} (t : TimersTo records ws unknown i) where
+  pub timers-more : (x : ℕ) → records < operands → i < length ws → x < 2 ^ 32 → (x + 14 * operands) % 2 ^ 32 ≡ getD ws i 0
+      → TimersTo records ws (unknown || ltb (lastKnown records) x) (i + 1)
+  timers-more x few h l e = record {
+    asked = rw (neither unknown (ltb (lastKnown records) x)) (asked-more (wordTimed records) (t .asked) 0 _ h (timed-word records (getD ws i 0) x few l e));
+  }
+    where
+      neither : (p q : Bool) → not (p || q) ≡ (not p && not q)
+      neither true q = refl
+      neither false q = refl
+
+  pub timers-end : length ws ≤ i → TimersAsked records ws (not unknown)
+  timers-end h = timers-asked (asked-end (wordTimed records) (t .asked) h)
 
 -- ---- question 5
 

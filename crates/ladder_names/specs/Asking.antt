@@ -1,4 +1,4 @@
--- Contracts of the functions behind questions 5 to 8: what they promise each other. Nothing here is a sentence of document 01. Assumes nothing.
+-- Contracts of the functions behind questions 5 to 8 and 17: what they promise each other. Nothing here is a sentence of document 01 or 02. Assumes nothing.
 use Prim.Native.Nat.{ℕ, _+_, _≤_}
 use mathlib.Core.Path.{_≡_}
 use mathlib.Core.Bool.{Bool, true, not, _||_}
@@ -11,8 +11,8 @@ use Rattle.rungs.specs.Words.{numberOf, operandOf}
 use Rattle.rungs.specs.Records.{present}
 use Rattle.ladder_definitions.specs.Tree.{Ladder, rungAll}
 use Rattle.ladder_definitions.specs.Kept.{rungWords, inputFits, outputFits}
-use Rattle.ladder_definitions.specs.Questions.{mostRungWords, sizesInRange, rungBelow, newLabels, rungLeads}
-use Rattle.ladder_kinds.specs.Kinds.{namesVariable, namesLabel}
+use Rattle.ladder_definitions.specs.Questions.{mostRungWords, sizesInRange, rungBelow, newLabels, rungLeads, timersKnown}
+use Rattle.ladder_kinds.specs.Kinds.{namesVariable, namesLabel, namesTimer}
 use Rattle.ladder_names.specs.declared.Found.{Found}
 use Rattle.ladder_names.specs.declared.Found.the-variants.{At, Nothing}
 
@@ -35,12 +35,16 @@ pub record RungEnd (from n last r : ℕ) : Type 0 where
 abbrev pub lengthInRange : ℕ → Bool
 lengthInRange n = leb n mostRungWords
 
--- whether the operand o of a word of kind k is a variable below vars, or no variable; whether it is a label of ls, or no label
+-- whether the operand o of a word of kind k is a variable below vars, or no variable; whether it is a label of ls, or no label;
+-- whether it is the number of a timer with a record, of so many, or no timer's
 unfoldable pub operandBelow : ℕ → ℕ → ℕ → Bool
 operandBelow vars k o = not (namesVariable k) || ltb o vars
 
 unfoldable pub operandLeads : List ℕ → ℕ → ℕ → Bool
 operandLeads ls k o = not (namesLabel k) || present o ls
+
+unfoldable pub operandTimed : ℕ → ℕ → ℕ → Bool
+operandTimed records k o = not (namesTimer k) || ltb o records
 
 abbrev pub wordBelow : ℕ → ℕ → Bool
 wordBelow vars w = operandBelow vars (numberOf w) (operandOf w)
@@ -51,6 +55,9 @@ wordStays w = not (namesLabel (numberOf w))
 
 abbrev pub wordLeads : List ℕ → ℕ → Bool
 wordLeads ls w = operandLeads ls (numberOf w) (operandOf w)
+
+abbrev pub wordTimed : ℕ → ℕ → Bool
+wordTimed records w = operandTimed records (numberOf w) (operandOf w)
 
 pub record SizesAsked (ws ns : List ℕ) (r : Bool) : Type 0 where
   pub same : (gs : Ladder) → LadderIn ws ns gs → r ≡ sizesInRange gs
@@ -67,3 +74,7 @@ pub record LabelsAsked (ls : List ℕ) (r : Found) : Type 0 where
 
 pub record JumpsAsked (ls ws ns : List ℕ) (r : Found) : Type 0 where
   pub same : (gs : Ladder) → LadderIn ws ns gs → placeOf r ≡ firstFailed (map (rungLeads ls) gs)
+
+-- of any lengths: the question has no place
+pub record TimersAsked (records : ℕ) (ws : List ℕ) (r : Bool) : Type 0 where
+  pub same : {ns : List ℕ} (gs : Ladder) → LadderIn ws ns gs → r ≡ timersKnown records gs

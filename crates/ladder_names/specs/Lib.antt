@@ -1,2 +1,2 @@
--- Questions 5 to 8. What their functions promise each other: Asking.
+-- Questions 5 to 8 and 17. What their functions promise each other: Asking.
 pub mod Asking

@@ -1,8 +1,11 @@
-// Questions 5 to 8. The words of a rung are those from the end of the rung before it on, as many as its length says.
+// Questions 5 to 8 and 17. The words of a rung are those from the end of the rung before it on, as many as its length says.
 ghost use mathlib.Core.Path.{_≡_};
 ghost use Rattle.questions.specs.Tests.{all};
 ghost use Rattle.ladder_names.specs.Asking.{RungEnd, lengthInRange, wordBelow, wordStays, wordLeads};
-ghost use Rattle.ladder_names.specs.Asking.{SizesAsked, VariablesAsked, RiseAsked, LabelsAsked, JumpsAsked};
+ghost use Rattle.ladder_names.specs.Asking.{SizesAsked, VariablesAsked, RiseAsked, LabelsAsked, JumpsAsked, TimersAsked};
+
+// Past the words of timers. Where this is taken off, modulo 2^32, they are the greatest, in their order.
+const PAST_TIMERS: u32 = (ladder_kinds::TIMER + 1) * rungs::OPERANDS;
 
 // The place of the first rung that a question says "no" to, if there is one.
 pub enum Found {
@@ -183,4 +186,21 @@ pub fn missing_label(labels: &[u16], words: &[u32], lengths: &[u32]) -> Found
         k += 1;
     }
     Found::Nothing
+}
+
+// Question 17: whether every timer number has a record, of so many. A loop with no exit and one comparison a word.
+pub fn timers_known(words: &[u32], records: usize) -> bool
+    ensures { λ r. ⌜ TimersAsked records (now (words .entry)) r ⌝ }
+{
+    if rungs::OPERANDS as usize <= records {
+        return true;
+    }
+    let last_known = u32::MAX - rungs::OPERANDS + records as u32;
+    let mut unknown = false;
+    let mut i: usize = 0;
+    while i < words.len() {
+        unknown = unknown | (last_known < std::num::wrapping_sub_u32(words[i], PAST_TIMERS));
+        i += 1;
+    }
+    !unknown
 }

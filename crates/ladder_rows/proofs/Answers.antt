@@ -6,44 +6,46 @@ use mathlib.Core.Path.{_≡_, refl, sym, ap, _∙_}
 use mathlib.Core.Bool.{Bool}
 use mathlib.Core.List.{List}
 use lib.ListN.{length, take}
-use Rattle.questions.specs.Questions.{Answer, firstNo}
+use Rattle.table.specs.Laws.TimerRecords.{whole-timers}
+use Rattle.questions.specs.Questions.{Answer}
 use Rattle.questions.specs.Refusals.{verdictAnswer}
 use Rattle.questions.specs.Laws.Answers.{verdict-refused, verdict-accepted}
 use Rattle.questions.specs.declared.Refusal.{Refusal}
 use Rattle.questions.specs.declared.Verdict.{Verdict}
 use Rattle.questions.specs.declared.Verdict.the-variants.{Accepted, Refused}
 use Rattle.table.specs.State.{stateOf}
+use Rattle.table.specs.TimerRecords.{timersIn, numberTimers}
 use Rattle.rungs.specs.Records.{RungRecord, rowOf, fieldsOf, mostRecords}
 use Rattle.rungs.specs.Laws.Rows.{row-fields}
 use Rattle.rows.specs.Parts.{gathered}
 use Rattle.rows.specs.Laws.Gathered.{gathered-whole}
 use Rattle.rows.specs.declared.Rows.{Rows}
-use Rattle.ladder_definitions.specs.LadderScan.{scanQuestions, callLadderScan, LadderScanDone}
-use Rattle.ladder_walk.specs.Laws.Scans.{scan-first, scan-refuses, scan-fits, scan-scans}
+use Rattle.ladder_definitions.specs.Kept.{Kept}
+use Rattle.ladder_definitions.specs.LadderScan.{scanQuestions, callLadderScan, LadderScanNumbers}
+use Rattle.ladder_walk.specs.Laws.Scans.{scan-fits, scan-scans}
+use Rattle.ladder.proofs.Scans.{passed-whole, numbers-refused, numbers-scanned}
 use Rattle.ladder_definitions.specs.declared.LadderScanned.{LadderScanned}
-use Rattle.ladder_rows.specs.Parts.{longHolds, LongRefused, RowAsked, RowReady, RowScanned}
+use Rattle.ladder_rows.specs.Parts.{longHolds, LongScanRefused, RowAsked, RowReady, RowScanned}
 
-module _ (vars : ℕ) (ws : List ℕ) (rows : Rows) (long : Bool) (t : List ℕ) (w : ℕ) where
+module _ (vars : ℕ) (ws : List ℕ) (rows : Rows) (long : Bool) (t ns : List ℕ) (w : ℕ) where
   -- ---- the questions
 
-  pub asked-long : mostRecords < rows .n → (x : Refusal) → LongRefused vars long x → RowAsked vars ws rows long t w (Refused x)
-  unfolding gathered verdictAnswer firstNo
+  pub asked-long : mostRecords < rows .n → (x : Refusal) → LongScanRefused vars ns long x → RowAsked vars ws rows long t ns w (Refused x)
+  unfolding gathered verdictAnswer
   asked-long h x refused = record {
-    same = λ rs e l.
-        let n : rows .n ≡ length rs = ap (λ r. r .n) e in
-        let z = refused .same ws rs (omega arith) l in
-        rw (scan-first vars (record { words = ws; records = rs }) t w, z);
+    same = λ rs e l. let n : rows .n ≡ length rs = ap (λ r. r .n) e in sym (refused .same ws rs t w (omega arith) l);
   }
 
   -- whatever the times are
   pub asked-short : rows .n ≤ mostRecords → (v : Verdict) (ts : List ℕ) → length (take (rows .n) (rows .labels)) ≡ length ts
-      → verdictAnswer v ≡ scanQuestions vars (record { words = ws; records = rowOf (take (rows .n) (rows .labels)) (take (rows .n) (rows .offsets)) (take (rows .n) (rows .lengths)) ts }) t w
-      → RowAsked vars ws rows long t w v
+      → verdictAnswer v
+      ≡ scanQuestions vars (record { words = ws; records = rowOf (take (rows .n) (rows .labels)) (take (rows .n) (rows .offsets)) (take (rows .n) (rows .lengths)) ts }) t (numberTimers ns) w
+      → RowAsked vars ws rows long t ns w v
   unfolding gathered
   asked-short h v ts many a = record { same = λ rs e l. a ∙ ap asks (row-fields _ _ _ ts many) ∙ ap asks (whole rs e) }
     where
       asks : List RungRecord → Answer
-      asks rs = scanQuestions vars (record { words = ws; records = rs }) t w
+      asks rs = scanQuestions vars (record { words = ws; records = rs }) t (numberTimers ns) w
 
       whole : (rs : List RungRecord) → rows ≡ gathered rs → fieldsOf (take (rows .n) (rows .labels)) (take (rows .n) (rows .offsets)) (take (rows .n) (rows .lengths)) ≡ rs
       whole rs e =
@@ -55,18 +57,25 @@ module _ (vars : ℕ) (ws : List ℕ) (rows : Rows) (long : Bool) (t : List ℕ)
 
   -- ---- the answer
 
-  pub row-ready : (v : Verdict) (rs : List RungRecord) → RowAsked vars ws rows long t w v → rows ≡ gathered rs → long ≡ longHolds ws rs → RowReady v ws w
-  row-ready v rs asked e l = record { fits = λ q. scan-fits vars (record { words = ws; records = rs }) t w (verdict-accepted (asked .same rs e l) q) }
+  pub row-ready : (v : Verdict) (rs : List RungRecord) → RowAsked vars ws rows long t ns w v → rows ≡ gathered rs → long ≡ longHolds ws rs → RowReady v ws w
+  row-ready v rs asked e l = record { fits = λ q. scan-fits vars (record { words = ws; records = rs }) t (numberTimers ns) w (verdict-accepted (asked .same rs e l) q) }
 
-  pub row-done : (v : Verdict) (rs : List RungRecord) (r : LadderScanned) (u : List ℕ) → RowAsked vars ws rows long t w v → rows ≡ gathered rs → long ≡ longHolds ws rs
-      → RowScanned v ws rs (stateOf vars t) w r u → LadderScanDone (callLadderScan vars (record { words = ws; records = rs }) t w) r u
-  row-done v rs r u asked e l scanned = go v refl
+  pub row-done : (v : Verdict) (rs : List RungRecord) (tick : ℕ) (r : LadderScanned) (u ms : List ℕ) → RowAsked vars ws rows long t ns w v → rows ≡ gathered rs
+      → long ≡ longHolds ws rs → length ms ≡ length ns → RowScanned v ws rs (stateOf vars t (timersIn ns) tick) ns w r u ms
+      → LadderScanNumbers (callLadderScan vars (record { words = ws; records = rs }) t (numberTimers ns) tick w) r u ns ms
+  row-done v rs tick r u ms asked e l many scanned = go v refl
     where
-      answer : verdictAnswer v ≡ scanQuestions vars (record { words = ws; records = rs }) t w
+      k : Kept
+      k = record { words = ws; records = rs }
+
+      answer : verdictAnswer v ≡ scanQuestions vars k t (numberTimers ns) w
       answer = asked .same rs e l
 
-      go : (x : Verdict) → v ≡ x → LadderScanDone (callLadderScan vars (record { words = ws; records = rs }) t w) r u
-      go Accepted q = scan-scans vars (record { words = ws; records = rs }) t w (verdict-accepted answer q) r u (scanned .scanned q)
+      go : (x : Verdict) → v ≡ x → LadderScanNumbers (callLadderScan vars k t (numberTimers ns) tick w) r u ns ms
+      go Accepted q =
+          let ok = verdict-accepted answer q in
+          numbers-scanned vars k t ns tick w ok r u ms many
+          (scan-scans vars k t (numberTimers ns) w tick ok r u (timersIn ms) (rw (whole-timers ns (passed-whole vars k t ns tick w ok)) (scanned .scanned q)))
       go (Refused x) q =
           let s = scanned .refused x q in
-          rw (s .0, s .1) (scan-refuses vars (record { words = ws; records = rs }) t w x (verdict-refused x answer q))
+          rw (s .0, s .1 .0, s .1 .1) (numbers-refused vars k t ns tick w x (verdict-refused x answer q))

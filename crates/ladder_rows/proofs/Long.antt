@@ -4,24 +4,30 @@ use native.Mathlib.Numerals.{add-one}
 use native.Mathlib.Omega.{arith}
 use native.Mathlib.Decide.{ℕ-discrete}
 use mathlib.Core.Path.{_≡_, refl, sym, ap, _∙_}
-use mathlib.Core.Bool.{Bool, true, false, _&&_}
-use mathlib.Core.List.{List}
+use mathlib.Core.Bool.{Bool, true, false, true≢false, _&&_}
+use mathlib.Core.Option.{some}
+use mathlib.Core.List.{List, _++_}
 use lib.Dec.{eqb, leb, ltb, leb→le, nleb→lt, ltb→lt}
 use lib.ListN.{length, drop}
 use lib.Seq.{slice, drop-cons}
 use borrow.Author.Tests.{eq-eqb, ne-eqb, lt-ltb, le-ltb, le-leb, lt-leb}
-use Rattle.questions.specs.Questions.{ask, firstNo, varsInRange, question1}
+use Rattle.questions.specs.Questions.{Refusal, Answer, ask, firstNo, varsInRange, question1}
 use Rattle.questions.specs.Refusals.{refusalOf}
-use Rattle.questions.specs.declared.Refusal.the-variants.{Variables, Kept as KeptCase, Sizes}
+use Rattle.questions.specs.Laws.Answers.{first-append}
+use Rattle.questions.specs.declared.Refusal.{Refusal as RefusalCase}
+use Rattle.questions.specs.declared.Refusal.the-variants.{Variables, Kept as KeptCase, Sizes, Timers}
+use Rattle.table.specs.Questions.{timersInRange, question16}
+use Rattle.table.specs.TimerRecords.{numberTimers}
 use Rattle.rungs.specs.Records.{RungRecord, mostRecords}
 use Rattle.rows.specs.Rows.{noRecord, recordAt}
 use Rattle.ladder_definitions.specs.Tree.{Ladder}
-use Rattle.ladder_definitions.specs.Questions.{ladderOf, holdsLadder, question4, sizesInRange, question5, ladderQuestions, ladderAnswer}
+use Rattle.ladder_definitions.specs.Questions.{ladderOf, holdsLadder, question4, sizesInRange, question5, formQuestions, ladderQuestions, ladderAnswer}
+use Rattle.ladder_definitions.specs.LadderScan.{scanQuestions}
 use Rattle.ladder_kept.specs.Pending.{completes, holdsFrom}
 use Rattle.ladder_definitions.specs.Laws.Accepting.{holds}
 use Rattle.ladder_definitions.specs.Laws.Held.{kept-many}
 use Rattle.ladder_kept.specs.Laws.Pending.{holds-counted, holds-next, holds-last}
-use Rattle.ladder_rows.specs.Parts.{longHolds, askedTo, laidFirst, laidNext, laidWhole, LongRefused}
+use Rattle.ladder_rows.specs.Parts.{longHolds, askedTo, laidFirst, laidNext, laidWhole, LongRefused, LongScanRefused}
 use Rattle.ladder_rows.specs.declared.Laid.{Laid}
 
 -- ---- numbers
@@ -183,6 +189,11 @@ module _ (upto words : ℕ) (l : Laid) where
 
 -- ---- a row of more than 256 records
 
+-- a "no" among the first of them
+first-no : (answers later : List Answer) (r : Refusal) → firstNo answers ≡ some r → firstNo (answers ++ later) ≡ some r
+unfolding firstNo
+first-no answers later r e = first-append answers later ∙ rw e refl
+
 module _ (vars : ℕ) (asked : Bool) where
   -- the answer to question 4 of such a row
   told : (ws : List ℕ) (rs : List RungRecord) → mostRecords < length rs → asked ≡ longHolds ws rs → holdsLadder (record { words = ws; records = rs }) ≡ asked
@@ -191,20 +202,18 @@ module _ (vars : ℕ) (asked : Bool) where
 
   pub long-variables : varsInRange vars ≡ false → LongRefused vars asked Variables
   unfolding refusalOf ladderAnswer firstNo question1 ask
-  long-variables n = record { same = λ ws rs h e. rw n }
+  long-variables n = record { same = λ ws rs h e. rw n; form = λ y. absurd (true≢false (sym y ∙ n)) }
 
   module _ (y : varsInRange vars ≡ true) where
     pub long-kept : asked ≡ false → LongRefused vars asked KeptCase
-    unfolding refusalOf ladderAnswer ladderQuestions firstNo question1 question4 ask
-    long-kept n = record { same = λ ws rs h e. let z = told ws rs h e ∙ n in rw (y, z) }
+    unfolding refusalOf ladderAnswer ladderQuestions formQuestions firstNo question1 question4 ask
+    long-kept n = record { same = λ ws rs h e. let z = told ws rs h e ∙ n in rw (y, z); form = λ y ws rs h e. let z = told ws rs h e ∙ n in rw z }
 
     pub long-sizes : asked ≡ true → LongRefused vars asked Sizes
-    unfolding refusalOf ladderAnswer ladderQuestions firstNo question1 question4 question5 ask sizesInRange
+    unfolding refusalOf ladderAnswer ladderQuestions formQuestions firstNo question1 question4 question5 ask sizesInRange
     long-sizes a = record {
-      same = λ ws rs h e.
-          let z = told ws rs h e ∙ a in
-          let n = many ws rs z in
-          rw (y, z, too-many (ladderOf (record { words = ws; records = rs })) (omega arith));
+      same = λ ws rs h e. let z = told ws rs h e ∙ a in rw (y, z, sizes ws rs h z);
+      form = λ y ws rs h e. let z = told ws rs h e ∙ a in rw (z, sizes ws rs h z);
     }
       where
         many : (ws : List ℕ) (rs : List RungRecord) → holdsLadder (record { words = ws; records = rs }) ≡ true → length rs ≡ length (ladderOf (record { words = ws; records = rs }))
@@ -212,3 +221,25 @@ module _ (vars : ℕ) (asked : Bool) where
 
         too-many : (gs : Ladder) → mostRecords < length gs → sizesInRange gs ≡ false
         too-many gs h = rw (lt-leb (length gs) mostRecords h)
+
+        sizes : (ws : List ℕ) (rs : List RungRecord) → mostRecords < length rs → holdsLadder (record { words = ws; records = rs }) ≡ true
+            → sizesInRange (ladderOf (record { words = ws; records = rs })) ≡ false
+        sizes ws rs h z = let n = many ws rs z in too-many (ladderOf (record { words = ws; records = rs })) (omega arith)
+
+-- what Ladder scan's first question says "no" to
+module _ (vars : ℕ) (ns : List ℕ) (asked : Bool) where
+  pub long-vars : varsInRange vars ≡ false → LongScanRefused vars ns asked Variables
+  unfolding scanQuestions refusalOf firstNo question1 ask
+  long-vars n = record { same = λ ws rs t w h e. rw n }
+
+  -- question 16 comes after question 1
+  pub long-timers : varsInRange vars ≡ true → timersInRange vars (numberTimers ns) ≡ false → LongScanRefused vars ns asked Timers
+  unfolding scanQuestions refusalOf firstNo question1 question16 ask
+  long-timers y n = record { same = λ ws rs t w h e. rw (y, n) }
+
+  -- and the others after it
+  pub long-legal : (r : RefusalCase) → LongRefused vars asked r → varsInRange vars ≡ true → timersInRange vars (numberTimers ns) ≡ true → LongScanRefused vars ns asked r
+  unfolding scanQuestions firstNo question1 question16 ask
+  long-legal r refused y z = record {
+    same = λ ws rs t w h e. rw (y, z) (first-no (formQuestions vars (record { words = ws; records = rs })) _ (refusalOf r) (refused .form y ws rs h e));
+  }

@@ -11,6 +11,7 @@ use Rattle.questions.specs.declared.Refusal.{Refusal}
 use Rattle.questions.specs.declared.Verdict.{Verdict}
 use Rattle.questions.specs.declared.Verdict.the-variants.{Accepted, Refused}
 use Rattle.table.specs.State.{State}
+use Rattle.table.specs.TimerRecords.{timersIn}
 use Rattle.rungs.specs.Records.{RungRecord, labels, offsets, search, lookUp}
 use Rattle.rungs.specs.Parts.{placeOf}
 use Rattle.rungs.specs.Laws.Search.{place-of}
@@ -126,28 +127,32 @@ module _ (v : Verdict) (at : Standing) (n : ℕ) where
 
 -- ---- the loop's invariant
 
--- s is the state where the scan begins, here the one where the next rung begins
-pub record Going (v : Verdict) (ws : List ℕ) (rs : List RungRecord) (s : State) (w : ℕ) (here : State) (at : Standing) : Type 0 where
+-- s is the state where the scan begins, here the one where the next rung begins; ns and ms are the numbers of their timer records
+pub record Going (v : Verdict) (ws : List ℕ) (rs : List RungRecord) (s : State) (ns : List ℕ) (w : ℕ) (here : State) (ms : List ℕ) (at : Standing) : Type 0 where
   pub on-is : at .on ≡ (accepts v && goesOn (at .rung) (length rs) (at .entered) w)
   pub within : at .entered ≤ w
   pub sum : at .moved ≡ here .moved
   pub long : length (here .bytes) ≡ length (s .bytes)
-  pub untouched : (x : Refusal) → v ≡ Refused x → here ≡ s
+  pub many : length ms ≡ length ns
+  pub tells : here .timers ≡ timersIn ms
+  pub untouched : (x : Refusal) → v ≡ Refused x → (here ≡ s) × (ms ≡ ns)
   pub going : v ≡ Accepted → Scanning ws (labels rs) (offsets rs) s w here (at .entered) (at .rung)
 
-module _ (v : Verdict) (ws : List ℕ) (rs : List RungRecord) (s : State) (w : ℕ) where
-  pub going-first : s .moved ≡ 0 → Going v ws rs s w s (begun v (length rs) w)
+module _ (v : Verdict) (ws : List ℕ) (rs : List RungRecord) (s : State) (ns : List ℕ) (w : ℕ) where
+  pub going-first : s .moved ≡ 0 → s .timers ≡ timersIn ns → Going v ws rs s ns w s ns (begun v (length rs) w)
   unfolding begun
-  going-first z = record {
+  going-first z y = record {
     on-is = refl;
     within = omega arith;
     sum = sym z;
     long = refl;
-    untouched = λ x e. refl;
+    many = refl;
+    tells = y;
+    untouched = λ x e. (refl, refl);
     going = λ e. scanning-first ws (labels rs) (offsets rs) s w z;
   }
 
-  module _ (here : State) (at : Standing) (g : Going v ws rs s w here at) where
+  module _ (here : State) (ms : List ℕ) (at : Standing) (g : Going v ws rs s ns w here ms at) where
     module _ (ready : RowReady v ws w) (on : at .on ≡ true) where
       verdict : v ≡ Accepted
       verdict = accepts-taken v (and-left _ _ (sym (g .on-is) ∙ on))
@@ -181,15 +186,17 @@ module _ (v : Verdict) (ws : List ℕ) (rs : List RungRecord) (s : State) (w : �
         going-nearer = let n = going-needs .1 in omega arith
 
         pub going-next : (tells : u (way .moved) .moved ≡ way .moved) (stays : length (u (way .moved) .bytes) ≡ length (here .bytes)) → rung ≡ nextRung (labels rs) way (at .rung)
-            → Going v ws rs s w (u (way .moved)) (arrived at way rung (length rs) w)
+            → (ks : List ℕ) → length ks ≡ length ms → u (way .moved) .timers ≡ timersIn ks → Going v ws rs s ns w (u (way .moved)) ks (arrived at way rung (length rs) w)
         unfolding accepts arrived wayOf nextRung
-        going-next tells stays f =
+        going-next tells stays f ks same y =
             let n = going-needs in
             record {
               on-is = rw (verdict, accepts);
               within = add-within (n .1);
               sum = sym tells;
               long = stays ∙ g .long;
+              many = same ∙ g .many;
+              tells = y;
               untouched = λ x r. absurd (not-both v x verdict r);
               going = λ a. go (e .ran) (e .run) (e .way);
             }
@@ -216,11 +223,11 @@ module _ (v : Verdict) (ws : List ℕ) (rs : List RungRecord) (s : State) (w : �
                 scan-jumped ws (labels rs) (offsets rs) s w here (at .entered) (at .rung) (g .going verdict) (ready .fits verdict .words) inside (next .before) _ offset
                 (Jumped l m) u run l (way .moved) rung (ap (Jumped l) m-is) tells stays p
 
-    pub going-ends : at .on ≡ false → RowScanned v ws rs s w (answered v at (length rs)) (here .bytes)
+    pub going-ends : at .on ≡ false → RowScanned v ws rs s ns w (answered v at (length rs)) (here .bytes) ms
     unfolding answered accepts goesOn
     going-ends off = record {
-      refused = λ x e. (ap (λ v. answered v at (length rs)) e, ap (λ y. y .bytes) (g .untouched x e));
-      scanned = λ e. rw e (go (g .going e) (halts e) (leb (length rs) (at .rung)) refl);
+      refused = λ x e. (ap (λ v. answered v at (length rs)) e, (ap (λ y. y .bytes) (g .untouched x e .0), g .untouched x e .1));
+      scanned = λ e. rw e (rw (g .tells) at (go (g .going e) (halts e) (leb (length rs) (at .rung)) refl));
     }
       where
         halts : v ≡ Accepted → goesOn (at .rung) (length rs) (at .entered) w ≡ false
@@ -230,7 +237,7 @@ module _ (v : Verdict) (ws : List ℕ) (rs : List RungRecord) (s : State) (w : �
         many = length-map rs (λ r. r .label)
 
         go : Scanning ws (labels rs) (offsets rs) s w here (at .entered) (at .rung) → goesOn (at .rung) (length rs) (at .entered) w ≡ false
-            → (b : Bool) → leb (length rs) (at .rung) ≡ b → Scanned ws (labels rs) (offsets rs) s w (answered Accepted at (length rs)) (here .bytes)
+            → (b : Bool) → leb (length rs) (at .rung) ≡ b → Scanned ws (labels rs) (offsets rs) s w (answered Accepted at (length rs)) (here .bytes) (here .timers)
         go inv h true q =
             let n = many in
             let l = leb→le (length rs) (at .rung) (rw q tt) in

@@ -7,15 +7,17 @@ use mathlib.Core.List.{List}
 use lib.Dec.{eqb, leb, ltb}
 use lib.ListN.{length}
 use lib.Seq.{slice}
+use Rattle.questions.specs.Questions.{firstNo, varsInRange}
 use Rattle.questions.specs.Refusals.{refusalOf, verdictAnswer}
 use Rattle.questions.specs.declared.Refusal.{Refusal}
 use Rattle.questions.specs.declared.Verdict.{Verdict}
 use Rattle.questions.specs.declared.Verdict.the-variants.{Accepted, Refused}
 use Rattle.table.specs.State.{State}
+use Rattle.table.specs.TimerRecords.{timersIn, numberTimers}
 use Rattle.rungs.specs.Records.{RungRecord, labels, offsets, mostRecords, search}
 use Rattle.rows.specs.Parts.{gathered}
 use Rattle.rows.specs.declared.Rows.{Rows}
-use Rattle.ladder_definitions.specs.Questions.{holdsLadder, ladderAnswer}
+use Rattle.ladder_definitions.specs.Questions.{holdsLadder, formQuestions, ladderAnswer}
 use Rattle.ladder_definitions.specs.LadderScan.{scanQuestions}
 use Rattle.ladder_kept.specs.Pending.{completes}
 use Rattle.ladder_walk.specs.Walking.{RungRun}
@@ -50,14 +52,23 @@ laidNext ws l r =
 unfoldable pub laidWhole : ℕ → ℕ → Laid → Bool
 laidWhole upto words l = ltb 0 upto && (l .whole && eqb (l .start) words)
 
--- what the first question says "no" to in such a row
+-- what the first question says "no" to in such a row; past question 1 it is one of 4 to 8
 pub record LongRefused (vars : ℕ) (holds : Bool) (r : Refusal) : Type 0 where
   pub same : (ws : List ℕ) (rs : List RungRecord) → mostRecords < length rs → holds ≡ longHolds ws rs → ladderAnswer vars (record { words = ws; records = rs }) ≡ some (refusalOf r)
+  pub form : varsInRange vars ≡ true → (ws : List ℕ) (rs : List RungRecord) → mostRecords < length rs → holds ≡ longHolds ws rs
+      → firstNo (formQuestions vars (record { words = ws; records = rs })) ≡ some (refusalOf r)
+
+-- and what Ladder scan's first question does, with timer records in the numbers ns
+pub record LongScanRefused (vars : ℕ) (ns : List ℕ) (holds : Bool) (r : Refusal) : Type 0 where
+  pub same : (ws : List ℕ) (rs : List RungRecord) (t : List ℕ) (w : ℕ) → mostRecords < length rs → holds ≡ longHolds ws rs
+      → scanQuestions vars (record { words = ws; records = rs }) t (numberTimers ns) w ≡ some (refusalOf r)
 
 -- ---- the questions
 
-pub record RowAsked (vars : ℕ) (ws : List ℕ) (rows : Rows) (long : Bool) (t : List ℕ) (w : ℕ) (r : Verdict) : Type 0 where
-  pub same : (rs : List RungRecord) → rows ≡ gathered rs → long ≡ longHolds ws rs → verdictAnswer r ≡ scanQuestions vars (record { words = ws; records = rs }) t w
+-- ns are the numbers of the timer records
+pub record RowAsked (vars : ℕ) (ws : List ℕ) (rows : Rows) (long : Bool) (t ns : List ℕ) (w : ℕ) (r : Verdict) : Type 0 where
+  pub same : (rs : List RungRecord) → rows ≡ gathered rs → long ≡ longHolds ws rs
+      → verdictAnswer r ≡ scanQuestions vars (record { words = ws; records = rs }) t (numberTimers ns) w
 
 -- ---- the scan
 
@@ -100,7 +111,7 @@ answered Accepted at n = elim (leb n (at .rung)) [
 pub record RowReady (v : Verdict) (ws : List ℕ) (w : ℕ) : Type 0 where
   pub fits : v ≡ Accepted → WithinLimits ws w
 
--- a scan from the state s, which leaves the bytes u
-pub record RowScanned (v : Verdict) (ws : List ℕ) (rs : List RungRecord) (s : State) (w : ℕ) (r : LadderScanned) (u : List ℕ) : Type 0 where
-  pub refused : (x : Refusal) → v ≡ Refused x → (r ≡ RefusedScan x) × (u ≡ s .bytes)
-  pub scanned : v ≡ Accepted → Scanned ws (labels rs) (offsets rs) s w r u
+-- a scan from the state s, with its timer records in the numbers ns, which leaves the bytes u and the numbers ms
+pub record RowScanned (v : Verdict) (ws : List ℕ) (rs : List RungRecord) (s : State) (ns : List ℕ) (w : ℕ) (r : LadderScanned) (u ms : List ℕ) : Type 0 where
+  pub refused : (x : Refusal) → v ≡ Refused x → (r ≡ RefusedScan x) × ((u ≡ s .bytes) × (ms ≡ ns))
+  pub scanned : v ≡ Accepted → Scanned ws (labels rs) (offsets rs) s w r u (timersIn ms)

@@ -4,10 +4,11 @@ ghost use mathlib.Core.Path.{_≡_};
 ghost use lib.ListN.{length};
 ghost use Prim.Native.Nat.{_+_, _≤_, _<_, _^_};
 ghost use Rattle.table.specs.State.{stateWith, stateOf};
+ghost use Rattle.table.specs.TimerRecords.{timersIn, numberTimers};
 ghost use Rattle.rungs.specs.Records.{labels};
 ghost use Rattle.rows.specs.Rows.{recordOf, recordsOf};
-ghost use Rattle.ladder_definitions.specs.LadderScan.{callLadderScan, LadderScanDone};
-ghost use Rattle.ladder_rows.specs.Parts.{longHolds, LongRefused, laidFirst, laidNext, laidWhole, askedTo, RowAsked};
+ghost use Rattle.ladder_definitions.specs.LadderScan.{callLadderScan, LadderScanNumbers};
+ghost use Rattle.ladder_rows.specs.Parts.{longHolds, LongRefused, LongScanRefused, laidFirst, laidNext, laidWhole, askedTo, RowAsked};
 ghost use Rattle.ladder_rows.specs.Parts.{Entered, goesOn, begun, nextRung, arrived, answered, RowReady, RowScanned};
 use ladder_definitions::LadderScanned;
 use ladder_walk::Ran;
@@ -123,15 +124,36 @@ pub fn long_refusal(vars: u32, holds: bool) -> Refusal
     Refusal::Sizes
 }
 
+// The same of Ladder scan, which puts question 16 after question 1.
+fn long_scan_refusal(vars: u32, timers: &[u32], holds: bool) -> Refusal
+    ensures { λ r. ⌜ LongScanRefused vars (now (timers .entry)) holds r ⌝ }
+{
+    if !questions::vars_in_range(vars) {
+        return Refusal::Variables;
+    }
+    if !timers::timers_in_range(vars, timers) {
+        return Refusal::Timers;
+    }
+    long_refusal(vars, holds)
+}
+
 // ---- the questions, and the scan
 
-// Ladder scan's questions, to a copy of the row's fields. The table stays.
-fn ask(vars: u32, words: &[u32], rows: Rows, long: bool, table: &mut [u8], watchdog: u32) -> Verdict
-    ensures { λ r. ⌜ RowAsked vars (now (words .entry)) rows long (now (table .entry)) watchdog r
-        × (now (table .exit) ≡ now (table .entry)) ⌝ }
+// Ladder scan's questions, to a copy of the row's fields. The table and the timer records stay.
+fn ask(
+    vars: u32,
+    words: &[u32],
+    rows: Rows,
+    long: bool,
+    table: &mut [u8],
+    timers: &mut [u32],
+    watchdog: u32,
+) -> Verdict
+    ensures { λ r. ⌜ RowAsked vars (now (words .entry)) rows long (now (table .entry)) (now (timers .entry)) watchdog r
+        × ((now (table .exit) ≡ now (table .entry)) × (now (timers .exit) ≡ now (timers .entry))) ⌝ }
 {
     if rungs::MOST_RECORDS < rows.n {
-        return Verdict::Refused(long_refusal(vars, long));
+        return Verdict::Refused(long_scan_refusal(vars, timers, long));
     }
     let labels = rows.labels;
     let offsets = rows.offsets;
@@ -147,6 +169,7 @@ fn ask(vars: u32, words: &[u32], rows: Rows, long: bool, table: &mut [u8], watch
         &lengths[..m],
         &times[..m],
         table,
+        timers,
         watchdog,
     )
 }
@@ -178,12 +201,21 @@ fn goes_on(rung: usize, n: usize, entered: u32, watchdog: u32) -> bool
 }
 
 // A rung is run, and leads on.
-fn enter(vars: u32, words: &[u32], r: Rung, table: &mut [u8], moved: u32) -> Way
+fn enter(
+    vars: u32,
+    words: &[u32],
+    r: Rung,
+    table: &mut [u8],
+    timers: &mut [u32],
+    tick: u32,
+    moved: u32,
+) -> Way
     requires { ⌜ moved + length (now words) < 2 ^ 32 ⌝ }
-    ensures { λ s. ⌜ Entered (now (words .entry)) (recordOf r) (stateWith vars (now (table .entry)) moved)
-        s (stateWith vars (now (table .exit))) ⌝ }
+    ensures { λ s. ⌜ Entered (now (words .entry)) (recordOf r)
+        (stateWith vars (now (table .entry)) (timersIn (now (timers .entry))) tick moved)
+        s (stateWith vars (now (table .exit)) (timersIn (now (timers .exit))) tick) ⌝ }
 {
-    match ladder_walk::run_rung(vars, words, r.offset as usize, table, moved) {
+    match ladder_walk::run_rung(vars, words, r.offset as usize, table, timers, tick, moved) {
         Ran::Onward {
             next: _,
             moved: sum,
@@ -252,34 +284,56 @@ fn run(
     words: &[u32],
     row: &[Rung],
     table: &mut [u8],
+    timers: &mut [u32],
+    tick: u32,
     watchdog: u32,
 ) -> LadderScanned
     requires { ⌜ RowReady verdict (now words) watchdog ⌝ }
     ensures { λ r. ⌜ RowScanned verdict (now (words .entry)) (recordsOf (now (row .entry)))
-        (stateOf vars (now (table .entry))) watchdog r (now (table .exit)) ⌝ }
+        (stateOf vars (now (table .entry)) (timersIn (now (timers .entry))) tick) (now (timers .entry)) watchdog
+        r (now (table .exit)) (now (timers .exit)) ⌝ }
 {
     let mut at = begin(verdict, row.len(), watchdog);
     while at.on {
-        let way = enter(vars, words, rows::rung_at(row, at.rung), table, at.moved);
+        let way = enter(
+            vars,
+            words,
+            rows::rung_at(row, at.rung),
+            table,
+            timers,
+            tick,
+            at.moved,
+        );
         let rung = next_rung(row, way, at.rung);
         at = arrive(at, way, rung, row.len(), watchdog);
     }
     answer(verdict, at, row.len())
 }
 
-// Ladder scan.
+// Ladder scan. Timer records are in one slice of numbers, five a record.
 pub fn ladder_scan(
     vars: u32,
     words: &[u32],
     row: &[Rung],
     table: &mut [u8],
+    timers: &mut [u32],
+    tick: u32,
     watchdog: u32,
 ) -> LadderScanned
-    ensures { λ r. ⌜ LadderScanDone (callLadderScan vars
-        (record { words = now (words .entry); records = recordsOf (now (row .entry)) }) (now (table .entry)) watchdog)
-        r (now (table .exit)) ⌝ }
+    ensures { λ r. ⌜ LadderScanNumbers (callLadderScan vars
+        (record { words = now (words .entry); records = recordsOf (now (row .entry)) })
+        (now (table .entry)) (numberTimers (now (timers .entry))) tick watchdog)
+        r (now (table .exit)) (now (timers .entry)) (now (timers .exit)) ⌝ }
 {
     let long = long_holds(row, words);
-    let verdict = ask(vars, words, rows::gather(row), long, table, watchdog);
-    run(verdict, vars, words, row, table, watchdog)
+    let verdict = ask(
+        vars,
+        words,
+        rows::gather(row),
+        long,
+        table,
+        timers,
+        watchdog,
+    );
+    run(verdict, vars, words, row, table, timers, tick, watchdog)
 }

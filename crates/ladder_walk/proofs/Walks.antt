@@ -5,10 +5,11 @@ use mathlib.Core.Path.{_≡_, refl, sym, ap, subst, _∙_}
 use mathlib.Core.Bool.{Bool, true, false, not, _&&_}
 use mathlib.Core.List.{List}
 use lib.ListN.{length, length-append, getD}
-use Rattle.table.specs.State.{State, withBytes, valueAt, value, write, writeIf}
+use Rattle.table.specs.State.{State, withBytes, valueAt, value, write, writeIf, runTimer}
 use Rattle.table.specs.Laws.Moved.{write-few, write-if-few}
+use Rattle.timers.specs.Laws.Kept.{timer-few}
 use Rattle.rungs.specs.Words.{numberOf, operandOf}
-use Rattle.ladder_definitions.specs.Tree.{Input, contact, contactn, input, Output, coil, coiln, jump, jumpn, setCoil, resetCoil, Rear, inputVariable, outputNames, number}
+use Rattle.ladder_definitions.specs.Tree.{Input, contact, contactn, input, Output, coil, coiln, jump, jumpn, setCoil, resetCoil, timer, Rear, inputVariable, outputNames, number}
 use Rattle.ladder_definitions.specs.Meaning.{workInput, workFront, onward, jumped, jumpIf, runOutput, unlessJumped, runRear, runRung}
 use Rattle.ladder_definitions.specs.Kept.{inputKind, outputKind, joinedSort, outputSort, rearAndSort, rearOrSort, kindSorts, kindSort, frontWords, rearWords, rungWords}
 use Rattle.ladder_walk.specs.Walking.{FrontDone, FrontWorked, Root, PartsJoined, runOf, sumOf, RunDone, OutputRun, RearRun, RungRun}
@@ -111,6 +112,10 @@ module _ (w next : ℕ) (p : Bool) (s : State) where
     unfolding runOutput outputNames number
     ran-reset k q = written (resetCoil (operandOf w)) k refl (rw q (write-if-few p s _ _)) (ap onward (sym q))
 
+    pub ran-timer : numberOf w ≡ outputKind (timer (operandOf w)) → u sum ≡ runTimer s (operandOf w) p → OutputRun w next p s (Onward next sum) u
+    unfolding runOutput outputNames number
+    ran-timer k q = written (timer (operandOf w)) k refl (rw q (timer-few s _ _)) (ap onward (sym q))
+
   -- the state stays
   module _ (u : ℕ → State) (stays : u (s .moved) ≡ s) where
     pub jump-taken : numberOf w ≡ outputKind (jump (operandOf w)) → p ≡ true → OutputRun w next p s (Jumped (operandOf w) (s .moved)) u
@@ -175,12 +180,12 @@ module _ (ws : List ℕ) (at w : ℕ) (p : Bool) (s : State) (e : w ≡ getD ws 
         record { same = rw (x .same, o) (y .same); next = λ l m z. let h = y .next l m z in let i = x .next n sum o in simp length-append (omega arith) });
   }
 
-  pub ran-or-jumped : (l sum : ℕ) (q : Ran) (u : ℕ → State) → kindSort (numberOf w) ≡ rearOrSort → RearRun ws (at + 1) p s q u → q ≡ Jumped l sum → RearRun ws at p s (Jumped l sum) u
+  pub ran-or-jumped : (l sum : ℕ) (q : Ran) (u : ℕ → State) → kindSort (numberOf w) ≡ rearOrSort → RearRun ws (at + 1) p s q u → q ≡ Jumped l sum → RearRun ws at p s q u
   unfolding runRear unlessJumped runOf sumOf
   ran-or-jumped l sum q u k a o = record {
-    onward = λ n m z. no-end l n sum m z;
-    few = let f : sum ≤ s .moved + (length ws - (at + 1)) = rw o at (a .few) in omega arith;
-    done = rear-or-only ws at w e (Done (Jumped l sum) u) k (λ f g z sf sg. record { same = rw (a .done f sf .same, o) refl; next = λ n m z. no-end l n sum m z });
+    onward = λ n m z. no-end l n sum m (sym o ∙ z);
+    few = let f = a .few in omega arith;
+    done = rear-or-only ws at w e (Done q u) k (λ f g z sf sg. record { same = rw (a .done f sf .same, o) refl; next = λ n m z. no-end l n sum m (sym o ∙ z) });
   }
 
   pub ran-none : (u : ℕ → State) → startsRear (kindSort (numberOf w)) ≡ false → RearRun ws at p s (Onward at (s .moved)) u
@@ -190,6 +195,36 @@ module _ (ws : List ℕ) (at w : ℕ) (p : Bool) (s : State) (e : w ≡ getD ws 
     few = omega arith;
     done = no-rear ws at w e (Done (Onward at (s .moved)) u) n;
   }
+
+-- ---- a rear's words up to a position
+
+-- the rear from `from` on ends as what runs from `at` on, with another power and in another state
+pub record Walked (ws : List ℕ) (from : ℕ) (given : Bool) (begun : State) (at : ℕ) (p : Bool) (s : State) : Type 0 where
+  pub onward : from ≤ at
+  pub few : s .moved + (length ws - at) ≤ begun .moved + (length ws - from)
+  pub same : (r : Ran) (u : ℕ → State) → RearRun ws at p s r u → RearRun ws from given begun r u
+
+pub walked-none : (ws : List ℕ) (from : ℕ) (p : Bool) (s : State) → Walked ws from p s from p s
+walked-none ws from p s = record { onward = omega arith; few = omega arith; same = λ r u d. d }
+
+module _ {ws : List ℕ} {from : ℕ} {given : Bool} {begun : State} {at : ℕ} {p : Bool} {s : State} (walked : Walked ws from given begun at p s) (w : ℕ) (e : w ≡ getD ws at 0) where
+  pub walked-and : (front : Worked) (b : List ℕ) → kindSort (numberOf w) ≡ rearAndSort → FrontWorked ws (at + 1) (s .bytes) front b
+      → Walked ws from given begun (front .next) (p && front .value) (withBytes s b)
+  walked-and front b k c = record {
+    onward = omega (arith, walked .onward, c .onward);
+    few = omega (arith, walked .few, c .onward);
+    same = λ r u d. walked .same r u (ran-and ws at w p s e front b r u k c d);
+  }
+
+  pub walked-or : (n sum : ℕ) (q : Ran) (u : ℕ → State) → kindSort (numberOf w) ≡ rearOrSort → RearRun ws (at + 1) p s q u → q ≡ Onward n sum → u sum .moved ≡ sum
+      → Walked ws from given begun n p (u sum)
+  walked-or n sum q u k a o tells =
+      let h = a .onward n sum o in
+      record {
+        onward = omega (arith, walked .onward, h .0);
+        few = omega (arith, walked .few, h .0, h .1, tells);
+        same = λ r v d. walked .same r v (ran-or ws at w p s e n sum q u r v k a o tells d);
+      }
 
 -- ---- rungs
 

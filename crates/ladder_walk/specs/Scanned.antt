@@ -3,6 +3,7 @@ use Prim.Native.Nat.{ℕ, _≤_}
 use mathlib.Core.List.{List}
 use lib.ListN.{length}
 use Rattle.questions.specs.Questions.{mostRungWatchdog}
+use Rattle.table.specs.Timer.{Timer}
 use Rattle.table.specs.State.{State}
 use Rattle.ladder_definitions.specs.Tree.{Ladder}
 use Rattle.ladder_definitions.specs.Meaning.{scanLadder}
@@ -16,6 +17,6 @@ pub record WithinLimits (ws : List ℕ) (watchdog : ℕ) : Type 0 where
   pub words : length ws ≤ mostWords
   pub rungs : watchdog ≤ mostRungWatchdog
 
--- a scan from the state s, which leaves the bytes u
-pub record Scanned (ws ls os : List ℕ) (s : State) (watchdog : ℕ) (r : LadderScanned) (u : List ℕ) : Type 0 where
-  pub same : (gs : Ladder) → LadderHeld ws ls os gs → LadderScanDone (scanEnds (scanLadder gs watchdog s)) r u
+-- a scan from the state s, which leaves the bytes u and the timer records ts
+pub record Scanned (ws ls os : List ℕ) (s : State) (watchdog : ℕ) (r : LadderScanned) (u : List ℕ) (ts : List Timer) : Type 0 where
+  pub same : (gs : Ladder) → LadderHeld ws ls os gs → LadderScanDone (scanEnds (scanLadder gs watchdog s)) r u ts

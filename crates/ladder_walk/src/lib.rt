@@ -3,6 +3,7 @@
 ghost use Prim.Native.Nat.{_+_, _-_, _<_, _^_};
 ghost use lib.ListN.{length};
 ghost use Rattle.table.specs.State.{stateWith};
+ghost use Rattle.table.specs.TimerRecords.{timersIn};
 ghost use Rattle.ladder_walk.specs.Walking.{ContactWorked, PartsJoined, RootsPassed, FrontWorked, OutputRun, RearRun, RungRun};
 use ladder_kinds::KindSort;
 
@@ -95,9 +96,19 @@ fn front_at(words: &[u32], from: usize, table: &[u8]) -> Worked
 }
 
 // The output of a word, with a power: on to the position after the word, or away by a jump to a label.
-fn run_output(vars: u32, word: u32, next: usize, power: bool, table: &mut [u8], moved: u32) -> Ran
+fn run_output(
+    vars: u32,
+    word: u32,
+    next: usize,
+    power: bool,
+    table: &mut [u8],
+    timers: &mut [u32],
+    tick: u32,
+    moved: u32,
+) -> Ran
     requires { ⌜ moved + 1 < 2 ^ 32 ⌝ }
-    ensures { λ r. ⌜ OutputRun word next power (stateWith vars (now (table .entry)) moved) r (stateWith vars (now (table .exit))) ⌝ }
+    ensures { λ r. ⌜ OutputRun word next power (stateWith vars (now (table .entry)) (timersIn (now (timers .entry))) tick moved)
+        r (stateWith vars (now (table .exit)) (timersIn (now (timers .exit))) tick) ⌝ }
 {
     let operand = word % rungs::OPERANDS;
     match word / rungs::OPERANDS {
@@ -137,40 +148,122 @@ fn run_output(vars: u32, word: u32, next: usize, power: bool, table: &mut [u8], 
             let sum = table::write_if(vars, table, operand as usize, power, false, moved);
             Ran::Onward { next, moved: sum }
         }
+        ladder_kinds::TIMER => {
+            let sum = timers::run_timer(vars, table, timers, operand as usize, power, tick, moved);
+            Ran::Onward { next, moved: sum }
+        }
         _ => Ran::Onward { next, moved },
     }
 }
 
-// The rear whose words begin at a position, with a power. Each output has a word of its own: the sum grows by the words left, at most.
-fn rear_at(vars: u32, words: &[u32], at: usize, power: bool, table: &mut [u8], moved: u32) -> Ran
-    requires { ⌜ moved + (length (now words) - at) < 2 ^ 32 ⌝ }
-    ensures { λ r. ⌜ RearRun (now (words .entry)) at power (stateWith vars (now (table .entry)) moved)
-        r (stateWith vars (now (table .exit))) ⌝ }
+// The rear whose words begin at a position, with a power: a rear-and's front, or a rear-or's first branch, and then what follows it, up to
+// an output. Only a first branch that is no output takes a call of this function. Each output has a word of its own: the sum grows by the
+// words left, at most.
+fn rear_at(
+    vars: u32,
+    words: &[u32],
+    from: usize,
+    given: bool,
+    table: &mut [u8],
+    timers: &mut [u32],
+    tick: u32,
+    before: u32,
+) -> Ran
+    requires { ⌜ before + (length (now words) - from) < 2 ^ 32 ⌝ }
+    ensures { λ r. ⌜ RearRun (now (words .entry)) from given
+        (stateWith vars (now (table .entry)) (timersIn (now (timers .entry))) tick before)
+        r (stateWith vars (now (table .exit)) (timersIn (now (timers .exit))) tick) ⌝ }
 {
-    let word = rungs::word_at(words, at);
-    match ladder_kinds::sort_of(word / rungs::OPERANDS) {
-        // Returned at once: as the value of the match it would take ten machine instructions more.
-        KindSort::Output => {
-            return run_output(vars, word, at + 1, power, table, moved);
+    let mut at = from;
+    let mut power = given;
+    let mut moved = before;
+    loop {
+        let word = rungs::word_at(words, at);
+        match ladder_kinds::sort_of(word / rungs::OPERANDS) {
+            KindSort::Output => {
+                return run_output(vars, word, at + 1, power, table, timers, tick, moved);
+            }
+            KindSort::RearAnd => {
+                let front = front_at(words, at + 1, table);
+                at = front.next;
+                power = power & front.value;
+            }
+            KindSort::RearOr => {
+                let first = at + 1;
+                let branch = rungs::word_at(words, first);
+                let ran = match ladder_kinds::sort_of(branch / rungs::OPERANDS) {
+                    KindSort::Output => run_output(
+                        vars,
+                        branch,
+                        first + 1,
+                        power,
+                        table,
+                        timers,
+                        tick,
+                        moved,
+                    ),
+                    _ => rear_at(vars, words, first, power, table, timers, tick, moved),
+                };
+                match ran {
+                    Ran::Onward {
+                        next,
+                        moved: past_branch,
+                    } => {
+                        at = next;
+                        moved = past_branch;
+                    }
+                    Ran::Jumped { label: _, moved: _ } => {
+                        return ran;
+                    }
+                }
+            }
+            _ => {
+                return Ran::Onward { next: at, moved };
+            }
         }
-        KindSort::RearAnd => {
-            let front = front_at(words, at + 1, table);
-            rear_at(vars, words, front.next, power & front.value, table, moved)
-        }
-        KindSort::RearOr => match rear_at(vars, words, at + 1, power, table, moved) {
-            Ran::Onward { next, moved: sum } => rear_at(vars, words, next, power, table, sum),
-            Ran::Jumped { label, moved: sum } => Ran::Jumped { label, moved: sum },
-        },
-        _ => Ran::Onward { next: at, moved },
     }
 }
 
 // The rung whose words begin at a position.
-pub fn run_rung(vars: u32, words: &[u32], at: usize, table: &mut [u8], moved: u32) -> Ran
+pub fn run_rung(
+    vars: u32,
+    words: &[u32],
+    at: usize,
+    table: &mut [u8],
+    timers: &mut [u32],
+    tick: u32,
+    moved: u32,
+) -> Ran
     requires { ⌜ moved + (length (now words) - at) < 2 ^ 32 ⌝ }
-    ensures { λ r. ⌜ RungRun (now (words .entry)) at (stateWith vars (now (table .entry)) moved)
-        r (stateWith vars (now (table .exit))) ⌝ }
+    ensures { λ r. ⌜ RungRun (now (words .entry)) at (stateWith vars (now (table .entry)) (timersIn (now (timers .entry))) tick moved)
+        r (stateWith vars (now (table .exit)) (timersIn (now (timers .exit))) tick) ⌝ }
 {
     let front = front_at(words, at, table);
-    rear_at(vars, words, front.next, front.value, table, moved)
+    // A rear that is an output takes no call of its own.
+    let word = rungs::word_at(words, front.next);
+    match ladder_kinds::sort_of(word / rungs::OPERANDS) {
+        KindSort::Output => {
+            return run_output(
+                vars,
+                word,
+                front.next + 1,
+                front.value,
+                table,
+                timers,
+                tick,
+                moved,
+            );
+        }
+        _ => {}
+    }
+    rear_at(
+        vars,
+        words,
+        front.next,
+        front.value,
+        table,
+        timers,
+        tick,
+        moved,
+    )
 }

@@ -1,5 +1,6 @@
 // One scan of a ladder: document 01, "What a ladder does".
 ghost use Rattle.table.specs.State.{stateOf};
+ghost use Rattle.table.specs.TimerRecords.{timersIn};
 ghost use Rattle.ladder_walk.specs.Scanned.{WithinLimits, Scanned};
 use crate::Ran;
 use ladder_definitions::Counts;
@@ -12,11 +13,14 @@ pub fn run(
     labels: &[u16],
     offsets: &[u32],
     table: &mut [u8],
+    timers: &mut [u32],
+    tick: u32,
     watchdog: u32,
 ) -> LadderScanned
     requires { ⌜ WithinLimits (now words) watchdog ⌝ }
     ensures { λ r. ⌜ Scanned (now (words .entry)) (now (labels .entry)) (now (offsets .entry))
-        (stateOf vars (now (table .entry))) watchdog r (now (table .exit)) ⌝ }
+        (stateOf vars (now (table .entry)) (timersIn (now (timers .entry))) tick) watchdog
+        r (now (table .exit)) (timersIn (now (timers .exit))) ⌝ }
 {
     let mut entered: u32 = 0;
     let mut moved: u32 = 0;
@@ -34,7 +38,7 @@ pub fn run(
         }
         entered += 1;
         let start = rungs::word_at(offsets, rung) as usize;
-        match crate::run_rung(vars, words, start, table, moved) {
+        match crate::run_rung(vars, words, start, table, timers, tick, moved) {
             Ran::Onward {
                 next: _,
                 moved: past_rung,

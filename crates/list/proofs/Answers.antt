@@ -1,9 +1,9 @@
 -- Laws of the questions in order: the first "no" of the calls. Assumes nothing.
-use Prim.Native.Nat.{ℕ, _+_, _*_, _≤_, _<_}
+use Prim.Native.Nat.{ℕ, _+_, _*_, _/_, _≤_, _<_}
 use native.Mathlib.Nat.{zero-add}
 use native.Mathlib.Omega.{arith}
-use mathlib.Core.Path.{_≡_, sym, _∙_}
-use mathlib.Core.Bool.{true, false, _&&_, and-false}
+use mathlib.Core.Path.{_≡_, refl, sym, ap, _∙_}
+use mathlib.Core.Bool.{Bool, true, false, _&&_, and-false}
 use mathlib.Core.Option.{none, some}
 use mathlib.Core.List.{List, [], _∷_}
 use lib.Dec.{T, eqb, leb, eqb→eq}
@@ -12,38 +12,49 @@ use lib.ListN.{length}
 use lib.Seq.{sets-eq}
 use borrow.Author.Tests.{le-leb, lt-leb}
 use Rattle.questions.specs.Questions.{Answer, ask, firstNo, varsInRange, question1, question12, mostInstructionWatchdog, longEnough, question13}
-use Rattle.questions.specs.Tests.{all}
+use Rattle.questions.specs.Tests.{all, different}
+use Rattle.questions.specs.Bytes.{sameBytes}
 use Rattle.questions.specs.Refusals.{refusalOf, verdictAnswer}
 use Rattle.questions.specs.declared.Refusal.{Refusal as RefusalCase}
-use Rattle.questions.specs.declared.Refusal.the-variants.{Variables, List as ListCase, Table, Watchdog, Buffer as BufferCase}
+use Rattle.questions.specs.declared.Refusal.the-variants.{Variables, List as ListCase, Table, Watchdog, Buffer as BufferCase, Timers, TimerNumber}
 use Rattle.questions.specs.declared.Verdict.the-variants.{Accepted, Refused}
-use Rattle.table.specs.State.{State, stateOf}
-use Rattle.table.specs.Questions.{tableInRange, question11}
+use Rattle.table.specs.State.{stateOf}
+use Rattle.table.specs.Questions.{tableInRange, question11, timersInRange, question16}
+use Rattle.table.specs.TimerRecords.{tooMany, timersIn, whole, numberTimers, numbersAfter}
+use Rattle.timers.specs.Laws.Columns.{too-many}
+use Rattle.table.specs.Laws.TimerRecords.{whole-timers}
+use Rattle.timers.specs.Laws.Numbers.{whole-back, same-whole, whole-length, numbers-after, numbers-left}
 use Rattle.rungs.specs.Records.{RungRecord, fieldsOf, rowOf}
 use Rattle.rungs.specs.Laws.Rows.{Even, row-even, row-offsets, row-fields, row-uneven, row-times}
 use Rattle.questions.specs.Laws.Answers.{ask-passed, first-yes, later-yes}
-use Rattle.list_definitions.specs.Names.{mostOp, nameBytes, namesIn, isName, different, isNameTable, question14}
+use Rattle.questions.specs.Laws.Tests.{T→true}
+use Rattle.list_definitions.specs.Instruction.{codeOf}
+use Rattle.list_definitions.specs.Names.{mostOp, nameBytes, namesIn, isName, isNameTable, question14}
 use Rattle.list_definitions.specs.Listing.{listingText, listing, listedAnswer, ListingDone}
 use Rattle.list_definitions.specs.declared.Listed.the-variants.{Written, Refused as RefusedListing}
 use Rattle.printing.specs.Put.{Put}
 use Rattle.list_machine.specs.Parts.{Ran}
 use Rattle.list_machine.specs.Laws.Scans.{scan-in-range, scan-scans}
+use Rattle.list_questions.specs.Parts.{TimersAsked}
+use Rattle.list_definitions.specs.Laws.Answers.{scan-passed}
 use Rattle.list_definitions.specs.Laws.InRange.{list-in-range}
-use Rattle.list_definitions.specs.Laws.Refusing.{first-accepted, names-accepted, scan-asked-list}
-use Rattle.list_definitions.specs.Questions.{mostInstructions, listInRange, question10, listAnswer}
-use Rattle.list_definitions.specs.ListScan.{listOf, scanQuestions, callListScan, ListScanDone}
+use Rattle.list_definitions.specs.Laws.Refusing.{first-accepted, names-accepted, scan-refuses}
+use Rattle.list_definitions.specs.Questions.{mostInstructions, listInRange, question10, timersKnown, question17, listAnswer}
+use Rattle.list_definitions.specs.ListScan.{listOf, scanQuestions, callListScan, ListScanDone, ListScanNumbers}
 use Rattle.list_definitions.specs.declared.ListScanned.{ListScanned}
+use Rattle.list_definitions.specs.declared.ListScanned.the-variants.{Refused as RefusedScan}
 
+-- questions 1 and 10
 module _ (vars : ℕ) (ws : List ℕ) (rs : List RungRecord) where
   pub refused-variables : varsInRange vars ≡ false → verdictAnswer (Refused Variables) ≡ listAnswer vars ws rs
   unfolding verdictAnswer refusalOf listAnswer firstNo question1 ask
   refused-variables e = rw e
 
-  refused-list : varsInRange vars ≡ true → listInRange vars ws rs ≡ false → verdictAnswer (Refused ListCase) ≡ listAnswer vars ws rs
+  pub refused-list : varsInRange vars ≡ true → listInRange vars ws rs ≡ false → verdictAnswer (Refused ListCase) ≡ listAnswer vars ws rs
   unfolding verdictAnswer refusalOf listAnswer firstNo question1 question10 ask
   refused-list e f = rw (e, f)
 
-  accepted-list : varsInRange vars ≡ true → listInRange vars ws rs ≡ true → verdictAnswer Accepted ≡ listAnswer vars ws rs
+  pub accepted-list : varsInRange vars ≡ true → listInRange vars ws rs ≡ true → verdictAnswer Accepted ≡ listAnswer vars ws rs
   unfolding verdictAnswer listAnswer firstNo question1 question10 ask
   accepted-list e f = rw (e, f)
 
@@ -57,17 +68,13 @@ row-in-range : (vars : ℕ) (ws : List ℕ) (rs : List RungRecord) → listAnswe
 unfolding listAnswer question10
 row-in-range vars ws rs e = ask-passed 10 (listInRange vars ws rs) (first-yes (question10 vars ws rs) [] (later-yes (question1 vars) (question10 vars ws rs ∷ []) e))
 
--- questions 1 and 10, of four slices
+-- question 10, of four slices
 module _ (vars : ℕ) (ws ls os ns ts : List ℕ) where
-  pub refused-uneven : varsInRange vars ≡ true → (length ls ≡ length ts → ⊥) → verdictAnswer (Refused ListCase) ≡ listAnswer vars ws (rowOf ls os ns ts)
-  refused-uneven e h = refused-list vars ws (rowOf ls os ns ts) e (rw (row-uneven ls os ns ts h) (none-in-range vars ws))
+  pub uneven-row : (length ls ≡ length ts → ⊥) → false ≡ listInRange vars ws (rowOf ls os ns ts)
+  uneven-row h = sym (rw (row-uneven ls os ns ts h) (none-in-range vars ws))
 
-  module _ (e : varsInRange vars ≡ true) (h : length ls ≡ length ts) where
-    pub refused-row : listInRange vars ws (fieldsOf ls os ns) ≡ false → verdictAnswer (Refused ListCase) ≡ listAnswer vars ws (rowOf ls os ns ts)
-    refused-row f = rw (row-fields ls os ns ts h) (refused-list vars ws (fieldsOf ls os ns) e f)
-
-    pub accepted-row : listInRange vars ws (fieldsOf ls os ns) ≡ true → verdictAnswer Accepted ≡ listAnswer vars ws (rowOf ls os ns ts)
-    accepted-row f = rw (row-fields ls os ns ts h) (accepted-list vars ws (fieldsOf ls os ns) e f)
+  pub even-row : length ls ≡ length ts → (r : Bool) → r ≡ listInRange vars ws (fieldsOf ls os ns) → r ≡ listInRange vars ws (rowOf ls os ns ts)
+  even-row h r e = rw (row-fields ls os ns ts h) e
 
   module _ (ok : listAnswer vars ws (rowOf ls os ns ts) ≡ none) where
     row-accepted : rowOf ls os ns ts ≡ fieldsOf ls os ns
@@ -78,56 +85,112 @@ module _ (vars : ℕ) (ws ls os ns ts : List ℕ) where
 
 -- ---- List scan
 
-module _ (vars : ℕ) (ws : List ℕ) (rs : List RungRecord) (t : List ℕ) (w : ℕ) where
-  abbrev s : State
-  s = stateOf vars t
+-- numbers that question 16 takes leave none over
+taken-whole : (vars : ℕ) (ks : List ℕ) → timersInRange vars (numberTimers ks) ≡ true → whole ks ≡ true
+unfolding numberTimers
+taken-whole vars ks e = go (whole ks) refl
+  where
+    go : (b : Bool) → whole ks ≡ b → whole ks ≡ true
+    go true q = q
+    go false q =
+        let many : timersInRange vars (numberTimers ks) ≡ false = rw q (too-many vars tooMany (omega arith)) in
+        let z : _≡_ {A = Bool} false true = sym many ∙ e in
+        let n : _≡_ {A = ℕ} 0 1 = cc in
+        absurd (omega arith)
 
-  pub asked-list : (refusal : RefusalCase) → listAnswer vars ws rs ≡ some (refusalOf refusal) → verdictAnswer (Refused refusal) ≡ scanQuestions vars ws rs t w
-  unfolding verdictAnswer
-  asked-list refusal e = sym (scan-asked-list vars ws rs t w (refusalOf refusal) e)
+-- its questions, of timer records in the numbers ks
+module _ (vars : ℕ) (ws : List ℕ) (rs : List RungRecord) (t ks : List ℕ) (w : ℕ) where
+  pub asked-variables : varsInRange vars ≡ false → verdictAnswer (Refused Variables) ≡ scanQuestions vars ws rs t (numberTimers ks) w
+  unfolding verdictAnswer refusalOf scanQuestions firstNo question1 ask
+  asked-variables e = rw e
 
-  module _ (ok : listAnswer vars ws rs ≡ none) where
-    rest : scanQuestions vars ws rs t w ≡ firstNo (question11 s ∷ question12 mostInstructionWatchdog w ∷ [])
-    unfolding listAnswer scanQuestions
-    rest = first-accepted (question1 vars) (question10 vars ws rs) _ ok
+  module _ (e1 : varsInRange vars ≡ true) where
+    pub asked-timers : timersInRange vars (numberTimers ks) ≡ false → verdictAnswer (Refused Timers) ≡ scanQuestions vars ws rs t (numberTimers ks) w
+    unfolding verdictAnswer refusalOf scanQuestions firstNo question1 question16 ask
+    asked-timers e = rw (e1, e)
 
-    pub asked-table : tableInRange s ≡ false → verdictAnswer (Refused Table) ≡ scanQuestions vars ws rs t w
-    unfolding firstNo question11 ask refusalOf verdictAnswer
-    asked-table e = sym (rest ∙ rw e)
+    module _ (e16 : timersInRange vars (numberTimers ks) ≡ true) where
+      pub asked-list : listInRange vars ws rs ≡ false → verdictAnswer (Refused ListCase) ≡ scanQuestions vars ws rs t (numberTimers ks) w
+      unfolding verdictAnswer refusalOf scanQuestions firstNo question1 question16 question10 ask
+      asked-list e = rw (e1, e16, e)
 
-    pub asked-watchdog : tableInRange s ≡ true → leb w mostInstructionWatchdog ≡ false → verdictAnswer (Refused Watchdog) ≡ scanQuestions vars ws rs t w
-    unfolding firstNo question11 question12 ask refusalOf verdictAnswer
-    asked-watchdog e f = sym (rest ∙ rw (e, f))
+      -- question 17 was put to so many records
+      module _ (e10 : listInRange vars ws rs ≡ true) (b : Bool) (q : TimersAsked ws (length ks / 5) b) where
+        known : timersKnown (length (numberTimers ks)) (codeOf ws) ≡ b
+        known =
+            let h = taken-whole vars ks e16 in
+            let l = whole-length ks h in
+            let n : length (timersIn ks) ≡ length ks / 5 = omega arith in
+            rw (whole-timers ks h, n) (sym (q .same (codeOf ws) (list-in-range vars ws rs (rw e10 tt) .held)))
 
-    pub asked-accepted : tableInRange s ≡ true → leb w mostInstructionWatchdog ≡ true → verdictAnswer Accepted ≡ scanQuestions vars ws rs t w
-    unfolding firstNo question11 question12 ask verdictAnswer
-    asked-accepted e f = sym (rest ∙ rw (e, f))
+        pub asked-number : b ≡ false → verdictAnswer (Refused TimerNumber) ≡ scanQuestions vars ws rs t (numberTimers ks) w
+        unfolding verdictAnswer refusalOf scanQuestions firstNo question1 question16 question10 question17 ask
+        asked-number e = rw (e1, e16, e10, known, e)
 
--- question 10 took a row of four slices, equally many
-module _ (vars : ℕ) (ws ls os ns before t : List ℕ) (w : ℕ) (ok : scanQuestions vars ws (rowOf ls os ns before) t w ≡ none) where
+        module _ (e17 : b ≡ true) where
+          pub asked-table : tableInRange vars t ≡ false → verdictAnswer (Refused Table) ≡ scanQuestions vars ws rs t (numberTimers ks) w
+          unfolding verdictAnswer refusalOf scanQuestions firstNo question1 question16 question10 question17 question11 ask
+          asked-table e = rw (e1, e16, e10, known, e17, e)
+
+          pub asked-watchdog : tableInRange vars t ≡ true → leb w mostInstructionWatchdog ≡ false → verdictAnswer (Refused Watchdog) ≡ scanQuestions vars ws rs t (numberTimers ks) w
+          unfolding verdictAnswer refusalOf scanQuestions firstNo question1 question16 question10 question17 question11 question12 ask
+          asked-watchdog e f = rw (e1, e16, e10, known, e17, e, f)
+
+          pub asked-accepted : tableInRange vars t ≡ true → leb w mostInstructionWatchdog ≡ true → verdictAnswer Accepted ≡ scanQuestions vars ws rs t (numberTimers ks) w
+          unfolding verdictAnswer scanQuestions firstNo question1 question16 question10 question17 question11 question12 ask
+          asked-accepted e f = rw (e1, e16, e10, known, e17, e, f)
+
+-- numbers of which the records stay
+numbers-same : (ks : List ℕ) → numbersAfter ks (numberTimers ks) ≡ ks
+unfolding numbersAfter
+numbers-same ks = go (whole ks) refl
+  where
+    go : (b : Bool) → whole ks ≡ b → numbersAfter ks (numberTimers ks) ≡ ks
+    go true q = numbers-after ks (numberTimers ks) q ∙ rw (whole-timers ks q) (whole-back ks q)
+    go false q = rw q refl
+
+pub scan-refused : (vars : ℕ) (ws : List ℕ) (rs : List RungRecord) (t ks : List ℕ) (tick w : ℕ) (refusal : RefusalCase) (times : List ℕ)
+    → scanQuestions vars ws rs t (numberTimers ks) w ≡ some (refusalOf refusal) → ListScanNumbers (callListScan vars ws rs t (numberTimers ks) tick w) (RefusedScan refusal) t ks ks times times
+scan-refused vars ws rs t ks tick w refusal times e =
+    let d = scan-refuses vars ws rs t (numberTimers ks) tick w refusal times e in
+    record { done = d; numbers = sym (numbers-same ks) ∙ ap (numbersAfter ks) (d .same-timers) }
+
+-- its questions took a row of four slices, equally many, and the timer records in the numbers ks
+module _ (vars : ℕ) (ws ls os ns before t ks : List ℕ) (w : ℕ) (ok : scanQuestions vars ws (rowOf ls os ns before) t (numberTimers ks) w ≡ none) where
   many : length ls ≡ length before
-  many = row-times ls os ns before (scan-in-range vars ws (rowOf ls os ns before) t w ok .some-record)
+  many = row-times ls os ns before (scan-in-range vars ws (rowOf ls os ns before) t (numberTimers ks) w ok .some-record)
 
-  asked : scanQuestions vars ws (fieldsOf ls os ns) t w ≡ none
+  asked : scanQuestions vars ws (fieldsOf ls os ns) t (numberTimers ks) w ≡ none
   asked = rw (row-fields ls os ns before many) at ok
 
   even : Even ls os ns
-  even = row-even ls os ns (scan-in-range vars ws (fieldsOf ls os ns) t w asked .some-record)
+  even = row-even ls os ns (scan-in-range vars ws (fieldsOf ls os ns) t (numberTimers ks) w asked .some-record)
+
+  none-over : whole ks ≡ true
+  unfolding question16
+  none-over = taken-whole vars ks (T→true _ (ask-passed 16 _ (scan-passed vars ws (fieldsOf ls os ns) t (numberTimers ks) w asked .legal-timers)))
 
   pub as-many : length before ≡ length os
   as-many = sym many ∙ even .first
 
-  -- the scan of it
-  pub scanned-row : (r : ListScanned) (after u : List ℕ) → Ran ws os before (stateOf vars t) w r after u → ListScanDone (callListScan vars ws (rowOf ls os ns before) t w) r u before after
-  scanned-row r after u ran =
-      rw (row-fields ls os ns before many) (scan-scans vars ws (fieldsOf ls os ns) t w before r after u asked (rw (row-offsets ls os ns even) ran))
+  -- the scan of it, which left the numbers ms
+  pub scanned-row : (tick : ℕ) (r : ListScanned) (after u ms : List ℕ) → length ms ≡ length ks → Ran ws os before (stateOf vars t (timersIn ks) tick) w r after u (timersIn ms)
+      → ListScanNumbers (callListScan vars ws (rowOf ls os ns before) t (numberTimers ks) tick w) r u ks ms before after
+  scanned-row tick r after u ms long ran =
+      let d : ListScanDone (callListScan vars ws (rowOf ls os ns before) t (numberTimers ks) tick w) r u (timersIn ms) before after =
+      rw (row-fields ls os ns before many)
+      (scan-scans vars ws (fieldsOf ls os ns) t (numberTimers ks) w tick before r after u (timersIn ms) asked (rw (row-offsets ls os ns even, whole-timers ks none-over) ran)) in
+      record {
+        done = rw (whole-timers ms (same-whole ms ks long ∙ none-over)) d;
+        numbers = numbers-left ks ms _ long (d .same-timers) none-over;
+      }
 
 -- ---- Listing
 
--- an accepted table has 96 bytes
+-- an accepted table has 102 bytes
 pub table-long : (table : List ℕ) → isNameTable table ≡ true → length table ≡ nameBytes * mostOp
 unfolding isNameTable
-table-long table e = eqb→eq (length table) (nameBytes * mostOp) (and-yes (eqb (length table) (nameBytes * mostOp)) (all isName (namesIn table) && different (namesIn table)) (rw e tt) .0)
+table-long table e = eqb→eq (length table) (nameBytes * mostOp) (and-yes (eqb (length table) (nameBytes * mostOp)) (all isName (namesIn table) && different sameBytes (namesIn table)) (rw e tt) .0)
 
 module _ (table : List ℕ) (vars : ℕ) (ws : List ℕ) (rs : List RungRecord) (out : List ℕ) where
   abbrev text : List ℕ

@@ -1,2 +1,4 @@
 -- Laws that the proofs of functions cite.
 pub mod Answers
+pub mod Kept
+pub mod Slices

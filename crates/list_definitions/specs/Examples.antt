@@ -6,18 +6,19 @@ use mathlib.Core.Bool.{true, false, xor}
 use Prim.Native.Nat.{ℕ}
 use lib.ListN.{replicate, length, take, drop}
 use Rattle.questions.specs.Bytes.{bytes, decimal, digits, sameBytes}
-use Rattle.questions.specs.Tests.{all}
+use Rattle.questions.specs.Tests.{all, different}
 use Rattle.questions.specs.Questions.{Answer, yes, ask, varsInRange, question1, firstNo}
-use Rattle.table.specs.State.{State, stateOf, scratchBytes, variables, valueAt, value, writtenAt, turns, write, writeIf}
+use Rattle.table.specs.Timer.{Timer, elapsed, started, tested, powered}
+use Rattle.table.specs.State.{State, stateOf, scratchBytes, variables, valueAt, value, writtenAt, turns, write, writeIf, setTimer, runTimer}
 use Rattle.table.specs.Halt.{Halt, Ended, Stopped}
 use Rattle.table.specs.Writes.{Write, wrote, wroteIf, made, replay, changesByte, changesVariable, changes}
 use Rattle.rungs.specs.Records.{RungRecord, isStart, laid, enter}
-use Rattle.list_definitions.specs.Instruction.{Instr, LD, LDN, ST, STN, AND, ANDN, OR, ORN, XOR, XORN, NOT, JMP, JMPC, JMPCN, S, R, operand, opOf, operandNumber, instrWord, decodeInstr, ops, onlyNot}
+use Rattle.list_definitions.specs.Instruction.{Instr, LD, LDN, ST, STN, AND, ANDN, OR, ORN, XOR, XORN, NOT, JMP, JMPC, JMPCN, S, R, TON, operand, opOf, operandNumber, instrWord, decodeInstr, ops, onlyNot}
 use Rattle.list_definitions.specs.Machine.{InstructionList, does, count, step, fresh, begin, halted, scanMachine, scanList}
 use Rattle.list_definitions.specs.Writes.{instrWrites, writesFrom, listWrites}
-use Rattle.list_definitions.specs.Names.{fixedNames, trimmed, nameOf, namesFrom, namesIn, fixedTable, isCapital, isName, different, isNameTable, question14}
+use Rattle.list_definitions.specs.Names.{fixedNames, trimmed, nameOf, namesFrom, namesIn, fixedTable, isCapital, isName, isNameTable, question14}
 use Rattle.list_definitions.specs.Listing.{operandText, instrLine, labelLine, rungLines, listingLines, ended, listingText}
-use Rattle.list_definitions.specs.Questions.{operandInRange, wordInRange, recordsLaid, listInRange, question10, listAnswer}
+use Rattle.list_definitions.specs.Questions.{operandInRange, operandTimed, timersKnown, question17, wordInRange, recordsLaid, listInRange, question10, listAnswer}
 
 -- a list, its variables before, the instruction watchdog; how the scan halts, its counts, the times entered and the variables after
 record Row : Type 0 where
@@ -111,7 +112,7 @@ expected r = record { halt = r .halt; instructions = r .instructions; rungs = r 
 
 -- scratch is 0
 start : Row → State
-start r = stateOf (length (r .before)) (r .before ++ replicate scratchBytes 0)
+start r = stateOf (length (r .before)) (r .before ++ replicate scratchBytes 0) [] 0
 
 outcome : Row → Outcome
 outcome r =
@@ -157,6 +158,9 @@ writes-told = (refl, refl)
 no-place : Answer
 no-place = some (record { number = 10; place = 0 })
 
+no-timer : Answer
+no-timer = some (record { number = 17; place = 0 })
+
 words : List Instr → List ℕ
 words = map instrWord
 
@@ -174,14 +178,17 @@ answers =
     ∷ question10 5 (words (S 36 ∷ R 36 ∷ [])) (at 0 0 2 ∷ [])
     ∷ question10 5 (words (S 37 ∷ [])) (at 0 0 1 ∷ [])
     ∷ question10 5 (words (R 37 ∷ [])) (at 0 0 1 ∷ [])
-    ∷ question10 5 (1114112 ∷ []) (at 0 0 1 ∷ [])
+    ∷ question10 5 (words (TON 0 ∷ TON 65535 ∷ [])) (at 0 0 2 ∷ [])
+    ∷ question10 5 (1179648 ∷ []) (at 0 0 1 ∷ [])
+    ∷ question17 1 (TON 0 ∷ LD 1 ∷ JMP 1 ∷ NOT ∷ [])
+    ∷ question17 1 (LD 0 ∷ TON 1 ∷ [])
     ∷ question10 5 (words (LD 0 ∷ LD 1 ∷ [])) (at 0 0 1 ∷ at 0 1 1 ∷ [])
     ∷ question10 5 (words (LD 0 ∷ LD 1 ∷ [])) (at 0 0 2 ∷ at 1 2 0 ∷ [])
     ∷ question10 5 (words (LD 0 ∷ LD 1 ∷ [])) (at 0 0 1 ∷ at 1 2 1 ∷ [])
     ∷ []
 
-answers-worked : answers ≡ yes ∷ no-place ∷ no-place ∷ yes ∷ no-place ∷ yes ∷ no-place ∷ yes ∷ no-place ∷ yes ∷ no-place ∷ no-place ∷ no-place ∷ yes ∷ no-place ∷ no-place ∷ []
-unfolding answers no-place words listAnswer firstNo question1 varsInRange question10 listInRange ask all laid recordsLaid wordInRange operandInRange operand decodeInstr ops onlyNot instrWord opOf operandNumber
+answers-worked : answers ≡ yes ∷ no-place ∷ no-place ∷ yes ∷ no-place ∷ yes ∷ no-place ∷ yes ∷ no-place ∷ yes ∷ no-place ∷ no-place ∷ yes ∷ no-place ∷ yes ∷ no-timer ∷ yes ∷ no-place ∷ no-place ∷ []
+unfolding answers no-place no-timer operandTimed timersKnown question17 words listAnswer firstNo question1 varsInRange question10 listInRange ask all laid recordsLaid wordInRange operandInRange operand decodeInstr ops onlyNot instrWord opOf operandNumber
 answers-worked = refl
 
 -- document 01, "Listing": what stands above the count line
@@ -190,9 +197,73 @@ unfolding listingText listingLines rungLines labelLine instrLine operandText ope
 A-listing = refl
 
 -- a line without operand, and numbers of several digits
-others-listed : map (instrLine fixedNames 1000) (NOT ∷ XORN 999 ∷ STN 1031 ∷ JMPCN 16384 ∷ JMP 0 ∷ S 0 ∷ R 1000 ∷ []) ≡ bytes "NOT" ∷ bytes "XORN v999" ∷ bytes "STN t31" ∷ bytes "JMPCN @16384" ∷ bytes "JMP @0" ∷ bytes "S v0" ∷ bytes "R t0" ∷ []
+others-listed : map (instrLine fixedNames 1000) (NOT ∷ XORN 999 ∷ STN 1031 ∷ JMPCN 16384 ∷ JMP 0 ∷ S 0 ∷ R 1000 ∷ TON 65535 ∷ []) ≡ bytes "NOT" ∷ bytes "XORN v999" ∷ bytes "STN t31" ∷ bytes "JMPCN @16384" ∷ bytes "JMP @0" ∷ bytes "S v0" ∷ bytes "R t0" ∷ bytes "TON d65535" ∷ []
 unfolding instrLine operandText operand opOf nameOf trimmed fixedNames bytes decimal digits
 others-listed = refl
+
+-- ---- 02, Req 06
+
+record TimedRow : Type 0 where
+  list : InstructionList
+  before : List ℕ
+  timers : List Timer
+  now : ℕ
+  watchdog : ℕ
+  outcome : Outcome
+  left : List Timer
+
+timed : ℕ → ℕ → ℕ → ℕ → ℕ → Timer
+timed preset start variable running done = record { preset = preset; start = start; variable = variable; running = running; done = done }
+
+timedRows : List TimedRow
+timedRows =
+    -- TON keeps the accumulator: timer 0 of preset 3, whose variable is v1, one tick too early and in time
+    record {
+      list = one (LD 0 ∷ TON 0 ∷ ST 2 ∷ []);
+      before = 1 ∷ 0 ∷ 0 ∷ [];
+      timers = timed 3 10 1 1 0 ∷ [];
+      now = 12;
+      watchdog = 9;
+      outcome = record { halt = Ended; instructions = 3; rungs = 1; times = 1 ∷ []; moved = 1; variables = 1 ∷ 0 ∷ 1 ∷ [] };
+      left = timed 3 10 1 1 0 ∷ [];
+    }
+    ∷ record {
+      list = one (LD 0 ∷ TON 0 ∷ ST 2 ∷ []);
+      before = 1 ∷ 0 ∷ 0 ∷ [];
+      timers = timed 3 10 1 1 0 ∷ [];
+      now = 13;
+      watchdog = 9;
+      outcome = record { halt = Ended; instructions = 3; rungs = 1; times = 1 ∷ []; moved = 2; variables = 1 ∷ 1 ∷ 1 ∷ [] };
+      left = timed 3 10 1 1 1 ∷ [];
+    }
+    -- without power both flags clear, and the variable gets done
+    ∷ record {
+      list = one (TON 1 ∷ []);
+      before = 1 ∷ 1 ∷ [];
+      timers = timed 3 10 0 1 1 ∷ timed 5 6 1 1 1 ∷ [];
+      now = 13;
+      watchdog = 9;
+      outcome = record { halt = Ended; instructions = 1; rungs = 1; times = 1 ∷ []; moved = 1; variables = 1 ∷ 0 ∷ [] };
+      left = timed 3 10 0 1 1 ∷ timed 5 6 1 0 0 ∷ [];
+    }
+    ∷ []
+
+record TimedOutcome : Type 0 where
+  outcome : Outcome
+  timers : List Timer
+
+timedOutcome : TimedRow → TimedOutcome
+timedOutcome r =
+    let x = scanList (r .list) (r .watchdog) (stateOf (length (r .before)) (r .before ++ replicate scratchBytes 0) (r .timers) (r .now)) in
+    record {
+      outcome = record { halt = x .halt; instructions = x .counts .instructions; rungs = x .counts .rungs; times = x .counts .times; moved = x .state .moved; variables = variables (x .state) };
+      timers = x .state .timers;
+    }
+
+timers-scanned : map timedOutcome timedRows ≡ map (λ (r : TimedRow). record { outcome = r .outcome; timers = r .left }) timedRows
+unfolding timedRows timedOutcome timed scanList scanMachine begin fresh step count enter zipWith does halted isStart valueAt value writtenAt turns write writeIf setTimer runTimer
+    elapsed started tested powered variables xor
+timers-scanned = refl
 
 -- ---- 02, Req 05
 
@@ -204,7 +275,7 @@ unfoldable pub parkTable : List ℕ
 parkTable =
     bytes "L" ++ zeros 5 ++ bytes "LN" ++ zeros 4 ++ bytes "S" ++ zeros 5 ++ bytes "SN" ++ zeros 4 ++ bytes "UND" ++ zeros 3 ++ bytes "UNDN" ++ zeros 2 ++ bytes "ODER" ++ zeros 2
     ++ bytes "ODERN" ++ zeros 1 ++ bytes "XO" ++ zeros 4 ++ bytes "XON" ++ zeros 3 ++ bytes "NICHT" ++ zeros 1 ++ bytes "SPRUNG" ++ bytes "SPB" ++ zeros 3 ++ bytes "SPBN" ++ zeros 2
-    ++ bytes "SET" ++ zeros 3 ++ bytes "RUECK" ++ zeros 1
+    ++ bytes "SET" ++ zeros 3 ++ bytes "RUECK" ++ zeros 1 ++ bytes "EV" ++ zeros 4
 
 -- question 14: the fixed table, the park's, none; a byte too few and one too many, an empty name, a small letter, a letter after a zero, a repeated name
 tables : List Answer
@@ -218,7 +289,7 @@ tables =
     ∷ question14 (bytes "Ld" ++ zeros 4 ++ drop 6 fixedTable)
     ∷ question14 (bytes "L" ++ zeros 1 ++ bytes "D" ++ zeros 3 ++ drop 6 fixedTable)
     ∷ question14 (bytes "LDN" ++ zeros 3 ++ drop 6 fixedTable)
-    ∷ question14 (take 90 fixedTable ++ take 6 fixedTable)
+    ∷ question14 (take 96 fixedTable ++ take 6 fixedTable)
     ∷ []
 
 no-names : Answer

@@ -1,4 +1,4 @@
--- Instructions, and their words and back. Document 01, "What a list does"; document 002, figure 1, Booleans only; S and R: 02, Req 01. Assumes nothing.
+-- Instructions, and their words and back. Document 01, "What a list does"; document 002, figure 1, Booleans only; S and R: 02, Req 01; TON: Req 06. Assumes nothing.
 use Prim.Native.Nat.{ℕ, zero, suc}
 use mathlib.Core.Bool.{Bool, true}
 use mathlib.Core.Option.{Option, none, some}
@@ -11,14 +11,14 @@ pub data Instr : Type 0 where
   LD LDN ST STN AND ANDN OR ORN XOR XORN : ℕ → Instr
   NOT : Instr
   JMP JMPC JMPCN : ℕ → Instr
-  S R : ℕ → Instr
+  S R TON : ℕ → Instr
 
 -- "Operands: a table index below V + 32 for 1 to 10; 0 for NOT; an instruction index from 0 to the list's length for 12 to 14."
--- 02, Req 01: S and R "take operands as ST does"
+-- 02, Req 01: S and R "take operands as ST does"; Req 06: TON "takes numbers 0 to 65,535", of timers
 pub data Operand : Type 0 where
   tableIndex : ℕ → Operand
   noOperand : Operand
-  instructionIndex : ℕ → Operand
+  instructionIndex timerNumber : ℕ → Operand
 
 unfoldable pub operand : Instr → Operand
 operand (LD x) = tableIndex x
@@ -37,8 +37,10 @@ operand (JMPC j) = instructionIndex j
 operand (JMPCN j) = instructionIndex j
 operand (S x) = tableIndex x
 operand (R x) = tableIndex x
+operand (TON n) = timerNumber n
 
--- "1 LD, 2 LDN, 3 ST, 4 STN, 5 AND, 6 ANDN, 7 OR, 8 ORN, 9 XOR, 10 XORN, 11 NOT, 12 JMP, 13 JMPC, 14 JMPCN"; 02, Req 01: "ops 15 S and 16 R"
+-- "1 LD, 2 LDN, 3 ST, 4 STN, 5 AND, 6 ANDN, 7 OR, 8 ORN, 9 XOR, 10 XORN, 11 NOT, 12 JMP, 13 JMPC, 14 JMPCN"; 02, Req 01: "ops 15 S and 16 R";
+-- Req 06: "op 17 TON"
 unfoldable pub opOf : Instr → ℕ
 opOf (LD x) = 1
 opOf (LDN x) = 2
@@ -56,11 +58,13 @@ opOf (JMPC j) = 13
 opOf (JMPCN j) = 14
 opOf (S x) = 15
 opOf (R x) = 16
+opOf (TON n) = 17
 
 unfoldable pub operandNumber : Operand → ℕ
 operandNumber (tableIndex x) = x
 operandNumber noOperand = 0
 operandNumber (instructionIndex j) = j
+operandNumber (timerNumber n) = n
 
 -- "An instruction is op × 65,536 + operand"
 unfoldable pub instrWord : Instr → ℕ
@@ -77,11 +81,11 @@ unfoldable pub onlyNot : ℕ → Option Instr
 onlyNot zero = some NOT
 onlyNot (suc x) = none
 
--- by op, from 0 to 16
+-- by op, from 0 to 17
 unfoldable pub ops : List (ℕ → Option Instr)
 ops =
     noOp ∷ op LD ∷ op LDN ∷ op ST ∷ op STN ∷ op AND ∷ op ANDN ∷ op OR ∷ op ORN ∷ op XOR ∷ op XORN ∷ onlyNot
-    ∷ op JMP ∷ op JMPC ∷ op JMPCN ∷ op S ∷ op R ∷ []
+    ∷ op JMP ∷ op JMPC ∷ op JMPCN ∷ op S ∷ op R ∷ op TON ∷ []
 
 unfoldable pub decodeInstr : ℕ → Option Instr
 decodeInstr w = getD ops (numberOf w) noOp (operandOf w)
@@ -96,12 +100,13 @@ codeOf ws = elim (decodeCode ws) [ none ↦ [] | some is ↦ is ]
 
 -- the sort of an operand, and that of the operand that an op takes
 pub data OperandSort : Type 0 where
-  tableSort nothingSort instructionSort noSort : OperandSort
+  tableSort nothingSort instructionSort timerSort noSort : OperandSort
 
 unfoldable pub sortOf : Operand → OperandSort
 sortOf (tableIndex x) = tableSort
 sortOf noOperand = nothingSort
 sortOf (instructionIndex j) = instructionSort
+sortOf (timerNumber n) = timerSort
 
 -- by op's number; no sort where no instruction has it
 unfoldable pub operandSort : ℕ → OperandSort
@@ -112,7 +117,8 @@ unfoldable pub sortNumber : OperandSort → ℕ
 sortNumber tableSort = 0
 sortNumber nothingSort = 1
 sortNumber instructionSort = 2
-sortNumber noSort = 3
+sortNumber timerSort = 3
+sortNumber noSort = 4
 
 unfoldable pub sameSort : OperandSort → OperandSort → Bool
 sameSort a b = eqb (sortNumber a) (sortNumber b)
@@ -122,6 +128,7 @@ unfoldable pub operandFits : Operand → Bool
 operandFits (tableIndex x) = isOperand x
 operandFits noOperand = true
 operandFits (instructionIndex j) = isOperand j
+operandFits (timerNumber n) = isOperand n
 
 unfoldable pub instrFits : Instr → Bool
 instrFits i = operandFits (operand i)

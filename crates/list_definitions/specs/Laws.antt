@@ -2,6 +2,7 @@
 pub mod Decoding
 pub mod InRange
 pub mod Names
+pub mod Timed
 pub mod Refusing
 pub mod Watchdog
 pub mod Words

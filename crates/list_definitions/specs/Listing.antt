@@ -10,7 +10,7 @@ use Rattle.questions.specs.Bytes.{byte, decimal}
 use Rattle.questions.specs.Questions.{Refusal, firstNo, question1, question13}
 use Rattle.questions.specs.Refusals.{refusalOf}
 use Rattle.rungs.specs.Records.{RungRecord}
-use Rattle.list_definitions.specs.Instruction.{Instr, Operand, tableIndex, noOperand, instructionIndex, operand, opOf}
+use Rattle.list_definitions.specs.Instruction.{Instr, Operand, tableIndex, noOperand, instructionIndex, timerNumber, operand, opOf}
 use Rattle.list_definitions.specs.Machine.{InstructionList}
 use Rattle.list_definitions.specs.Questions.{question10}
 use Rattle.list_definitions.specs.ListScan.{listOf}
@@ -18,11 +18,13 @@ use Rattle.list_definitions.specs.Names.{Names, nameOf, namesIn, questio
 use Rattle.list_definitions.specs.declared.Listed.{Listed}
 use Rattle.list_definitions.specs.declared.Listed.the-variants.{Written, Refused as RefusedCase}
 
--- "space, operand (NOT: name only). Operands are v or t with its number, or @ with the index."
+-- "space, operand (NOT: name only). Operands are v or t with its number, or @ with the index." 02, Req 06: "Listing shows a timer as d
+-- with its number"
 unfoldable pub operandText : ℕ → Operand → List ℕ
 operandText vars (tableIndex x) = elim (ltb x vars) [ true ↦ byte " " ∷ byte "v" ∷ decimal x | false ↦ byte " " ∷ byte "t" ∷ decimal (x - vars) ]
 operandText vars noOperand = []
 operandText vars (instructionIndex j) = byte " " ∷ byte "@" ∷ decimal j
+operandText vars (timerNumber n) = byte " " ∷ byte "d" ∷ decimal n
 
 -- "a line for each instruction: name, space, operand"
 unfoldable pub instrLine : Names → ℕ → Instr → List ℕ

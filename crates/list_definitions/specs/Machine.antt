@@ -1,15 +1,15 @@
 -- What a list does. Document 01, "What a list does"; document 002, figures 6 to 8 and 14, where (v, e, pc) are accumulator, memory and program counter.
--- The memory is the table. S and R are document 02's, after IEC 61131-3 (table.State, writeIf), and not document 002's. Assumes nothing.
+-- The memory is the table. S, R and TON are document 02's, after IEC 61131-3 (table.State, writeIf), and not document 002's. Assumes nothing.
 use Prim.Native.Nat.{ℕ, zero, suc, _+_}
 use mathlib.Core.Bool.{Bool, true, false, not, cond, xor, _&&_, _||_}
 use mathlib.Core.Option.{none, some}
 use mathlib.Core.List.{List}
 use lib.ListN.{length, getElem?}
 use Rattle.questions.specs.Tests.{bit}
-use Rattle.table.specs.State.{State, value, write, writeIf}
+use Rattle.table.specs.State.{State, value, write, writeIf, runTimer}
 use Rattle.table.specs.Halt.{Halt, Ended, Stopped}
 use Rattle.rungs.specs.Records.{RungRecord, isStart, enter, noneEntered}
-use Rattle.list_definitions.specs.Instruction.{Instr, LD, LDN, ST, STN, AND, ANDN, OR, ORN, XOR, XORN, NOT, JMP, JMPC, JMPCN, S, R}
+use Rattle.list_definitions.specs.Instruction.{Instr, LD, LDN, ST, STN, AND, ANDN, OR, ORN, XOR, XORN, NOT, JMP, JMPC, JMPCN, S, R, TON}
 
 -- a list: its instructions and its rung records
 pub record InstructionList : Type 0 where
@@ -27,7 +27,8 @@ effect v e pc = record { accumulator = v; state = e; index = pc }
 
 -- What an instruction does, from accumulator, state and index before it. Figure 6: LD, ST. Figure 7, for AND, OR, XOR. Figure 8: NOT. Figure 14: the jumps.
 -- "N negates the operand, in STN the stored value. JMPC jumps when the accumulator is true, JMPCN when false; jumps and stores keep it."
--- 02, Req 01: "With power on, S writes 1 and R writes 0. With power off they write nothing."; they "keep the accumulator", which is the power
+-- 02, Req 01: "With power on, S writes 1 and R writes 0. With power off they write nothing."; they "keep the accumulator", which is the power.
+-- Req 06: so does TON
 unfoldable pub does : Instr → Bool → State → ℕ → Effect
 does (LD x) v e pc = effect (value e x) e (pc + 1)
 does (LDN x) v e pc = effect (not (value e x)) e (pc + 1)
@@ -45,6 +46,7 @@ does (JMPC j) v e pc = effect v e (cond v j (pc + 1))
 does (JMPCN j) v e pc = effect v e (cond v (pc + 1) j)
 does (S x) v e pc = effect v (writeIf v e x true) (pc + 1)
 does (R x) v e pc = effect v (writeIf v e x false) (pc + 1)
+does (TON n) v e pc = effect v (runTimer e n v) (pc + 1)
 
 -- "Both carry the instructions carried out and the rungs entered, that is, how many of them stood at a record's offset." 02, Req 04: "the times entered", of
 -- each record, in the order of the row

@@ -2,19 +2,19 @@
 -- capital letters". Assumes nothing.
 use Prim.Native.Nat.{ℕ, zero, suc, _-_, _*_, _≤_, _<_}
 use mathlib.Core.Path.{_≡_}
-use mathlib.Core.Bool.{Bool, true, false, not, _&&_}
+use mathlib.Core.Bool.{Bool, true, false, _&&_}
 use mathlib.Core.List.{List, [], _∷_, _++_, flatMap}
 use lib.Dec.{eqb, leb}
 use lib.ListN.{length, getD, take, drop, replicate}
 use Rattle.questions.specs.Bytes.{byte, bytes, sameBytes}
-use Rattle.questions.specs.Tests.{all}
+use Rattle.questions.specs.Tests.{all, different}
 use Rattle.questions.specs.Questions.{Answer, ask}
 
 -- a name for each op from 1 on, six bytes each, filled with zeros
 abbrev pub Names : Type 0
 Names = List (List ℕ)
 
--- "The fourteen names are one fixed table, six bytes a name, filled with zeros."; with 02's S and R there are sixteen
+-- "The fourteen names are one fixed table, six bytes a name, filled with zeros."; with 02's S, R and TON there are seventeen
 unfoldable pub fixedNames : Names
 unfolding bytes
 fixedNames =
@@ -34,6 +34,7 @@ fixedNames =
     ∷ (bytes "JMPCN" ++ 0 ∷ [])
     ∷ (bytes "S" ++ 0 ∷ 0 ∷ 0 ∷ 0 ∷ 0 ∷ [])
     ∷ (bytes "R" ++ 0 ∷ 0 ∷ 0 ∷ 0 ∷ 0 ∷ [])
+    ∷ (bytes "TON" ++ 0 ∷ 0 ∷ 0 ∷ [])
     ∷ []
 
 -- a name without its filling
@@ -44,9 +45,9 @@ trimmed (b ∷ bs) = elim (eqb b 0) [ true ↦ [] | false ↦ b ∷ trimmed bs ]
 unfoldable pub nameOf : Names → ℕ → List ℕ
 nameOf names op = trimmed (getD names (op - 1) [])
 
--- ops are numbered from 1 to
+-- ops are numbered from 1 to; 02, Req 06: "name tables name op 17 too"
 abbrev pub mostOp : ℕ
-mostOp = 16
+mostOp = 17
 
 -- "six bytes an op"
 abbrev pub nameBytes : ℕ
@@ -72,13 +73,9 @@ isCapital b = leb (byte "A") b && leb b (byte "Z")
 unfoldable pub isName : List ℕ → Bool
 isName name = leb 1 (length (trimmed name)) && (all isCapital (trimmed name) && all (λ b. eqb b 0) (drop (length (trimmed name)) name))
 
--- no name "repeats an earlier one"
-unfoldable pub different : Names → Bool
-different [] = true
-different (name ∷ later) = all (λ other. not (sameBytes other name)) later && different later
-
+-- and no name "repeats an earlier one"
 unfoldable pub isNameTable : List ℕ → Bool
-isNameTable table = eqb (length table) (nameBytes * mostOp) && (all isName (namesIn table) && different (namesIn table))
+isNameTable table = eqb (length table) (nameBytes * mostOp) && (all isName (namesIn table) && different sameBytes (namesIn table))
 
 -- "14 when the table isn't six bytes an op or a name is empty, isn't capitals before zeros or repeats an earlier one"
 unfoldable pub question14 : List ℕ → Answer

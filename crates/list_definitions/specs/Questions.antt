@@ -1,4 +1,4 @@
--- Question 10. Document 01, "Questions before work". Assumes nothing.
+-- Questions 10 and 17. Document 01, "Questions before work"; document 02, Req 06. Assumes nothing.
 use Prim.Native.Nat.{ℕ}
 use mathlib.Core.Bool.{Bool, true, false, _&&_}
 use mathlib.Core.Option.{none, some}
@@ -9,13 +9,15 @@ use Rattle.questions.specs.Tests.{all}
 use Rattle.questions.specs.Questions.{Answer, ask, firstNo, question1}
 use Rattle.table.specs.State.{tableSize}
 use Rattle.rungs.specs.Records.{RungRecord, mostRecords, laid}
-use Rattle.list_definitions.specs.Instruction.{Instr, Operand, tableIndex, noOperand, instructionIndex, operand, decodeInstr}
+use Rattle.list_definitions.specs.Instruction.{Instr, Operand, tableIndex, noOperand, instructionIndex, timerNumber, operand, decodeInstr}
 
--- "a table index below V + 32", the table's size, "an instruction index from 0 to the list's length" n
+-- "a table index below V + 32", the table's size, "an instruction index from 0 to the list's length" n; 02, Req 06:
+-- TON "takes numbers 0 to 65,535", so any that a word holds
 unfoldable pub operandInRange : ℕ → ℕ → Operand → Bool
 operandInRange size n (tableIndex x) = ltb x size
 operandInRange size n noOperand = true
 operandInRange size n (instructionIndex j) = leb j n
+operandInRange size n (timerNumber t) = true
 
 abbrev pub instrInRange : ℕ → ℕ → Instr → Bool
 instrInRange size n i = operandInRange size n (operand i)
@@ -42,6 +44,19 @@ listInRange vars words rs =
 unfoldable pub question10 : ℕ → List ℕ → List RungRecord → Answer
 question10 vars words rs = ask 10 (listInRange vars words rs)
 
--- the questions that List scan and Listing both put first, in order
+-- 17. 02, Req 06: "17 when a timer number has no record", of so many records
+unfoldable pub operandTimed : ℕ → Operand → Bool
+operandTimed records (tableIndex x) = true
+operandTimed records noOperand = true
+operandTimed records (instructionIndex j) = true
+operandTimed records (timerNumber t) = ltb t records
+
+unfoldable pub timersKnown : ℕ → List Instr → Bool
+timersKnown records code = all (λ i. operandTimed records (operand i)) code
+
+unfoldable pub question17 : ℕ → List Instr → Answer
+question17 records code = ask 17 (timersKnown records code)
+
+-- the questions that Listing puts after 14, in order
 unfoldable pub listAnswer : ℕ → List ℕ → List RungRecord → Answer
 listAnswer vars words rs = firstNo (question1 vars ∷ question10 vars words rs ∷ [])

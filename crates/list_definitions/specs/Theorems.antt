@@ -10,12 +10,13 @@ use lib.ListN.{length}
 use Rattle.questions.specs.Tests.{all}
 use Rattle.questions.specs.Questions.{Refusal, mostInstructionWatchdog}
 use Rattle.questions.specs.Laws.Answers.{watchdog-in-range}
+use Rattle.table.specs.Timer.{Timer}
 use Rattle.table.specs.State.{State, stateOf}
 use Rattle.table.specs.Halt.{Halt, Ended, Stopped}
 use Rattle.table.specs.Questions.{Legal}
 use Rattle.table.specs.Writes.{replay, changes, WritesTell}
 use Rattle.table.specs.Laws.Legal.{legal-table}
-use Rattle.table.specs.Laws.Replaying.{makes-bytes}
+use Rattle.table.specs.Laws.Replaying.{untimed, makes-bytes}
 use Rattle.table.specs.Laws.Changes.{makes-moved}
 use Rattle.rungs.specs.Records.{RungRecord, sum}
 use Rattle.list_definitions.specs.Instruction.{Instr, instrWord, instrFits, decodeInstr, decodeCode}
@@ -52,7 +53,7 @@ ended-exactly l watchdog s c t = (ended-stands l s watchdog c t, (λ h. stands-e
 
 -- A scan, Ended or Stopped, leaves the table with its writes made, first to last.
 pub list-replayed : (l : InstructionList) (watchdog : ℕ) (s : State) → scanList l watchdog s .state .bytes ≡ replay (listWrites l watchdog s) (s .bytes)
-list-replayed l watchdog s = ap (λ t. t .bytes) (list-makes l watchdog s) ∙ makes-bytes (listWrites l watchdog s) s
+list-replayed l watchdog s = ap (λ t. t .bytes) (list-makes l watchdog s) ∙ makes-bytes (listWrites l watchdog s) (untimed s)
 
 -- It makes at most one write for each instruction carried out.
 pub few-writes : (l : InstructionList) (watchdog : ℕ) (s : State) → length (listWrites l watchdog s) ≤ scanList l watchdog s .counts .instructions
@@ -65,13 +66,13 @@ within-watchdog l watchdog s = list-within l watchdog s .instructions
 -- 02, Req 02: the sum of a scan from a legal table is the number of its writes that changed a variable's byte.
 pub list-sum : (l : InstructionList) (watchdog : ℕ) (s : State) → Legal s
     → scanList l watchdog s .state .moved ≡ s .moved + changes (s .vars) (listWrites l watchdog s) (s .bytes)
-list-sum l watchdog s legal = ap (λ t. t .moved) (list-makes l watchdog s) ∙ makes-moved (listWrites l watchdog s) s (legal-table s legal)
+list-sum l watchdog s legal = ap (λ t. t .moved) (list-makes l watchdog s) ∙ makes-moved (listWrites l watchdog s) (untimed s) (legal-table s legal)
 
 -- The same of the call, with its table, wherever it is not refused.
-pub call-writes-tell : (vars : ℕ) (words : List ℕ) (records : List RungRecord) (table : List ℕ) (watchdog : ℕ) (halt : Halt) (counts : ListCounts)
-    → callListScan vars words records table watchdog .answer ≡ scanned halt counts
-    → WritesTell vars (listWrites (listOf words records) watchdog (stateOf vars table)) table (counts .moved) (callListScan vars words records table watchdog .table)
-call-writes-tell vars words records table watchdog halt counts e = writes-tell vars words records table watchdog halt counts e
+pub call-writes-tell : (vars : ℕ) (words : List ℕ) (records : List RungRecord) (table : List ℕ) (timers : List Timer) (now watchdog : ℕ) (halt : Halt) (counts : ListCounts)
+    → callListScan vars words records table timers now watchdog .answer ≡ scanned halt counts
+    → WritesTell vars (listWrites (listOf words records) watchdog (stateOf vars table timers now)) table (counts .moved) (callListScan vars words records table timers now watchdog .table)
+call-writes-tell vars words records table timers now watchdog halt counts e = writes-tell vars words records table timers now watchdog halt counts e
 
 -- And its sum fits 32 bits: at most one for each instruction carried out, and at most 16,777,215 are.
 pub record SumFits (counts : ListCounts) : Type 0 where
@@ -79,12 +80,12 @@ pub record SumFits (counts : ListCounts) : Type 0 where
   pub a-scan : counts .moved ≤ mostInstructionWatchdog
   pub fits : counts .moved < 2 ^ 32
 
-pub call-sum-fits : (vars : ℕ) (words : List ℕ) (records : List RungRecord) (table : List ℕ) (watchdog : ℕ) (halt : Halt) (counts : ListCounts)
-    → callListScan vars words records table watchdog .answer ≡ scanned halt counts → SumFits counts
-call-sum-fits vars words records table watchdog halt counts e =
-    let few = sum-few vars words records table watchdog halt counts e in
-    let carried = instructions-few vars words records table watchdog halt counts e in
-    let most = watchdog-in-range mostInstructionWatchdog watchdog (asked vars words records table watchdog halt counts e .watchdog) in
+pub call-sum-fits : (vars : ℕ) (words : List ℕ) (records : List RungRecord) (table : List ℕ) (timers : List Timer) (now watchdog : ℕ) (halt : Halt) (counts : ListCounts)
+    → callListScan vars words records table timers now watchdog .answer ≡ scanned halt counts → SumFits counts
+call-sum-fits vars words records table timers now watchdog halt counts e =
+    let few = sum-few vars words records table timers now watchdog halt counts e in
+    let carried = instructions-few vars words records table timers now watchdog halt counts e in
+    let most = watchdog-in-range mostInstructionWatchdog watchdog (asked vars words records table timers now watchdog halt counts e .passed .watchdog) in
     record { an-instruction = few; a-scan = omega arith; fits = omega arith }
 
 -- 02, Req 04: "The fields add up to the rungs entered, for every list and every watchdog." There is a field for each record. A list is one whose records
@@ -94,16 +95,16 @@ pub times-add-up : (l : InstructionList) (watchdog : ℕ) (s : State) → T (rec
 times-add-up l watchdog s laid = (each-time l laid watchdog s, times-sum l laid watchdog s)
 
 -- The same of the call, wherever it is not refused, Ended or Stopped, and whatever the fields held before.
-pub call-times-add-up : (vars : ℕ) (words : List ℕ) (records : List RungRecord) (table : List ℕ) (watchdog : ℕ) (halt : Halt) (counts : ListCounts)
-    → callListScan vars words records table watchdog .answer ≡ scanned halt counts → (before : List ℕ)
-    → (length (callListScan vars words records table watchdog .times before) ≡ length records)
-    × (sum (callListScan vars words records table watchdog .times before) ≡ counts .rungs)
-call-times-add-up vars words records table watchdog halt counts e before = times-tell vars words records table watchdog halt counts e before
+pub call-times-add-up : (vars : ℕ) (words : List ℕ) (records : List RungRecord) (table : List ℕ) (timers : List Timer) (now watchdog : ℕ) (halt : Halt) (counts : ListCounts)
+    → callListScan vars words records table timers now watchdog .answer ≡ scanned halt counts → (before : List ℕ)
+    → (length (callListScan vars words records table timers now watchdog .times before) ≡ length records)
+    × (sum (callListScan vars words records table timers now watchdog .times before) ≡ counts .rungs)
+call-times-add-up vars words records table timers now watchdog halt counts e before = times-tell vars words records table timers now watchdog halt counts e before
 
 -- "and a refused one touches none".
-pub call-times-left : (vars : ℕ) (words : List ℕ) (records : List RungRecord) (table : List ℕ) (watchdog : ℕ) (r : Refusal)
-    → callListScan vars words records table watchdog .answer ≡ refused r → (before : List ℕ) → callListScan vars words records table watchdog .times before ≡ before
-call-times-left vars words records table watchdog r e before = times-left vars words records table watchdog r e before
+pub call-times-left : (vars : ℕ) (words : List ℕ) (records : List RungRecord) (table : List ℕ) (timers : List Timer) (now watchdog : ℕ) (r : Refusal)
+    → callListScan vars words records table timers now watchdog .answer ≡ refused r → (before : List ℕ) → callListScan vars words records table timers now watchdog .times before ≡ before
+call-times-left vars words records table timers now watchdog r e before = times-left vars words records table timers now watchdog r e before
 
 -- 02, Req 05: question 14 gets a "yes" exactly when the table has six bytes an op, each six are capital letters, at least one, and then zeros, and no two of them
 -- are equal.

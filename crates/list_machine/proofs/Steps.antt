@@ -8,7 +8,12 @@ use mathlib.Core.Option.{some}
 use mathlib.Core.List.{List}
 use lib.ListN.{length, getD, List·getD-eq-default}
 use Rattle.questions.specs.Laws.Tests.{none-some}
-use Rattle.table.specs.State.{State}
+use Rattle.table.specs.Timer.{Timer}
+use Rattle.table.specs.State.{State, stateWith, runTimer}
+use Rattle.table.specs.TimerRecords.{timersIn}
+use Rattle.table.specs.Parts.{TableChanged}
+use Rattle.timers.specs.Parts.{StateChanged}
+use Rattle.timers.specs.Laws.Kept.{timer-few}
 use Rattle.rungs.specs.Words.{numberOf, operandOf}
 use Rattle.rungs.specs.Laws.Numbers.{noneTo, past-all}
 use Rattle.list_definitions.specs.Instruction.{Instr, NOT, noOp, onlyNot, ops, decodeInstr}
@@ -69,6 +74,22 @@ module _ {w : ℕ} {v : Bool} {straight : ℕ} {s : State} {r : Effect} {u : ℕ
         absurd (omega arith);
     few = rw f (omega arith);
   }
+
+-- the same, where it writes to the table
+module _ {w : ℕ} {v : Bool} {straight vars : ℕ} {t : List ℕ} {timers : List Timer} {tick moved : ℕ} {r : Effect} {u : List ℕ} where
+  pub arm-writes : {k : ℕ} → numberOf w ≡ k → (make : ℕ → Instr) → getD ops k noOp (operandOf w) ≡ some (make (operandOf w))
+      → {a : Bool} {j sum : ℕ} {change : State → State} → r ≡ record { accumulator = a; index = j; moved = sum } → TableChanged vars t moved change sum u → sum ≤ moved + 1
+      → ((pc : ℕ) → straight ≡ pc + 1
+      → does (make (operandOf w)) v (stateWith vars t timers tick moved) pc ≡ record { accumulator = a; state = change (stateWith vars t timers tick moved); index = j })
+      → Did w v straight (stateWith vars t timers tick moved) r (stateWith vars u timers tick)
+  arm-writes e make m f wrote few h = arm e make m f few (λ pc q. rw (wrote .same timers tick) (h pc q))
+
+-- a timer's run turns one variable over at most
+pub ran-few : (vars tick : ℕ) (t ns : List ℕ) (moved n : ℕ) (p : Bool) (sum : ℕ) (u ms : List ℕ) → StateChanged vars tick t ns moved (λ s. runTimer s n p) sum u ms → sum ≤ moved + 1
+ran-few vars tick t ns moved n p sum u ms h =
+    let few = timer-few (stateWith vars t (timersIn ns) tick moved) n p in
+    let is = ap (λ s. s .moved) (h .same) in
+    omega arith
 
 -- the machine after an instruction, with its counts; the state before it has the machine's sum
 module _ (w entered : ℕ) (m : MachineStruct) (at : ℕ → State) (effect : Effect) (u : ℕ → State) where

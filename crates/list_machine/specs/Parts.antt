@@ -8,6 +8,7 @@ use mathlib.Core.List.{List, [], _∷_}
 use lib.Dec.{eqb, leb, ltb}
 use lib.ListN.{length, getD, set}
 use Rattle.questions.specs.Tests.{bit}
+use Rattle.table.specs.Timer.{Timer}
 use Rattle.table.specs.State.{State}
 use Rattle.rungs.specs.Records.{RungRecord, offsets, isStart, enter}
 use Rattle.list_definitions.specs.Instruction.{Instr, decodeInstr, decodeCode}
@@ -85,7 +86,7 @@ runsOn end watchdog m = not (leb end (m .index)) && not (eqb (m .counts .instruc
 unfoldable pub haltedAt : ℕ → MachineStruct → ListScanned
 haltedAt end m = elim (leb end (m .index)) [ true ↦ EndedCase (m .counts) | false ↦ StoppedCase (m .counts) ]
 
--- a list's words and offsets are scanned as the list, from the state s; the bytes u are left
-pub record Ran (ws os before : List ℕ) (s : State) (watchdog : ℕ) (r : ListScanned) (after u : List ℕ) : Type 0 where
+-- a list's words and offsets are scanned as the list, from the state s; the bytes u and the timer records ts are left
+pub record Ran (ws os before : List ℕ) (s : State) (watchdog : ℕ) (r : ListScanned) (after u : List ℕ) (ts : List Timer) : Type 0 where
   pub same : (l : InstructionList) → decodeCode ws ≡ some (l .code) → offsets (l .records) ≡ os → ascending 0 os
-      → ListScanDone (scanEnds (scanList l watchdog s)) r u before after
+      → ListScanDone (scanEnds (scanList l watchdog s)) r u ts before after

@@ -1,11 +1,13 @@
 // One scan of a list. "Stood at a record's offset" is never a search on straight runs: `next` is the first record that does not
 // begin before the index, so the instruction stands at an offset just when it is that record's; a jump finds it anew, by halving.
 // 02, Req 04: where it does, that record's times entered get one more.
+// Req 06: timer records are lent as one slice of numbers, five a record, and a scan has one tick.
 ghost use mathlib.Core.Path.{_≡_};
 ghost use mathlib.Core.Bool.{cond};
 ghost use Prim.Native.Nat.{_+_, _≤_, _<_, _^_};
 ghost use lib.ListN.{length, getD};
 ghost use Rattle.table.specs.State.{stateWith, stateOf};
+ghost use Rattle.table.specs.TimerRecords.{timersIn};
 ghost use Rattle.rungs.specs.Records.{noneEntered};
 ghost use Rattle.list_machine.specs.Parts.{Did, Stepped, Ran, Sought, Followed};
 ghost use Rattle.list_machine.specs.Parts.{firstMachine, firstPlace, startsHere, counted, runsOn, haltedAt};
@@ -59,11 +61,13 @@ fn carry_out(
     accumulator: bool,
     straight: usize,
     table: &mut [u8],
+    timers: &mut [u32],
+    tick: u32,
     moved: u32,
 ) -> Effect
     requires { ⌜ moved + 1 < 2 ^ 32 ⌝ }
-    ensures { λ r. ⌜ Did word accumulator straight (stateWith vars (now (table .entry)) moved)
-        r (stateWith vars (now (table .exit))) ⌝ }
+    ensures { λ r. ⌜ Did word accumulator straight (stateWith vars (now (table .entry)) (timersIn (now (timers .entry))) tick moved)
+        r (stateWith vars (now (table .exit)) (timersIn (now (timers .exit))) tick) ⌝ }
 {
     let op = word / rungs::OPERANDS;
     let operand = (word % rungs::OPERANDS) as usize;
@@ -96,6 +100,10 @@ fn carry_out(
             let sum = table::write_if(vars, table, operand, accumulator, false, moved);
             after(accumulator, straight, sum)
         }
+        list_ops::TON => {
+            let sum = timers::run_timer(vars, table, timers, operand, accumulator, tick, moved);
+            after(accumulator, straight, sum)
+        }
         // No instruction has another op, so any index will do here. `straight` in place of 0 would cost a scan a tenth more
         // machine instructions.
         _ => after(accumulator, 0, moved),
@@ -103,11 +111,20 @@ fn carry_out(
 }
 
 // The machine after the instruction at its index; `entered` is 1 where it stands at a record's offset, and else 0.
-fn stepped(vars: u32, m: Machine, code: &[u32], entered: u32, table: &mut [u8]) -> Machine
+fn stepped(
+    vars: u32,
+    m: Machine,
+    code: &[u32],
+    entered: u32,
+    table: &mut [u8],
+    timers: &mut [u32],
+    tick: u32,
+) -> Machine
     requires { ⌜ (m .index < length (now code)) × (m .counts .instructions + 1 < 2 ^ 32) × (m .counts .rungs + entered < 2 ^ 32)
         × (m .counts .moved + 1 < 2 ^ 32) ⌝ }
-    ensures { λ r. ⌜ Stepped (getD (now (code .entry)) (m .index) 0) entered m (stateWith vars (now (table .entry)))
-        r (stateWith vars (now (table .exit))) ⌝ }
+    ensures { λ r. ⌜ Stepped (getD (now (code .entry)) (m .index) 0) entered
+        m (stateWith vars (now (table .entry)) (timersIn (now (timers .entry))) tick)
+        r (stateWith vars (now (table .exit)) (timersIn (now (timers .exit))) tick) ⌝ }
 {
     let counts = m.counts;
     let index = m.index;
@@ -117,6 +134,8 @@ fn stepped(vars: u32, m: Machine, code: &[u32], entered: u32, table: &mut [u8]) 
         m.accumulator,
         index + 1,
         table,
+        timers,
+        tick,
         counts.moved,
     );
     Machine {
@@ -131,13 +150,22 @@ fn stepped(vars: u32, m: Machine, code: &[u32], entered: u32, table: &mut [u8]) 
 }
 
 // One instruction changes the machine: it is taken out, stepped and put back.
-fn step(vars: u32, m: &mut Machine, code: &[u32], entered: u32, table: &mut [u8])
+fn step(
+    vars: u32,
+    m: &mut Machine,
+    code: &[u32],
+    entered: u32,
+    table: &mut [u8],
+    timers: &mut [u32],
+    tick: u32,
+)
     requires { ⌜ (now m .index < length (now code)) × (now m .counts .instructions + 1 < 2 ^ 32)
         × (now m .counts .rungs + entered < 2 ^ 32) × (now m .counts .moved + 1 < 2 ^ 32) ⌝ }
     ensures { λ _. ⌜ Stepped (getD (now (code .entry)) (now (m .entry) .index) 0) entered
-        (now (m .entry)) (stateWith vars (now (table .entry))) (now (m .exit)) (stateWith vars (now (table .exit))) ⌝ }
+        (now (m .entry)) (stateWith vars (now (table .entry)) (timersIn (now (timers .entry))) tick)
+        (now (m .exit)) (stateWith vars (now (table .exit)) (timersIn (now (timers .exit))) tick) ⌝ }
 {
-    *m = stepped(vars, *m, code, entered, table);
+    *m = stepped(vars, *m, code, entered, table, timers, tick);
 }
 
 // 1 where the record `next` begins at the index, and else 0.
@@ -257,17 +285,20 @@ fn scan(
     offsets: &[u32],
     times: &mut [u32],
     table: &mut [u8],
+    timers: &mut [u32],
+    tick: u32,
     watchdog: u32,
 ) -> ListScanned
     requires { ⌜ (length (now times) ≡ length (now offsets)) × (now times ≡ noneEntered (length (now times))) ⌝ }
-    ensures { λ r. ⌜ Ran (now (code .entry)) (now (offsets .entry)) (now (times .entry)) (stateOf vars (now (table .entry))) watchdog
-        r (now (times .exit)) (now (table .exit)) ⌝ }
+    ensures { λ r. ⌜ Ran (now (code .entry)) (now (offsets .entry)) (now (times .entry))
+        (stateOf vars (now (table .entry)) (timersIn (now (timers .entry))) tick) watchdog
+        r (now (times .exit)) (now (table .exit)) (timersIn (now (timers .exit))) ⌝ }
 {
     let mut m = first_machine();
     let mut place = first_place(offsets);
     while runs_on(m, code.len(), watchdog) {
         count_entry(times, place);
-        step(vars, &mut m, code, place.entered, table);
+        step(vars, &mut m, code, place.entered, table, timers, tick);
         place = follow(offsets, place, m.index);
     }
     halted_at(m, code.len())
@@ -280,12 +311,15 @@ pub fn run(
     offsets: &[u32],
     times: &mut [u32],
     table: &mut [u8],
+    timers: &mut [u32],
+    tick: u32,
     watchdog: u32,
 ) -> ListScanned
     requires { ⌜ length (now times) ≡ length (now offsets) ⌝ }
-    ensures { λ r. ⌜ Ran (now (code .entry)) (now (offsets .entry)) (now (times .entry)) (stateOf vars (now (table .entry))) watchdog
-        r (now (times .exit)) (now (table .exit)) ⌝ }
+    ensures { λ r. ⌜ Ran (now (code .entry)) (now (offsets .entry)) (now (times .entry))
+        (stateOf vars (now (table .entry)) (timersIn (now (timers .entry))) tick) watchdog
+        r (now (times .exit)) (now (table .exit)) (timersIn (now (timers .exit))) ⌝ }
 {
     rungs::put_zeros(times, times.len());
-    scan(vars, code, offsets, times, table, watchdog)
+    scan(vars, code, offsets, times, table, timers, tick, watchdog)
 }

@@ -11,14 +11,14 @@ use lib.Seq.{drop-cons, sets-eq}
 use Rattle.questions.specs.Bytes.{bytes}
 use Rattle.questions.specs.Tests.{all}
 use Rattle.questions.specs.Laws.Tests.{all-getD}
-use Rattle.list_definitions.specs.Names.{fixedNames, fixedTable}
+use Rattle.list_definitions.specs.Names.{fixedNames, mostOp, nameBytes, fixedTable}
 use Rattle.list_definitions.specs.Laws.Names.{fixed-names, fixed-accepted}
 use Rattle.printing.specs.Put.{Put}
 use Rattle.printing.specs.Laws.Puts.{Left, all-left, left-none, left-more}
 use Rattle.list_names.specs.Parts.{FixedNamesPut}
 
 -- each fixed name has six bytes
-pub fixed-long : (p : ℕ) → p < 16 → length (getD fixedNames p []) ≡ 6
+pub fixed-long : (p : ℕ) → p < mostOp → length (getD fixedNames p []) ≡ 6
 unfolding fixedNames bytes all
 fixed-long p h = eqb→eq (length (getD fixedNames p [])) 6 (all-getD (λ name. eqb (length name) 6) fixedNames p [] h tt)
 
@@ -45,7 +45,7 @@ module _ {l : List ℕ} {at : ℕ} {name x : List ℕ} {k : ℕ} (h : Naming l a
   pub naming-end : 6 ≤ k → Put l at name (at + k) x
   naming-end e = left-none (h .left) (drop-of-length-le name {i = k} (omega (arith, h .six)))
 
-table-long : length fixedTable ≡ 96
+table-long : length fixedTable ≡ nameBytes * mostOp
 unfolding fixedTable fixedNames bytes flatMap
 table-long = refl
 
@@ -53,7 +53,7 @@ table-long = refl
 put-all : {l x : List ℕ} {m : ℕ} → Put l 0 fixedTable m x → FixedNamesPut l x
 put-all {l} {x} p =
     let long = table-long in
-    let whole : length l ≡ 96 → x ≡ fixedTable =
+    let whole : length l ≡ nameBytes * mostOp → x ≡ fixedTable =
     λ e. p .wrote ∙ (sets-eq fixedTable l 0 (omega arith) ∙ (ap (λ rest. fixedTable ++ rest) (drop-of-length-le l {i = 0 + length fixedTable} (omega arith)) ∙ append-nil fixedTable)) in
     record {
       wrote = p .wrote;
@@ -70,18 +70,18 @@ pub record Filling (l x : List ℕ) (m op : ℕ) : Type 0 where
   pub left : Left l 0 fixedTable x m (namesLeft (op - 1))
   pub place : m ≡ 6 * (op - 1)
   pub from : 1 ≤ op
-  pub to : op ≤ 17
+  pub to : op ≤ mostOp + 1
 
 pub filling-start : (l : List ℕ) → Filling l l 0 1
 unfolding fixedTable
 filling-start l = record { left = all-left l 0 fixedTable; place = omega arith; from = omega arith; to = omega arith }
 
-names-step : (p : ℕ) → p < 16 → namesLeft p ≡ getD fixedNames p [] ++ namesLeft (suc p)
+names-step : (p : ℕ) → p < mostOp → namesLeft p ≡ getD fixedNames p [] ++ namesLeft (suc p)
 unfolding fixedNames bytes flatMap
 names-step p h = rw (drop-cons fixedNames p [] h) refl
 
 module _ {l x : List ℕ} {m op : ℕ} (h : Filling l x m op) where
-  pub filling-more : {r : ℕ} {y : List ℕ} → op ≤ 16 → Put x m (getD fixedNames (op - 1) []) r y → Filling l y r (op + 1)
+  pub filling-more : {r : ℕ} {y : List ℕ} → op ≤ mostOp → Put x m (getD fixedNames (op - 1) []) r y → Filling l y r (op + 1)
   filling-more {r} {y} le p =
       let from = h .from in
       let place = h .place in
@@ -95,9 +95,9 @@ module _ {l x : List ℕ} {m op : ℕ} (h : Filling l x m op) where
         to = omega arith;
       }
 
-  filling-last : 16 < op → namesLeft (op - 1) ≡ []
+  filling-last : mostOp < op → namesLeft (op - 1) ≡ []
   unfolding fixedNames bytes flatMap
-  filling-last lt = let q : op - 1 ≡ 16 = omega (arith, h .from, h .to) in rw q refl
+  filling-last lt = let q : op - 1 ≡ mostOp = omega (arith, h .from, h .to) in rw q refl
 
-  pub filling-end : 16 < op → FixedNamesPut l x
+  pub filling-end : mostOp < op → FixedNamesPut l x
   filling-end lt = put-all (left-none (h .left) (filling-last lt))

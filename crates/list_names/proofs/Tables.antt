@@ -11,8 +11,8 @@ use lib.Dec.{eqb, leb, ltb}
 use lib.ListN.{length, getD, take, drop, drop-of-length-le, List·getD-eq-default}
 use lib.Seq.{drop-cons, drop-drop, take-nil}
 use Rattle.questions.specs.Bytes.{sameBytes}
-use Rattle.questions.specs.Tests.{all}
-use Rattle.list_definitions.specs.Names.{trimmed, isCapital, isName, namesFrom, namesIn, different, isNameTable}
+use Rattle.questions.specs.Tests.{all, different}
+use Rattle.list_definitions.specs.Names.{trimmed, isCapital, isName, mostOp, nameBytes, namesFrom, namesIn, isNameTable}
 use Rattle.list_names.specs.Parts.{isZero, apart}
 
 pub capital-low : (b : ℕ) → b < 65 → false ≡ isCapital b
@@ -244,42 +244,42 @@ module _ (t name : List ℕ) (whole : Bool) (at left : ℕ) (i : Testing (apart 
   repeats-not e = testing-more (apart name) t whole at left i h (not r) (ap not q) (ap not e)
 
 pub record Differing (t : List ℕ) (at left : ℕ) : Type 0 where
-  pub same : different (namesFrom left (drop at t)) ≡ different (namesIn t)
+  pub same : different sameBytes (namesFrom left (drop at t)) ≡ different sameBytes (namesIn t)
   pub place : at + 6 * left ≤ length t
 
-pub differing-start : (t : List ℕ) → length t ≡ 96 → Differing t 0 16
+pub differing-start : (t : List ℕ) → length t ≡ nameBytes * mostOp → Differing t 0 mostOp
 differing-start t e = record { same = refl; place = omega arith }
 
 module _ (t : List ℕ) (at left : ℕ) (i : Differing t at left) where
   module _ (h : 0 < left) (b : Bool) (q : b ≡ all (apart (take 6 (drop at t))) (namesFrom (left - 1) (drop (at + 6) t))) where
-    differing-step : different (namesFrom left (drop at t)) ≡ (b && different (namesFrom (left - 1) (drop (at + 6) t)))
+    differing-step : different sameBytes (namesFrom left (drop at t)) ≡ (b && different sameBytes (namesFrom (left - 1) (drop (at + 6) t)))
     unfolding different namesFrom
     differing-step =
         let z : left ≡ suc (left - 1) = omega arith in
-        ap (λ n. different (namesFrom n (drop at t))) z ∙ rw (q, drop-drop 6 at t) refl
+        ap (λ n. different sameBytes (namesFrom n (drop at t))) z ∙ rw (q, drop-drop 6 at t) refl
 
-    pub differing-stop : b ≡ false → false ≡ different (namesIn t)
-    differing-stop e = sym (differing-step ∙ ap (λ x. x && different (namesFrom (left - 1) (drop (at + 6) t))) e) ∙ i .same
+    pub differing-stop : b ≡ false → false ≡ different sameBytes (namesIn t)
+    differing-stop e = sym (differing-step ∙ ap (λ x. x && different sameBytes (namesFrom (left - 1) (drop (at + 6) t))) e) ∙ i .same
 
     pub differing-more : b ≡ true → Differing t (at + 6) (left - 1)
     differing-more e =
         let p = i .place in
-        record { same = sym (differing-step ∙ ap (λ x. x && different (namesFrom (left - 1) (drop (at + 6) t))) e) ∙ i .same; place = omega arith }
+        record { same = sym (differing-step ∙ ap (λ x. x && different sameBytes (namesFrom (left - 1) (drop (at + 6) t))) e) ∙ i .same; place = omega arith }
 
-  pub differing-end : left ≤ 0 → true ≡ different (namesIn t)
+  pub differing-end : left ≤ 0 → true ≡ different sameBytes (namesIn t)
   unfolding different namesFrom
-  differing-end h = let z : left ≡ 0 = omega arith in let l : true ≡ different (namesFrom left (drop at t)) = rw z refl in l ∙ i .same
+  differing-end h = let z : left ≡ 0 = omega arith in let l : true ≡ different sameBytes (namesFrom left (drop at t)) = rw z refl in l ∙ i .same
 
 -- ---- question 14
 
-pub table-long : (t : List ℕ) → (length t ≡ 96 → ⊥) → false ≡ isNameTable t
+pub table-long : (t : List ℕ) → (length t ≡ nameBytes * mostOp → ⊥) → false ≡ isNameTable t
 unfolding isNameTable
-table-long t e = rw (ne-eqb (length t) 96 e) refl
+table-long t e = rw (ne-eqb (length t) (nameBytes * mostOp) e) refl
 
-pub table-names : (t : List ℕ) → length t ≡ 96 → (b : Bool) → b ≡ all isName (namesIn t) → b ≡ false → false ≡ isNameTable t
+pub table-names : (t : List ℕ) → length t ≡ nameBytes * mostOp → (b : Bool) → b ≡ all isName (namesIn t) → b ≡ false → false ≡ isNameTable t
 unfolding isNameTable
-table-names t e b q z = rw (eq-eqb (length t) 96 e, ← q, z) refl
+table-names t e b q z = rw (eq-eqb (length t) (nameBytes * mostOp) e, ← q, z) refl
 
-pub table-whole : (t : List ℕ) → length t ≡ 96 → (b : Bool) → b ≡ all isName (namesIn t) → b ≡ true → (r : Bool) → r ≡ different (namesIn t) → r ≡ isNameTable t
+pub table-whole : (t : List ℕ) → length t ≡ nameBytes * mostOp → (b : Bool) → b ≡ all isName (namesIn t) → b ≡ true → (r : Bool) → r ≡ different sameBytes (namesIn t) → r ≡ isNameTable t
 unfolding isNameTable
-table-whole t e b q z r p = rw (eq-eqb (length t) 96 e, ← q, z) p
+table-whole t e b q z r p = rw (eq-eqb (length t) (nameBytes * mostOp) e, ← q, z) p

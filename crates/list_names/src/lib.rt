@@ -4,20 +4,20 @@ ghost use mathlib.Core.Path.{_≡_};
 ghost use mathlib.Core.List.{[]};
 ghost use lib.ListN.{length, getD, take, drop};
 ghost use Rattle.questions.specs.Bytes.{sameBytes};
-ghost use Rattle.questions.specs.Tests.{all};
+ghost use Rattle.questions.specs.Tests.{all, different};
 ghost use Rattle.printing.specs.Put.{Put};
-ghost use Rattle.list_definitions.specs.Names.{fixedNames, namesFrom, namesIn, isCapital, isName, different, isNameTable};
+ghost use Rattle.list_definitions.specs.Names.{fixedNames, mostOp, nameBytes, namesFrom, namesIn, isCapital, isName, isNameTable};
 ghost use Rattle.list_names.specs.Parts.{isZero, apart, FixedNamesPut};
 
-// "Six bytes an op", sixteen of them.
+// "Six bytes an op", seventeen of them.
 pub const NAME_BYTES: usize = 6;
 
-pub const MOST_OP: usize = 16;
+pub const MOST_OP: usize = 17;
 
 pub const TABLE_BYTES: usize = NAME_BYTES * MOST_OP;
 
 // Six bytes a name, filled with zeros, by op from 1.
-const NAMES: [[u8; 6]; 16] = [
+const NAMES: [[u8; 6]; 17] = [
     [b'L', b'D', 0, 0, 0, 0],
     [b'L', b'D', b'N', 0, 0, 0],
     [b'S', b'T', 0, 0, 0, 0],
@@ -34,6 +34,7 @@ const NAMES: [[u8; 6]; 16] = [
     [b'J', b'M', b'P', b'C', b'N', 0],
     [b'S', 0, 0, 0, 0, 0],
     [b'R', 0, 0, 0, 0, 0],
+    [b'T', b'O', b'N', 0, 0, 0],
 ];
 
 pub fn is_capital(b: u8) -> bool
@@ -119,7 +120,7 @@ fn not_repeated(table: &[u8], from: usize, later: usize) -> bool
 
 // Whether every six bytes are a name.
 fn all_names(table: &[u8]) -> bool
-    requires { ⌜ length (now table) ≡ 96 ⌝ }
+    requires { ⌜ length (now table) ≡ nameBytes * mostOp ⌝ }
     ensures { λ r. ⌜ r ≡ all isName (namesIn (now (table .entry))) ⌝ }
 {
     let mut at: usize = 0;
@@ -136,8 +137,8 @@ fn all_names(table: &[u8]) -> bool
 
 // Whether no name repeats an earlier one.
 fn all_different(table: &[u8]) -> bool
-    requires { ⌜ length (now table) ≡ 96 ⌝ }
-    ensures { λ r. ⌜ r ≡ different (namesIn (now (table .entry))) ⌝ }
+    requires { ⌜ length (now table) ≡ nameBytes * mostOp ⌝ }
+    ensures { λ r. ⌜ r ≡ different sameBytes (namesIn (now (table .entry))) ⌝ }
 {
     let mut at: usize = 0;
     let mut left = MOST_OP;

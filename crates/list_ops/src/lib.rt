@@ -1,5 +1,5 @@
 // The ops by name, the sort of the operand that an op takes, and the limit of a list. Document 01, "What a list does";
-// document 02, Req 01.
+// document 02, Req 01 and Req 06.
 ghost use mathlib.Core.Path.{_≡_};
 ghost use Rattle.list_definitions.specs.Instruction.{operandSort};
 ghost use Rattle.list_ops.specs.Sorts.{sortIn};
@@ -39,11 +39,14 @@ pub const S: u32 = 15;
 
 pub const R: u32 = 16;
 
-// A table index; nothing; an instruction index; or no op.
+pub const TON: u32 = 17;
+
+// A table index; nothing; an instruction index; a timer's number; or no op.
 pub enum OperandSort {
     Table,
     Nothing,
     Instruction,
+    Timer,
     NoOp,
 }
 
@@ -62,6 +65,9 @@ pub fn operand_sort(op: u32) -> OperandSort
     }
     if (op >= S) & (op <= R) {
         return OperandSort::Table;
+    }
+    if op == TON {
+        return OperandSort::Timer;
     }
     OperandSort::NoOp
 }

@@ -15,7 +15,7 @@ use Rattle.questions.specs.Laws.Maps.{take-map, drop-map, flatMap-append}
 use Rattle.questions.specs.Bytes.{byte, decimal}
 use Rattle.rungs.specs.Words.{operands, numberOf, operandOf}
 use Rattle.rungs.specs.Records.{RungRecord, laid, fieldsOf}
-use Rattle.list_definitions.specs.Instruction.{Instr, LD, LDN, ST, STN, AND, ANDN, OR, ORN, XOR, XORN, NOT, JMP, JMPC, JMPCN, S, R, operand, instrFits, opOf, operandNumber, instrWord, onlyNot, ops, decodeInstr, codeOf, OperandSort, tableSort, nothingSort, instructionSort, noSort, sortOf, operandSort}
+use Rattle.list_definitions.specs.Instruction.{Instr, LD, LDN, ST, STN, AND, ANDN, OR, ORN, XOR, XORN, NOT, JMP, JMPC, JMPCN, S, R, TON, operand, instrFits, opOf, operandNumber, instrWord, onlyNot, ops, decodeInstr, codeOf, OperandSort, tableSort, nothingSort, instructionSort, timerSort, noSort, sortOf, operandSort}
 use Rattle.list_definitions.specs.Laws.Decoding.{number-small, instr-decoded}
 use Rattle.list_definitions.specs.Questions.{listInRange}
 use Rattle.list_definitions.specs.ListScan.{listOf}
@@ -116,6 +116,10 @@ module _ (vars op x : ℕ) where
   unfolding operandBy operandIn operandText
   operand-index h = rw (← h) refl
 
+  pub operand-timer : timerSort ≡ operandSort op → operandBy vars op x ≡ byte " " ∷ byte "d" ∷ decimal x
+  unfolding operandBy operandIn operandText
+  operand-timer h = rw (← h) refl
+
   pub operand-variable : tableSort ≡ operandSort op → x < vars → operandBy vars op x ≡ byte " " ∷ byte "v" ∷ decimal x
   unfolding operandBy operandIn operandText
   operand-variable h l = rw (← h) (rw (operandText, lt-ltb x vars l) refl)
@@ -132,6 +136,7 @@ operand-long vars op x h = go (operandSort op) refl (ltb x vars) refl
     go tableSort p false q = let k = decimal-long (x - vars) (omega arith) in rw (operand-scratch vars op x p (ltb-false x vars q)) (omega arith)
     go nothingSort p b q = rw (operand-none vars op x p) (omega arith)
     go instructionSort p b q = let k = decimal-long x h in rw (operand-index vars op x p) (omega arith)
+    go timerSort p b q = let k = decimal-long x h in rw (operand-timer vars op x p) (omega arith)
     go noSort p b q = rw (operand-absent vars op x p) (omega arith)
 
 -- The lines of words.
@@ -154,6 +159,7 @@ operand-by-op vars (JMPC j) = refl
 operand-by-op vars (JMPCN j) = refl
 operand-by-op vars (S x) = refl
 operand-by-op vars (R x) = refl
+operand-by-op vars (TON n) = refl
 
 word-parts : (w : ℕ) (d : Decodes w) → (numberOf w ≡ opOf (d .instr)) × (operandOf w ≡ operandNumber (operand (d .instr)))
 unfolding instrWord instrFits

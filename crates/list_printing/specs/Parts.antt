@@ -2,7 +2,7 @@
 use Prim.Native.Nat.{ℕ, _+_, _-_, _*_, _≤_, _<_}
 use mathlib.Core.List.{List, [], flatMap}
 use lib.ListN.{length, getD}
-use Rattle.list_definitions.specs.Instruction.{Operand, tableIndex, noOperand, instructionIndex, OperandSort, tableSort, nothingSort, instructionSort, noSort, operandSort}
+use Rattle.list_definitions.specs.Instruction.{Operand, tableIndex, noOperand, instructionIndex, timerNumber, OperandSort, tableSort, nothingSort, instructionSort, timerSort, noSort, operandSort}
 use Rattle.list_definitions.specs.Names.{Names}
 use Rattle.list_definitions.specs.Listing.{operandText, instrLine, ended}
 use Rattle.list_definitions.specs.Laws.Words.{instrOf, Decodes}
@@ -19,6 +19,7 @@ unfoldable pub operandIn : OperandSort → ℕ → Operand
 operandIn tableSort x = tableIndex x
 operandIn nothingSort x = noOperand
 operandIn instructionSort x = instructionIndex x
+operandIn timerSort x = timerNumber x
 operandIn noSort x = noOperand
 
 -- its text, by its op

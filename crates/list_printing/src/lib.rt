@@ -1,6 +1,6 @@
 // The printed list. Each function writes its text from `at` on and gives the position after it; past the buffer's end nothing is
 // written, so that the same functions count the bytes, over a buffer of none.
-ghost use Prim.Native.Nat.{_≤_, _<_};
+ghost use Prim.Native.Nat.{_*_, _≤_, _<_};
 ghost use mathlib.Core.Path.{_≡_};
 ghost use mathlib.Core.List.{_∷_};
 ghost use lib.Dec.{T};
@@ -11,7 +11,7 @@ ghost use Rattle.rungs.specs.Words.{operands};
 ghost use Rattle.rungs.specs.Records.{fieldsOf};
 ghost use Rattle.list_definitions.specs.Questions.{listInRange};
 ghost use Rattle.list_definitions.specs.ListScan.{listOf};
-ghost use Rattle.list_definitions.specs.Names.{nameOf, mostOp, namesIn};
+ghost use Rattle.list_definitions.specs.Names.{nameOf, mostOp, nameBytes, namesIn};
 ghost use Rattle.list_definitions.specs.Listing.{labelLine, ended, listingText};
 ghost use Rattle.printing.specs.Put.{Put};
 ghost use Rattle.list_definitions.specs.Laws.Words.{Decodes};
@@ -21,7 +21,7 @@ use list_ops::OperandSort;
 
 // The name of an op, up to its filling.
 fn put_name(out: &mut [u8], at: usize, names: &[u8], op: usize) -> usize
-    requires { ⌜ (at < 800000) × (1 ≤ op) × (op ≤ mostOp) × (length (now names) ≡ 96) ⌝ }
+    requires { ⌜ (at < 800000) × (1 ≤ op) × (op ≤ mostOp) × (length (now names) ≡ nameBytes * mostOp) ⌝ }
     ensures { λ r. ⌜ Put (now (out .entry)) at (nameOf (namesIn (now (names .entry))) op) r (now (out .exit)) ⌝ }
 {
     let from = (op - 1) * NAME_BYTES;
@@ -61,13 +61,14 @@ fn put_operand(out: &mut [u8], at: usize, vars: u32, op: u32, operand: u32) -> u
         }
         OperandSort::Nothing => at,
         OperandSort::Instruction => put_index(out, at, b'@', operand as usize),
+        OperandSort::Timer => put_index(out, at, b'd', operand as usize),
         OperandSort::NoOp => at,
     }
 }
 
 // The line of an instruction.
 fn put_instruction(out: &mut [u8], at: usize, names: &[u8], vars: u32, word: u32) -> usize
-    requires { ⌜ (at < 600000) × Decodes word × (length (now names) ≡ 96) ⌝ }
+    requires { ⌜ (at < 600000) × Decodes word × (length (now names) ≡ nameBytes * mostOp) ⌝ }
     ensures { λ r. ⌜ Put (now (out .entry)) at (wordLine (namesIn (now (names .entry))) vars word) r (now (out .exit)) ⌝ }
 {
     let op = word / rungs::OPERANDS;
@@ -98,7 +99,7 @@ fn put_rung(
     from: usize,
     to: usize,
 ) -> usize
-    requires { ⌜ RungReady vars (now code) from to at × (length (now names) ≡ 96) ⌝ }
+    requires { ⌜ RungReady vars (now code) from to at × (length (now names) ≡ nameBytes * mostOp) ⌝ }
     ensures { λ r. ⌜ Put (now (out .entry)) at
         (wordLines (namesIn (now (names .entry))) vars (slice from to (now (code .entry)))) r (now (out .exit)) ⌝ }
 {
@@ -121,7 +122,8 @@ pub fn put_list(
     lengths: &[u32],
     out: &mut [u8],
 ) -> usize
-    requires { ⌜ (length (now names) ≡ 96) × T (listInRange vars (now code) (fieldsOf (now labels) (now offsets) (now lengths))) ⌝ }
+    requires { ⌜ (length (now names) ≡ nameBytes * mostOp)
+        × T (listInRange vars (now code) (fieldsOf (now labels) (now offsets) (now lengths))) ⌝ }
     ensures { λ r. ⌜ Put (now (out .entry)) 0
         (listingText (namesIn (now (names .entry))) vars (listOf (now (code .entry))
         (fieldsOf (now (labels .entry)) (now (offsets .entry)) (now (lengths .entry)))))

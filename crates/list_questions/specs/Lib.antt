@@ -1,2 +1,2 @@
--- Question 10. What its functions promise each other: Parts.
+-- Questions 10 and 17. What the functions promise: Parts.
 pub mod Parts

@@ -1,10 +1,10 @@
-// Question 10.
+// Questions 10 and 17.
 ghost use mathlib.Core.Path.{_≡_};
 ghost use lib.ListN.{length};
 ghost use Rattle.questions.specs.Tests.{all};
 ghost use Rattle.rungs.specs.Records.{fieldsOf};
 ghost use Rattle.list_definitions.specs.Questions.{wordInRange, listInRange};
-ghost use Rattle.list_questions.specs.Parts.{laidPairs};
+ghost use Rattle.list_questions.specs.Parts.{laidPairs, lastKnown, TimersAsked};
 use list_ops::OperandSort;
 
 // An op and its operand, for a table of `size` bytes and a list of n instructions.
@@ -16,6 +16,7 @@ fn word_in_range(size: usize, n: usize, word: u32) -> bool
         OperandSort::Table => operand < size,
         OperandSort::Nothing => operand == 0,
         OperandSort::Instruction => operand <= n,
+        OperandSort::Timer => true,
         OperandSort::NoOp => false,
     }
 }
@@ -92,4 +93,29 @@ pub fn list_in_range(
         return false;
     }
     code_in_range(vars as usize + table::SCRATCH_BYTES, code)
+}
+
+// The last word before those of a TON whose number has no record.
+fn last_known(records: usize) -> u32
+    ensures { λ r. ⌜ r ≡ lastKnown records ⌝ }
+{
+    if records < rungs::OPERANDS as usize {
+        return list_ops::TON * rungs::OPERANDS + records as u32 - 1;
+    }
+    list_ops::TON * rungs::OPERANDS + rungs::OPERANDS - 1
+}
+
+// Question 17, after question 10. TON is the last op, so that one comparison tells its words; the loop has no exit, so that it runs
+// over several words at a time.
+pub fn timers_known(code: &[u32], records: usize) -> bool
+    ensures { λ r. ⌜ TimersAsked (now (code .entry)) records r ⌝ }
+{
+    let last = last_known(records);
+    let mut unknown = false;
+    let mut i: usize = 0;
+    while i < code.len() {
+        unknown = unknown | (code[i] > last);
+        i += 1;
+    }
+    !unknown
 }

@@ -13,7 +13,10 @@ use types.Run.{OneOf, miss}
 use Rattle.questions.specs.Questions.{ask, firstNo, varsInRange, question1}
 use Rattle.questions.specs.Refusals.{refusalOf}
 use Rattle.questions.specs.declared.Refusal.{Refusal}
-use Rattle.questions.specs.declared.Refusal.the-variants.{Variables, List as ListCase, NameTable}
+use Rattle.questions.specs.declared.Refusal.the-variants.{Variables, List as ListCase, NameTable, Timers}
+use Rattle.table.specs.Timer.{Timer}
+use Rattle.table.specs.Questions.{timersInRange, question16}
+use Rattle.table.specs.TimerRecords.{numberTimers}
 use Rattle.rungs.specs.Records.{RungRecord, fieldsOf, rowOf, mostRecords}
 use Rattle.rungs.specs.Laws.Rows.{row-fields}
 use Rattle.rows.specs.Parts.{gathered, timesPut}
@@ -21,17 +24,18 @@ use Rattle.rows.specs.Laws.Gathered.{gathered-whole}
 use Rattle.rows.specs.Laws.Written.{times-put-all}
 use Rattle.rows.specs.declared.Rows.{Rows}
 use Rattle.list_definitions.specs.Questions.{mostInstructions, listInRange, question10, listAnswer}
-use Rattle.list_definitions.specs.ListScan.{ListScanCall, scanEnds, callListScan, listScannedAnswer, ListScanDone}
+use Rattle.list_definitions.specs.ListScan.{ListScanCall, scanEnds, scanQuestions, callListScan, listScannedAnswer, ListScanNumbers}
 use Rattle.list_definitions.specs.Listing.{listing, ListingDone}
 use Rattle.list_definitions.specs.Names.{isNameTable}
 use Rattle.list_definitions.specs.Laws.Answers.{asked, times-left}
-use Rattle.list_definitions.specs.Laws.Refusing.{scan-asked-list, listing-unnamed, listing-refused, scan-refuses}
+use Rattle.list_definitions.specs.Laws.Refusing.{listing-unnamed, listing-refused}
 use Rattle.list_definitions.specs.declared.Listed.{Listed}
 use Rattle.list_definitions.specs.declared.Listed.the-variants.{Refused as RefusedListing}
 use Rattle.list_definitions.specs.declared.ListScanned.{ListScanned}
 use Rattle.list_definitions.specs.declared.ListScanned.the-variants.{Ended, Stopped, Refused as RefusedScan}
 use Rattle.list_definitions.proofs.ListScanned.{the-type}
-use Rattle.list_rows.specs.Parts.{LongRefused, FieldsScanned, RowListed}
+use Rattle.list.proofs.Answers.{scan-refused}
+use Rattle.list_rows.specs.Parts.{LongRefused, LongScanRefused, FieldsScanned, RowListed}
 
 -- ---- a row of more than 256 records
 
@@ -46,6 +50,24 @@ long-variables vars e = record { same = λ ws rs h. rw e }
 pub long-list : (vars : ℕ) → varsInRange vars ≡ true → LongRefused vars ListCase
 unfolding refusalOf listAnswer firstNo question1 question10 ask
 long-list vars e = record { same = λ ws rs h. rw (e, long-row vars ws rs h) }
+
+-- the same of List scan, where question 16 stands between
+module _ (vars : ℕ) (ks : List ℕ) where
+  pub long-scan-variables : varsInRange vars ≡ false → LongScanRefused vars ks Variables
+  unfolding refusalOf scanQuestions firstNo question1 ask
+  long-scan-variables e = record { same = λ ws rs t w h. rw e }
+
+  pub long-scan-timers : varsInRange vars ≡ true → timersInRange vars (numberTimers ks) ≡ false → LongScanRefused vars ks Timers
+  unfolding refusalOf scanQuestions firstNo question1 question16 ask
+  long-scan-timers e f = record { same = λ ws rs t w h. rw (e, f) }
+
+  pub long-scan-list : (x : Refusal) → varsInRange vars ≡ true → timersInRange vars (numberTimers ks) ≡ true → LongRefused vars x → LongScanRefused vars ks x
+  unfolding scanQuestions listAnswer firstNo question1 question16 question10 ask
+  long-scan-list x e f r = record {
+    same = λ ws rs t w h.
+        let l = long-row vars ws rs h in
+        rw (e, f, l) (rw (e, l) at (r .same ws rs h));
+  }
 
 -- ---- a copy of a row's fields
 
@@ -82,62 +104,69 @@ abbrev ran : List ℕ
 ran = 0 ∷ 1 ∷ []
 
 -- a scan that isn't refused "sets every field for that scan alone", whatever stood there
-any-times : (vars : ℕ) (ws : List ℕ) (rs : List RungRecord) (t : List ℕ) (w : ℕ) (r : ListScanned) → OneOf ran (tagOf the-type r) → callListScan vars ws rs t w .answer ≡ listScannedAnswer r
-    → (before other : List ℕ) → callListScan vars ws rs t w .times before ≡ callListScan vars ws rs t w .times other
-unfolding listScannedAnswer scanEnds
-any-times vars ws rs t w r among e before other = go r among e
-  where
-    same : {x : ListScanCall} → callListScan vars ws rs t w ≡ x → x .times before ≡ x .times other → callListScan vars ws rs t w .times before ≡ callListScan vars ws rs t w .times other
-    same q k = rw q k
+module _ (vars : ℕ) (ws : List ℕ) (rs : List RungRecord) (t : List ℕ) (timers : List Timer) (now w : ℕ) where
+  abbrev call : ListScanCall
+  call = callListScan vars ws rs t timers now w
 
-    go : (x : ListScanned) → OneOf ran (tagOf the-type x) → callListScan vars ws rs t w .answer ≡ listScannedAnswer x → callListScan vars ws rs t w .times before ≡ callListScan vars ws rs t w .times other
-    go (Ended c) a q = same (asked vars ws rs t w _ _ q .call) refl
-    go (Stopped c) a q = same (asked vars ws rs t w _ _ q .call) refl
-    go (RefusedScan x) a q = absurd (miss ran 2 tt a)
+  any-times : (r : ListScanned) → OneOf ran (tagOf the-type r) → call .answer ≡ listScannedAnswer r → (before other : List ℕ) → call .times before ≡ call .times other
+  unfolding listScannedAnswer scanEnds
+  any-times r among e before other = go r among e
+    where
+      same : {x : ListScanCall} → call ≡ x → x .times before ≡ x .times other → call .times before ≡ call .times other
+      same q k = rw q k
+
+      go : (x : ListScanned) → OneOf ran (tagOf the-type x) → call .answer ≡ listScannedAnswer x → call .times before ≡ call .times other
+      go (Ended c) a q = same (asked vars ws rs t timers now w _ _ q .call) refl
+      go (Stopped c) a q = same (asked vars ws rs t timers now w _ _ q .call) refl
+      go (RefusedScan x) a q = absurd (miss ran 2 tt a)
 
 -- as many times stored as the row has records
 all-put : (n : ℕ) (zs rest ts : List ℕ) → length zs ≡ n → length ts ≡ n → timesPut n (zs ++ rest) ts ≡ zs
 all-put n zs rest ts e f = subst (λ (m : ℕ). timesPut m (zs ++ rest) ts ≡ zs) f (times-put-all (zs ++ rest) ts ∙ take-at zs rest (length ts) (e ∙ sym f))
 
-module _ (vars : ℕ) (ws : List ℕ) (rows : Rows) (t : List ℕ) (w : ℕ) where
+module _ (vars : ℕ) (ws : List ℕ) (rows : Rows) (t ks : List ℕ) (tick w : ℕ) where
   -- more records than are copied
-  pub scanned-long : (x : Refusal) (times : List ℕ) → mostRecords < rows .n → LongRefused vars x → FieldsScanned vars ws rows t w (record { answer = RefusedScan x; times = times; kept = 0 }) t
+  pub scanned-long : (x : Refusal) (times : List ℕ) → mostRecords < rows .n → LongScanRefused vars ks x
+      → FieldsScanned vars ws rows t ks tick w (record { answer = RefusedScan x; times = times; kept = 0 }) t ks
   unfolding timesPut
   scanned-long x times h r = record {
     same = λ rs e ts n.
         let l = n-lent rows rs e in
-        scan-refuses vars ws rs t w x ts (scan-asked-list vars ws rs t w (refusalOf x) (r .same ws rs (omega arith)));
+        scan-refused vars ws rs t ks tick w x ts (r .same ws rs t w (omega arith));
     few = omega arith;
     within = omega arith;
   }
 
   -- all of them are copied; what stood after the times set is any list
-  module _ (h : rows .n ≤ mostRecords) (inside : rows .n ≤ length (rows .labels)) (zs : List ℕ) (many : length zs ≡ rows .n) (r : ListScanned) (t′ zs′ rest : List ℕ)
-      (done : ListScanDone (callListScan vars ws (copied rows h inside zs many) t w) r t′ zs zs′) where
-    on-row : (rs : List RungRecord) → rows ≡ gathered rs → ListScanDone (callListScan vars ws rs t w) r t′ zs zs′
-    on-row rs e = subst (λ (l : List RungRecord). ListScanDone (callListScan vars ws l t w) r t′ zs zs′) (copied-row rows h inside zs many rs e) done
+  module _ (h : rows .n ≤ mostRecords) (inside : rows .n ≤ length (rows .labels)) (zs : List ℕ) (many : length zs ≡ rows .n) (r : ListScanned) (u ms zs′ rest : List ℕ)
+      (done : ListScanNumbers (callListScan vars ws (copied rows h inside zs many) t (numberTimers ks) tick w) r u ks ms zs zs′) where
+    on-row : (rs : List RungRecord) → rows ≡ gathered rs → ListScanNumbers (callListScan vars ws rs t (numberTimers ks) tick w) r u ks ms zs zs′
+    on-row rs e = subst (λ (l : List RungRecord). ListScanNumbers (callListScan vars ws l t (numberTimers ks) tick w) r u ks ms zs zs′) (copied-row rows h inside zs many rs e) done
 
-    pub scanned-refused : (x : Refusal) → r ≡ RefusedScan x → FieldsScanned vars ws rows t w (record { answer = r; times = zs′ ++ rest; kept = 0 }) t′
+    -- with other times before and after
+    on-times : (rs : List RungRecord) → rows ≡ gathered rs → (ts ts′ : List ℕ) → ts′ ≡ callListScan vars ws rs t (numberTimers ks) tick w .times ts
+        → ListScanNumbers (callListScan vars ws rs t (numberTimers ks) tick w) r u ks ms ts ts′
+    on-times rs e ts ts′ same-times =
+        let n = on-row rs e in
+        let d = n .done in
+        record { done = record { answer = d .answer; same-table = d .same-table; same-timers = d .same-timers; same-times = same-times }; numbers = n .numbers }
+
+    pub scanned-refused : (x : Refusal) → r ≡ RefusedScan x → FieldsScanned vars ws rows t ks tick w (record { answer = r; times = zs′ ++ rest; kept = 0 }) u ms
     unfolding timesPut listScannedAnswer
     scanned-refused x is = record {
       same = λ rs e ts n.
-          let d = on-row rs e in
-          record { answer = d .answer; same-table = d .same-table; same-times = sym (times-left vars ws rs t w (refusalOf x) (sym (d .answer) ∙ ap listScannedAnswer is) ts) };
+          on-times rs e ts ts (sym (times-left vars ws rs t (numberTimers ks) tick w (refusalOf x) (sym (on-row rs e .done .answer) ∙ ap listScannedAnswer is) ts));
       few = omega arith;
       within = omega arith;
     }
 
-    pub scanned-set : OneOf ran (tagOf the-type r) → length zs′ ≡ length zs
-        → FieldsScanned vars ws rows t w (record { answer = r; times = zs′ ++ rest; kept = rows .n }) t′
+    pub scanned-set : OneOf ran (tagOf the-type r) → length zs′ ≡ length zs → FieldsScanned vars ws rows t ks tick w (record { answer = r; times = zs′ ++ rest; kept = rows .n }) u ms
     scanned-set is same-length = record {
       same = λ rs e ts n.
-          let d = on-row rs e in
-          record {
-            answer = d .answer;
-            same-table = d .same-table;
-            same-times = all-put (rows .n) zs′ rest ts (same-length ∙ many) (n ∙ sym (n-lent rows rs e)) ∙ d .same-times
-                ∙ any-times vars ws rs t w r is (sym (d .answer)) zs ts;
-          };
+          let d = on-row rs e .done in
+          on-times rs e ts (timesPut (rows .n) (zs′ ++ rest) ts)
+          (all-put (rows .n) zs′ rest ts (same-length ∙ many) (n ∙ sym (n-lent rows rs e)) ∙ d .same-times
+          ∙ any-times vars ws rs t (numberTimers ks) tick w r is (sym (d .answer)) zs ts);
       few = h;
       within = omega arith;
     }

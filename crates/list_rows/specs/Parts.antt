@@ -10,7 +10,8 @@ use Rattle.rungs.specs.Records.{RungRecord, mostRecords}
 use Rattle.rows.specs.Parts.{gathered, timesPut}
 use Rattle.rows.specs.declared.Rows.{Rows}
 use Rattle.list_definitions.specs.Questions.{listAnswer}
-use Rattle.list_definitions.specs.ListScan.{callListScan, ListScanDone}
+use Rattle.table.specs.TimerRecords.{numberTimers}
+use Rattle.list_definitions.specs.ListScan.{scanQuestions, callListScan, ListScanNumbers}
 use Rattle.list_definitions.specs.Listing.{listing, ListingDone}
 use Rattle.list_definitions.specs.declared.Listed.{Listed}
 use Rattle.list_rows.specs.declared.ScannedFields.{ScannedFields}
@@ -19,10 +20,14 @@ use Rattle.list_rows.specs.declared.ScannedFields.{ScannedFields}
 pub record LongRefused (vars : ℕ) (r : Refusal) : Type 0 where
   pub same : (ws : List ℕ) (rs : List RungRecord) → mostRecords < length rs → listAnswer vars ws rs ≡ some (refusalOf r)
 
--- from a row's fields, the times kept are those that List scan sets, whatever times ts the row has
-pub record FieldsScanned (vars : ℕ) (ws : List ℕ) (rows : Rows) (t : List ℕ) (w : ℕ) (r : ScannedFields) (after : List ℕ) : Type 0 where
+-- the same of List scan, whose timer records are in the numbers ks
+pub record LongScanRefused (vars : ℕ) (ks : List ℕ) (r : Refusal) : Type 0 where
+  pub same : (ws : List ℕ) (rs : List RungRecord) (t : List ℕ) (w : ℕ) → mostRecords < length rs → scanQuestions vars ws rs t (numberTimers ks) w ≡ some (refusalOf r)
+
+-- from a row's fields, the times kept are those that List scan sets, whatever times ts the row has; the bytes u and the numbers ms are left
+pub record FieldsScanned (vars : ℕ) (ws : List ℕ) (rows : Rows) (t ks : List ℕ) (tick w : ℕ) (r : ScannedFields) (u ms : List ℕ) : Type 0 where
   pub same : (rs : List RungRecord) → rows ≡ gathered rs → (ts : List ℕ) → length ts ≡ length rs
-      → ListScanDone (callListScan vars ws rs t w) (r .answer) after ts (timesPut (r .kept) (r .times) ts)
+      → ListScanNumbers (callListScan vars ws rs t (numberTimers ks) tick w) (r .answer) u ks ms ts (timesPut (r .kept) (r .times) ts)
   pub few : r .kept ≤ mostRecords
   pub within : r .kept ≤ rows .n
 

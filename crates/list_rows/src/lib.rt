@@ -1,10 +1,12 @@
 // List scan and Listing over one lent row of rung records. Document 01, "The kept ladder": "A list has the same records, counting
-// instructions." Both go by a copy of the row's fields; List scan's times entered are stored back into the row (02, Req 04).
+// instructions." Both go by a copy of the row's fields; List scan's times entered are stored back into the row (02, Req 04). Its timer
+// records are in one slice of numbers, five a record (Req 06).
 ghost use mathlib.Core.Path.{_≡_};
 ghost use Rattle.rows.specs.Rows.{recordsOf, timesOf};
-ghost use Rattle.list_definitions.specs.ListScan.{callListScan, ListScanDone};
+ghost use Rattle.table.specs.TimerRecords.{numberTimers};
+ghost use Rattle.list_definitions.specs.ListScan.{callListScan, ListScanNumbers};
 ghost use Rattle.list_definitions.specs.Listing.{listing, ListingDone};
-ghost use Rattle.list_rows.specs.Parts.{LongRefused, FieldsScanned, RowListed};
+ghost use Rattle.list_rows.specs.Parts.{LongRefused, LongScanRefused, FieldsScanned, RowListed};
 use list_definitions::ListScanned;
 use list_definitions::Listed;
 use questions::Refusal;
@@ -19,7 +21,7 @@ pub struct ScannedFields {
     pub kept: usize,
 }
 
-// What the first question says "no" to in a row of more than 256 records: 1, or 10.
+// What the first question of Listing after 14 says "no" to in a row of more than 256 records: 1, or 10.
 fn long_refusal(vars: u32) -> Refusal
     ensures { λ r. ⌜ LongRefused vars r ⌝ }
 {
@@ -31,20 +33,36 @@ fn long_refusal(vars: u32) -> Refusal
 
 // ---- List scan
 
+// What its first question says "no" to in such a row: 1, 16 or 10. Question 16 stands between those of Listing.
+fn long_scan_refusal(vars: u32, timers: &[u32]) -> Refusal
+    ensures { λ r. ⌜ LongScanRefused vars (now (timers .entry)) r ⌝ }
+{
+    if !questions::vars_in_range(vars) {
+        return Refusal::Variables;
+    }
+    if !timers::timers_in_range(vars, timers) {
+        return Refusal::Timers;
+    }
+    long_refusal(vars)
+}
+
 // List scan, of a copy of the row's fields. The row's own times are not taken out: 02, Req 04, "Any value is taken".
 fn scan_fields(
     vars: u32,
     code: &[u32],
     rows: Rows,
     table: &mut [u8],
+    timers: &mut [u32],
+    tick: u32,
     watchdog: u32,
 ) -> ScannedFields
-    ensures { λ r. ⌜ FieldsScanned vars (now (code .entry)) rows (now (table .entry)) watchdog r (now (table .exit)) ⌝ }
+    ensures { λ r. ⌜ FieldsScanned vars (now (code .entry)) rows (now (table .entry)) (now (timers .entry)) tick watchdog
+        r (now (table .exit)) (now (timers .exit)) ⌝ }
 {
     let mut times = [0u32; MOST_RECORDS];
     if MOST_RECORDS < rows.n {
         return ScannedFields {
-            answer: ListScanned::Refused(long_refusal(vars)),
+            answer: ListScanned::Refused(long_scan_refusal(vars, timers)),
             times,
             kept: 0,
         };
@@ -53,7 +71,7 @@ fn scan_fields(
     let offsets = rows.offsets;
     let lengths = rows.lengths;
     let m = rows.n;
-    let answer = list::list_scan(
+    let answer = list::list_scan_packed(
         vars,
         code,
         &labels[..m],
@@ -61,6 +79,8 @@ fn scan_fields(
         &lengths[..m],
         &mut times[..m],
         table,
+        timers,
+        tick,
         watchdog,
     );
     // 02, Req 04: a scan "that isn't refused sets every field", "a refused one touches none".
@@ -99,13 +119,16 @@ pub fn list_scan(
     code: &[u32],
     row: &mut [Rung],
     table: &mut [u8],
+    timers: &mut [u32],
+    tick: u32,
     watchdog: u32,
 ) -> ListScanned
-    ensures { λ r. ⌜ ListScanDone (callListScan vars (now (code .entry)) (recordsOf (now (row .entry))) (now (table .entry)) watchdog)
-        r (now (table .exit)) (timesOf (now (row .entry))) (timesOf (now (row .exit)))
+    ensures { λ r. ⌜ ListScanNumbers (callListScan vars (now (code .entry)) (recordsOf (now (row .entry)))
+        (now (table .entry)) (numberTimers (now (timers .entry))) tick watchdog)
+        r (now (table .exit)) (now (timers .entry)) (now (timers .exit)) (timesOf (now (row .entry))) (timesOf (now (row .exit)))
         × (recordsOf (now (row .exit)) ≡ recordsOf (now (row .entry))) ⌝ }
 {
-    let done = scan_fields(vars, code, rows::gather(row), table, watchdog);
+    let done = scan_fields(vars, code, rows::gather(row), table, timers, tick, watchdog);
     rows::put_times(row, times_of(done), kept_of(done));
     answer_of(done)
 }

@@ -2,18 +2,23 @@
 -- Assumes nothing.
 use mathlib.Core.Path.{_≡_, refl}
 use mathlib.Core.Bool.{true, false}
-use mathlib.Core.List.{[], _∷_}
+use mathlib.Core.Option.{none, some}
+use mathlib.Core.List.{List, [], _∷_, _++_}
 use lib.ListN.{replicate}
 use Rattle.questions.specs.Bytes.{bytes, decimal, digits, sameBytes}
 use Rattle.questions.specs.Tests.{all}
+use Rattle.table.specs.Timer.{Timer}
+use Rattle.table.specs.TimerRecords.{numbersOf, timersIn}
 use Rattle.table.specs.Halt.{Halt, Ended, Stopped}
 use Rattle.text_grammar.specs.Reader.{digitOf, digitsFrom, numeralOf}
 use Rattle.rungs.specs.Buffers.{buffers}
 use Rattle.translation_definitions.specs.BothScans.{BothEnds, lends}
 use Prim.Native.Nat.{ℕ}
 use Rattle.program_definitions.specs.Lines.{lineNumber, watchdogOf, isBinaryDigit, tableOf}
+use Rattle.program_definitions.specs.Lines.{firstLine, textAfter}
+use Rattle.program_definitions.specs.TimerLines.{beforeSpace, afterSpace, isDigit, digitsAfter, isNumber, nowOf, timerOf, nowTaken, timersFrom, timersTaken}
 use Rattle.program_definitions.specs.Refusals.{refusalLine, explanations, explanation, lineEndsText, errorLines}
-use Rattle.program_definitions.specs.Scanout.{endWord, scanCountLines, endLines, enteredLine, enteredLines, changedLine, changedLines, alike, bothStopped, notAlike, alikeIf, verdict, verdictLine, reportOf, reportLines}
+use Rattle.program_definitions.specs.Scanout.{endWord, scanCountLines, endLines, enteredLine, enteredLines, changedLine, changedLines, timerText, timerLine, sameTimer, timerLines, alike, bothStopped, notAlike, alikeIf, verdict, verdictLine, reportOf, reportLines}
 
 pub watchdogs-worked :
     (watchdogOf (bytes "2") ≡ 2) × (watchdogOf (bytes "65535") ≡ 65535) × (watchdogOf (bytes "65536") ≡ 65536) × (watchdogOf (bytes "02") ≡ 65536) × (watchdogOf [] ≡ 65536)
@@ -44,23 +49,55 @@ ends h k m g n o =
       list = record { instructions = 12; rungs = n; moved = o };
     }
 
--- other variables, other rungs, another sum, or another end are not alike; two scans that stopped are both stopped, whatever their sums and variables are
+-- other variables, other rungs, another sum, other timer records, or another end are not alike; two scans that stopped are both stopped, whatever their sums and variables are
 pub verdicts-worked :
-    (verdict (ends Ended 2 1 Ended 2 1) (1 ∷ 0 ∷ []) (1 ∷ 0 ∷ []) ≡ alike) × (verdict (ends Ended 2 1 Ended 2 1) (1 ∷ 0 ∷ []) (1 ∷ 1 ∷ []) ≡ notAlike)
-    × (verdict (ends Ended 2 1 Ended 3 1) (1 ∷ []) (1 ∷ []) ≡ notAlike) × (verdict (ends Ended 2 1 Ended 2 3) (1 ∷ []) (1 ∷ []) ≡ notAlike)
-    × (verdict (ends Ended 2 1 Stopped 2 1) (1 ∷ []) (1 ∷ []) ≡ notAlike) × (verdict (ends Stopped 1 1 Stopped 1 0) (1 ∷ []) (0 ∷ []) ≡ bothStopped)
+    (verdict (ends Ended 2 1 Ended 2 1) (1 ∷ 0 ∷ []) (1 ∷ 0 ∷ []) [] [] ≡ alike) × (verdict (ends Ended 2 1 Ended 2 1) (1 ∷ 0 ∷ []) (1 ∷ 1 ∷ []) [] [] ≡ notAlike)
+    × (verdict (ends Ended 2 1 Ended 3 1) (1 ∷ []) (1 ∷ []) [] [] ≡ notAlike) × (verdict (ends Ended 2 1 Ended 2 3) (1 ∷ []) (1 ∷ []) [] [] ≡ notAlike)
+    × (verdict (ends Ended 2 1 Stopped 2 1) (1 ∷ []) (1 ∷ []) [] [] ≡ notAlike) × (verdict (ends Stopped 1 1 Stopped 1 0) (1 ∷ []) (0 ∷ []) [] [] ≡ bothStopped)
+    × (verdict (ends Ended 2 1 Ended 2 1) [] [] (3 ∷ 10 ∷ 1 ∷ 1 ∷ 0 ∷ []) (3 ∷ 10 ∷ 1 ∷ 1 ∷ 1 ∷ []) ≡ notAlike)
 unfolding ends verdict alikeIf sameBytes
-verdicts-worked = (refl, refl, refl, refl, refl, refl)
+verdicts-worked = (refl, refl, refl, refl, refl, refl, refl)
 
 -- README's report
-pub report-worked : reportLines 5 (1 ∷ 0 ∷ 0 ∷ 0 ∷ 0 ∷ []) (ends Ended 2 2 Ended 2 2)
-    (lends (1 ∷ 1 ∷ 0 ∷ 0 ∷ 1 ∷ []) (1 ∷ 1 ∷ 0 ∷ 0 ∷ 1 ∷ []) (buffers [] (10 ∷ 20 ∷ 0 ∷ []) [] [] (1 ∷ 1 ∷ 0 ∷ [])))
+pub report-worked : reportLines 5 (1 ∷ 0 ∷ 0 ∷ 0 ∷ 0 ∷ []) [] (ends Ended 2 2 Ended 2 2)
+    (lends (1 ∷ 1 ∷ 0 ∷ 0 ∷ 1 ∷ []) (1 ∷ 1 ∷ 0 ∷ 0 ∷ 1 ∷ []) [] [] (buffers [] (10 ∷ 20 ∷ 0 ∷ []) [] [] (1 ∷ 1 ∷ 0 ∷ [])))
     ≡ bytes "scan ladder list\nend Ended Ended\nrungs 2 2\ninstructions - 12\nmoved 2 2\nL10 - 1\nL20 - 1\nv1 0>1 0>1\nv4 0>1 0>1\nalike\n"
-unfolding ends reportLines reportOf endLines scanCountLines endWord enteredLines enteredLine changedLines changedLine verdict alikeIf sameBytes verdictLine decimal digits bytes
+unfolding ends reportLines reportOf endLines scanCountLines endWord enteredLines enteredLine changedLines changedLine timersIn timerLines verdict alikeIf sameBytes verdictLine decimal digits bytes
 report-worked = refl
 
 -- two scans that stopped, with other sums and variables, and a rung that was not entered
-pub stopped-worked : reportLines 2 (1 ∷ 0 ∷ []) (ends Stopped 1 1 Stopped 1 0) (lends (1 ∷ 1 ∷ []) (1 ∷ 0 ∷ []) (buffers [] (10 ∷ 20 ∷ []) [] [] (0 ∷ 1 ∷ [])))
+pub stopped-worked : reportLines 2 (1 ∷ 0 ∷ []) [] (ends Stopped 1 1 Stopped 1 0) (lends (1 ∷ 1 ∷ []) (1 ∷ 0 ∷ []) [] [] (buffers [] (10 ∷ 20 ∷ []) [] [] (0 ∷ 1 ∷ [])))
     ≡ bytes "scan ladder list\nend Stopped Stopped\nrungs 1 1\ninstructions - 12\nmoved 1 0\nL20 - 1\nv1 0>1 0>0\nboth stopped\n"
-unfolding ends reportLines reportOf endLines scanCountLines endWord enteredLines enteredLine changedLines changedLine verdict verdictLine decimal digits bytes
+unfolding ends reportLines reportOf endLines scanCountLines endWord enteredLines enteredLine changedLines changedLine timersIn timerLines verdict verdictLine decimal digits bytes
 stopped-worked = refl
+
+-- 02, Req 06: the lines of ticks and timers, and lines that are none
+abbrev pub timer : ℕ → ℕ → ℕ → ℕ → ℕ → Timer
+timer preset start variable running done = record { preset = preset; start = start; variable = variable; running = running; done = done }
+
+pub now-lines : (nowOf (bytes "now 0") ≡ some 0) × (nowOf (bytes "now 4294967295") ≡ some 4294967295) × (nowOf (bytes "now 4294967296") ≡ none) × (nowOf (bytes "now 05") ≡ none)
+    × (nowOf (bytes "now") ≡ none) × (nowOf (bytes "now 5 ") ≡ none) × (nowOf (bytes "Now 5") ≡ none)
+unfolding nowOf isNumber isDigit digitsAfter all sameBytes bytes
+now-lines = (refl, refl, refl, refl, refl, refl, refl)
+
+pub timer-lines : (timerOf (bytes "timer 3 0 1 0 0") ≡ some (timer 3 0 1 0 0)) × (timerOf (bytes "timer 4294967295 4294967295 65535 1 1") ≡ some (timer 4294967295 4294967295 65535 1 1))
+    × (timerOf (bytes "timer 3 0 65536 0 0") ≡ none) × (timerOf (bytes "timer 3 0 1 2 0") ≡ none) × (timerOf (bytes "timer 3 0 1 0") ≡ none) × (timerOf (bytes "timer 3 0 1 0 0 0") ≡ none)
+    × (timerOf (bytes "timer 3  0 1 0 0") ≡ none) × (timerOf (bytes "timer 03 0 1 0 0") ≡ none)
+unfolding timerOf beforeSpace afterSpace isNumber isDigit digitsAfter all sameBytes bytes
+timer-lines = (refl, refl, refl, refl, refl, refl, refl, refl)
+
+-- the tick, two timers, and the text; and a text that follows the variables at once
+pub clock-lines :
+    (nowTaken (bytes "now 10\ntimer 3 0 1 0 0\ntimer 5 6 0 1 1\n0:c0>t0\n") ≡ record { now = 10; rest = bytes "timer 3 0 1 0 0\ntimer 5 6 0 1 1\n0:c0>t0\n" })
+    × (timersTaken (bytes "timer 3 0 1 0 0\ntimer 5 6 0 1 1\n0:c0>t0\n") ≡ record { timers = timer 3 0 1 0 0 ∷ timer 5 6 0 1 1 ∷ []; text = bytes "0:c0>t0\n" })
+    × (nowTaken (bytes "0:c0>o0\n") ≡ record { now = 0; rest = bytes "0:c0>o0\n" }) × (timersTaken (bytes "now 4\n") ≡ record { timers = []; text = bytes "now 4\n" })
+unfolding nowTaken timersTaken timersFrom nowOf timerOf firstLine textAfter beforeSpace afterSpace isNumber isDigit digitsAfter all sameBytes bytes
+clock-lines = (refl, refl, refl, refl)
+
+-- README's report with a timer that came to be done, beside one that stayed as it was
+pub timer-report : reportLines 3 (1 ∷ 0 ∷ 0 ∷ []) (3 ∷ 10 ∷ 1 ∷ 1 ∷ 0 ∷ 7 ∷ 0 ∷ 2 ∷ 0 ∷ 0 ∷ []) (ends Ended 2 1 Ended 2 1)
+    (lends (1 ∷ 1 ∷ 0 ∷ []) (1 ∷ 1 ∷ 0 ∷ []) (3 ∷ 10 ∷ 1 ∷ 1 ∷ 1 ∷ 7 ∷ 0 ∷ 2 ∷ 0 ∷ 0 ∷ []) (3 ∷ 10 ∷ 1 ∷ 1 ∷ 1 ∷ 7 ∷ 0 ∷ 2 ∷ 0 ∷ 0 ∷ []) (buffers [] (10 ∷ 20 ∷ []) [] [] (1 ∷ 1 ∷ [])))
+    ≡ bytes "scan ladder list\nend Ended Ended\nrungs 2 2\ninstructions - 12\nmoved 1 1\nL10 - 1\nL20 - 1\nv1 0>1 0>1\nd0 10,1,0>10,1,1 10,1,0>10,1,1\nalike\n"
+unfolding ends reportLines reportOf endLines scanCountLines endWord enteredLines enteredLine changedLines changedLine timersIn timerLines timerLine timerText sameTimer numbersOf verdict alikeIf sameBytes verdictLine
+    decimal digits bytes
+timer-report = refl

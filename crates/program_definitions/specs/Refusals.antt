@@ -27,8 +27,10 @@ explanations place =
     ∷ bytes "the variables line is not V zeros and ones, variable 0 first\n"
     ∷ bytes "the rung watchdog is not a number from 0 to 65,535\n"
     ∷ bytes "the listing is longer than 65,536 bytes\n"
-    ∷ bytes "the name table is not sixteen different names of 1 to 6 capitals, each filled with zeros to six bytes\n"
+    ∷ bytes "the name table is not seventeen different names of 1 to 6 capitals, each filled with zeros to six bytes\n"
     ∷ bytes "the text is not a listing in the table's names\n"
+    ∷ bytes "there are more than 32 timers, or a timer's variable is not below V or is another timer's too\n"
+    ∷ bytes "the ladder names a timer that has no record\n"
     ∷ []
 
 unfoldable pub explanation : Refusal → List ℕ

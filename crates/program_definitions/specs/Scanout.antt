@@ -6,6 +6,8 @@ use lib.Dec.{eqb}
 use lib.ListN.{take}
 use Rattle.questions.specs.Bytes.{bytes, decimal, sameBytes}
 use Rattle.questions.specs.Questions.{mostVariables}
+use Rattle.table.specs.Timer.{Timer}
+use Rattle.table.specs.TimerRecords.{numbersOf, timerNumbers, timersIn}
 use Rattle.table.specs.Halt.{Halt, Ended, Stopped}
 use Rattle.rungs.specs.Records.{mostRecords}
 use Rattle.ladder_definitions.specs.Kept.{Kept}
@@ -16,6 +18,7 @@ use Rattle.list_definitions.specs.Questions.{mostInstructions}
 use Rattle.list_definitions.specs.ListScan.{ListCounts}
 use Rattle.translation_definitions.specs.BothScans.{BothEnds, Lent, lends, both, pairedScans, refused as scansRefused}
 use Rattle.program_definitions.specs.Lines.{firstLine, textAfter, variablesOf, watchdogOf, tableOf, mostKept}
+use Rattle.program_definitions.specs.TimerLines.{nowTaken, timersTaken, heldTimers, mostRest}
 use Rattle.program_definitions.specs.Outcome.{Outcome, printed, refused, outputOf}
 use Rattle.program_definitions.specs.Printout.{blank}
 
@@ -56,6 +59,25 @@ changedLines v (b ∷ bs) [] ts = []
 changedLines v (b ∷ bs) (l ∷ ls) [] = []
 changedLines v (b ∷ bs) (l ∷ ls) (t ∷ ts) = elim (eqb l b && eqb t b) [ true ↦ [] | false ↦ changedLine v b l t ] ++ changedLines (suc v) bs ls ts
 
+-- 02, Req 06: a timer's start tick and its flags running and done
+unfoldable pub timerText : Timer → List ℕ
+timerText t = decimal (t .start) ++ (bytes "," ++ (decimal (t .running) ++ (bytes "," ++ decimal (t .done))))
+
+-- a timer before and after the ladder scan, and before and after the list scan
+unfoldable pub timerLine : ℕ → Timer → Timer → Timer → List ℕ
+timerLine n b l t =
+    bytes "d" ++ (decimal n ++ (bytes " " ++ (timerText b ++ (bytes ">" ++ (timerText l ++ (bytes " " ++ (timerText b ++ (bytes ">" ++ (timerText t ++ bytes "\n")))))))))
+
+unfoldable pub sameTimer : Timer → Timer → Bool
+sameTimer t u = sameBytes (numbersOf t) (numbersOf u)
+
+-- a line for each timer that changed in either
+unfoldable pub timerLines : ℕ → List Timer → List Timer → List Timer → List ℕ
+timerLines n [] ls ts = []
+timerLines n (b ∷ bs) [] ts = []
+timerLines n (b ∷ bs) (l ∷ ls) [] = []
+timerLines n (b ∷ bs) (l ∷ ls) (t ∷ ts) = elim (sameTimer l b && sameTimer t b) [ true ↦ [] | false ↦ timerLine n b l t ] ++ timerLines (suc n) bs ls ts
+
 -- what the two scans came to
 pub data Verdict : Type 0 where
   alike bothStopped notAlike : Verdict
@@ -64,12 +86,12 @@ unfoldable pub alikeIf : Bool → Verdict
 alikeIf true = alike
 alikeIf false = notAlike
 
--- Demand 3 with 02, Req 02, of these two scans: both Ended with the same rungs entered, the same sum and the same variables, or both Stopped, when sums and
--- variables may differ.
-unfoldable pub verdict : BothEnds → List ℕ → List ℕ → Verdict
-verdict e l t = elim (e .ladderHalt) [
+-- Demand 3 with 02, Req 02 and 06, of these two scans: both Ended with the same rungs entered, the same sum, the same variables l and t and the same numbers of
+-- timer records m and u, or both Stopped, when sums, variables and records may differ.
+unfoldable pub verdict : BothEnds → List ℕ → List ℕ → List ℕ → List ℕ → Verdict
+verdict e l t m u = elim (e .ladderHalt) [
   | Ended ↦ elim (e .listHalt) [
-    | Ended ↦ alikeIf (eqb (e .ladder .rungs) (e .list .rungs) && (eqb (e .ladder .moved) (e .list .moved) && sameBytes l t))
+    | Ended ↦ alikeIf (eqb (e .ladder .rungs) (e .list .rungs) && (eqb (e .ladder .moved) (e .list .moved) && (sameBytes l t && sameBytes m u)))
     | Stopped ↦ notAlike
   ]
   | Stopped ↦ elim (e .listHalt) [ Ended ↦ notAlike | Stopped ↦ bothStopped ]
@@ -80,43 +102,56 @@ verdictLine alike = bytes "alike\n"
 verdictLine bothStopped = bytes "both stopped\n"
 verdictLine notAlike = bytes "not alike\n"
 
--- the report, from the table before, the labels and times entered of the list's rungs, and the two tables after
-unfoldable pub reportOf : ℕ → List ℕ → BothEnds → List ℕ → List ℕ → List ℕ → List ℕ → List ℕ
-reportOf vars table e labels times ladderTable listTable =
+-- the report, from the table and the timer records' numbers before, the labels and times entered of the list's rungs, and the two tables and the numbers after
+unfoldable pub reportOf : ℕ → List ℕ → List ℕ → BothEnds → List ℕ → List ℕ → List ℕ → List ℕ → List ℕ → List ℕ → List ℕ
+reportOf vars table timers e labels times ladderTable listTable ladderTimers listTimers =
+    let l = take vars ladderTable in
+    let t = take vars listTable in
     endLines e ++ (enteredLines labels times
-    ++ (changedLines 0 (take vars table) (take vars ladderTable) (take vars listTable) ++ verdictLine (verdict e (take vars ladderTable) (take vars listTable))))
+    ++ (changedLines 0 (take vars table) l t
+    ++ (timerLines 0 (timersIn timers) (timersIn ladderTimers) (timersIn listTimers)
+    ++ verdictLine (verdict e l t ladderTimers listTimers))))
 
 -- the same, from all that both scans left
-unfoldable pub reportLines : ℕ → List ℕ → BothEnds → Lent → List ℕ
-reportLines vars table e after =
-    reportOf vars table e (take (e .counts .rungs) (after .buffers .labels)) (take (e .counts .rungs) (after .buffers .times)) (after .ladderTable) (after .listTable)
+unfoldable pub reportLines : ℕ → List ℕ → List ℕ → BothEnds → Lent → List ℕ
+reportLines vars table timers e after =
+    reportOf vars table timers e (take (e .counts .rungs) (after .buffers .labels)) (take (e .counts .rungs) (after .buffers .times)) (after .ladderTable) (after .listTable)
+    (after .ladderTimers) (after .listTimers)
 
--- lines of 64 bytes at most, one for each variable and 512 besides, of which 256 for rungs: the buffer that the program writes from
+-- lines of 64 bytes at most, one for each variable and 512 besides, of which 256 for rungs and 128 for timers: the buffer that the program writes from
 abbrev pub mostReport : ℕ
 mostReport = 64 * (mostVariables + 512)
 
--- two tables, and buffers for the list that "have the largest size allowed"
-abbrev pub lentFor : List ℕ → Lent
-lentFor table = lends table table (blank mostInstructions mostRecords)
+-- two tables, two rows of timer records, and buffers for the list that "have the largest size allowed"
+abbrev pub lentFor : List ℕ → List ℕ → Lent
+lentFor table timers = lends table table timers timers (blank mostInstructions mostRecords)
 
--- a kept ladder is translated, and it and its list are scanned under demand 3's watchdogs
-unfoldable pub keptScanned : ℕ → Kept → List ℕ → ℕ → Outcome
-keptScanned vars k table n =
-    let c = pairedScans vars k table (lentFor table) n in
-    elim (c .answer) [ scansRefused refusal ↦ refused refusal | both e ↦ printed (reportLines vars table e (c .lent)) ]
+-- a kept ladder is translated, and it and its list are scanned with the timer records of these numbers at the tick `now`, under demand 3's watchdogs
+unfoldable pub keptScanned : ℕ → Kept → List ℕ → List ℕ → ℕ → ℕ → Outcome
+keptScanned vars k table timers now n =
+    let c = pairedScans vars k table timers now (lentFor table timers) n in
+    elim (c .answer) [ scansRefused refusal ↦ refused refusal | both e ↦ printed (reportLines vars table timers e (c .lent)) ]
 
--- V, a rung watchdog, a table and a text
-unfoldable pub textScanned : ℕ → ℕ → List ℕ → List ℕ → Outcome
-textScanned vars n table text =
+-- V, a rung watchdog, a table, timer records, a tick and a text
+unfoldable pub textScanned : ℕ → ℕ → List ℕ → List ℕ → ℕ → List ℕ → Outcome
+textScanned vars n table timers now text =
     let r = readText vars text (blank mostWords mostRungs) in
-    elim (r .answer) [ readRefused refusal ↦ refused refusal | kept words rungs ↦ keptScanned vars (writtenKept (r .buffers) words rungs) table n ]
+    elim (r .answer) [ readRefused refusal ↦ refused refusal | kept words rungs ↦ keptScanned vars (writtenKept (r .buffers) words rungs) table timers now n ]
+
+-- the bytes after the variables line: the tick, the timer records, and the text
+unfoldable pub restScanned : ℕ → ℕ → List ℕ → List ℕ → Outcome
+restScanned vars n table rest =
+    let clock = nowTaken rest in
+    let records = timersTaken (clock .rest) in
+    textScanned vars n table (timerNumbers (take heldTimers (records .timers))) (clock .now) (take mostKept (records .text))
 
 -- the whole input
 unfoldable pub outcome : List ℕ → Outcome
 outcome input =
-    let rest = textAfter input in
+    let second = textAfter input in
+    let third = textAfter second in
     let vars = variablesOf (firstLine input) in
-    textScanned vars (watchdogOf (firstLine rest)) (tableOf vars (firstLine (textAfter rest))) (take mostKept (textAfter (textAfter rest)))
+    restScanned vars (watchdogOf (firstLine second)) (tableOf vars (firstLine third)) (take mostRest (textAfter third))
 
 unfoldable pub output : List ℕ → List ℕ
 output input = outputOf (outcome input)

@@ -51,9 +51,9 @@ fn write_errors(refusal: Refusal, crlf: bool) {
 }
 
 // Both scans side by side, or the refusal.
-fn print(vars: u32, watchdog: u32, table: &[u8], text: &[u8], crlf: bool) {
+fn print(vars: u32, watchdog: u32, table: &[u8], rest: &[u8], crlf: bool) {
     let mut out = [0u8; program_scan_output::MOST_REPORT];
-    let printed = program_scan_output::report(vars, watchdog, table, text, &mut out);
+    let printed = program_scan_output::report_rest(vars, watchdog, table, rest, &mut out);
     let placed = program_refusals::finish(printed, &mut out);
     write_output(&out[..placed]);
     if let Printed::Refused(refusal) = printed {
@@ -63,7 +63,7 @@ fn print(vars: u32, watchdog: u32, table: &[u8], text: &[u8], crlf: bool) {
 
 fn main() {
     let mut chunk = [0u8; 65536];
-    let mut text = [0u8; program_numbers::MOST_KEPT];
+    let mut after = [0u8; program_scan_lines::MOST_REST];
     let mut table = [0u8; program_scan_lines::MOST_TABLE];
     let first = program_lines::number_line(&mut chunk, program_chunks::begin());
     let first_line = first.line;
@@ -72,7 +72,7 @@ fn main() {
     let second_line = second.line;
     let third = variables_line(&mut chunk, second.reading, vars, &mut table);
     let bytes = program_scan_lines::table_bytes(third.variables, vars);
-    let rest = program_chunks::keep_text(&mut chunk, third.reading, &mut text);
+    let rest = program_chunks::keep_text(&mut chunk, third.reading, &mut after);
     let kept = rest.kept;
     let reading = rest.reading;
     if program_chunks::failed(reading) {
@@ -86,7 +86,7 @@ fn main() {
         vars,
         program_scan_lines::watchdog(second_line),
         &table[..bytes],
-        &text[..kept],
+        &after[..kept],
         reading.crlf,
     );
 }

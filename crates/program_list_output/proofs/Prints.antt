@@ -1,5 +1,5 @@
 -- Laws of what an answer of Listing, Translate or Read comes to: the refusal, or what was written, which has room; and of the whole input. Assumes nothing.
-use Prim.Native.Nat.{ℕ, _+_, _-_, _≤_, min}
+use Prim.Native.Nat.{ℕ, _+_, _-_, _*_, _≤_, min}
 use native.Mathlib.Omega.{arith}
 use mathlib.Core.Path.{_≡_, refl, sym, ap, subst, _∙_}
 use mathlib.Core.Option.{none, some}
@@ -18,7 +18,7 @@ use Rattle.rungs.specs.Buffers.{Buffers, writtenWords, writtenRecords}
 use Rattle.ladder_definitions.specs.Kept.{Kept, keptOf}
 use Rattle.list_definitions.specs.Questions.{question10}
 use Rattle.list_definitions.specs.ListScan.{listOf}
-use Rattle.list_definitions.specs.Names.{namesIn, fixedTable, question14}
+use Rattle.list_definitions.specs.Names.{nameBytes, mostOp, namesIn, fixedTable, question14}
 use Rattle.list_definitions.specs.Listing.{ListingAnswer, written, listing, listingText, ListingDone, refused as listingRefused, listedAnswer}
 use Rattle.list_definitions.specs.declared.Listed.{Listed}
 use Rattle.list_definitions.specs.declared.Listed.the-variants.{Written as ListedCase, Refused as ListedRefused}
@@ -83,7 +83,7 @@ module _ (vars : ℕ) (words : List ℕ) (rs : List RungRecord) (out : List ℕ)
           subst (λ k. k ≤ length out) s h
 
 -- Listing got the fixed table
-pub with-fixed : {before table : List ℕ} → FixedNamesPut before table → length before ≡ 96 → (vars : ℕ) (words : List ℕ) (rs : List RungRecord) (out : List ℕ) {r : Listed} {buffer : List ℕ}
+pub with-fixed : {before table : List ℕ} → FixedNamesPut before table → length before ≡ nameBytes * mostOp → (vars : ℕ) (words : List ℕ) (rs : List RungRecord) (out : List ℕ) {r : Listed} {buffer : List ℕ}
     → ListingDone (listing table vars words rs out) r buffer → ListingDone (listing fixedTable vars words rs out) r buffer
 with-fixed put e vars words rs out {r} {buffer} done = subst (λ table. ListingDone (listing table vars words rs out) r buffer) (put .whole e) done
 

@@ -26,7 +26,7 @@ pub fn begin() -> FirstLine
 }
 
 // The digit of a byte, 10 where it is none.
-fn digit_of(byte: u8) -> u32
+pub fn digit_of(byte: u8) -> u32
     ensures { λ r. ⌜ (r ≡ digitOf byte) × (r ≤ 10) ⌝ }
 {
     if byte < 48 {

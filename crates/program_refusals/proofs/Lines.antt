@@ -13,7 +13,7 @@ use Rattle.questions.specs.Questions.{Refusal}
 use Rattle.questions.specs.Refusals.{refusalOf}
 use Rattle.questions.specs.declared.Refusal.{Refusal as RefusalCase}
 use Rattle.questions.specs.declared.Refusal.the-variants.{Variables, TextLength, Text, Kept, Sizes, Variable, Label, Jump, Scratch, List as ListCase}
-use Rattle.questions.specs.declared.Refusal.the-variants.{Table, Watchdog, Buffer, NameTable, ListText}
+use Rattle.questions.specs.declared.Refusal.the-variants.{Table, Watchdog, Buffer, NameTable, ListText, Timers, TimerNumber}
 use Rattle.questions.proofs.Refusal.{the-type}
 use Rattle.printing.specs.Put.{Put}
 use Rattle.printing.specs.Laws.Puts.{put-then, put-as, decimal-most}
@@ -71,3 +71,5 @@ explanation-long Watchdog h = omega arith
 explanation-long Buffer h = omega arith
 explanation-long NameTable h = omega arith
 explanation-long ListText h = omega arith
+explanation-long Timers h = omega arith
+explanation-long TimerNumber h = omega arith

@@ -111,12 +111,22 @@ fn put_explanation(out: &mut [u8], at: usize, refusal: Refusal) -> usize
         Refusal::NameTable => printing::put_text(
             out,
             at,
-            b"the name table is not sixteen different names of 1 to 6 capitals, each filled with zeros to six bytes\n",
+            b"the name table is not seventeen different names of 1 to 6 capitals, each filled with zeros to six bytes\n",
         ),
         Refusal::ListText => printing::put_text(
             out,
             at,
             b"the text is not a listing in the table's names\n",
+        ),
+        Refusal::Timers => printing::put_text(
+            out,
+            at,
+            b"there are more than 32 timers, or a timer's variable is not below V or is another timer's too\n",
+        ),
+        Refusal::TimerNumber => printing::put_text(
+            out,
+            at,
+            b"the ladder names a timer that has no record\n",
         ),
     }
 }

@@ -1,16 +1,18 @@
 // What the program ladder-scan comes to, from the whole input: both scans of a ladder and its list side by side. README, "ladder-scan".
 ghost use mathlib.Core.Path.{_≡_};
-ghost use Prim.Native.Nat.{min};
+ghost use Prim.Native.Nat.{_*_, min};
 ghost use Rattle.questions.specs.Questions.{mostVariables};
 ghost use Rattle.table.specs.State.{tableSize};
 ghost use Rattle.ladder_definitions.specs.Kept.{keptOf};
-ghost use Rattle.program_definitions.specs.Outcome.{Done};
-ghost use Rattle.program_definitions.specs.Scanout.{keptScanned, textScanned, outcome};
+ghost use Rattle.program_definitions.specs.Outcome.{Done, PlacedWithin};
+ghost use Rattle.program_definitions.specs.TimerLines.{heldTimers};
+ghost use Rattle.program_definitions.specs.Scanout.{mostReport, keptScanned, textScanned, restScanned, outcome};
 use both_scans::paired_scans;
 use ladder_kinds::MOST_WORDS;
 use list_ops::MOST_INSTRUCTIONS;
 use program_definitions::Printed;
 use program_numbers::take_number;
+use program_scan_lines::HELD_NUMBERS;
 use program_scan_lines::MOST_TABLE;
 use program_scan_report::put_report;
 use questions::MOST_VARIABLES;
@@ -18,7 +20,7 @@ use rungs::MOST_RECORDS;
 use text_definitions::TextRead;
 use translation_definitions::BothScanned;
 
-// A report fits here: lines of 64 bytes at most, one for each variable and 512 besides, of which 256 for rungs.
+// A report fits here: lines of 64 bytes at most, one for each variable and 512 besides, of which 256 for rungs and 128 for timers.
 pub const MOST_REPORT: usize = 64 * (MOST_VARIABLES as usize + 512);
 
 // How many bytes a copy of the table is lent: as many as it has. A table that is too long for any V is refused 11, its copies being
@@ -32,6 +34,17 @@ fn copy_bytes(bytes: usize) -> usize
     bytes
 }
 
+// How many numbers a copy of the timer records is lent: as many as they have. Records that are too many are refused 16, their copies
+// being shorter or not.
+fn copy_numbers(numbers: usize) -> usize
+    ensures { λ r. ⌜ r ≡ min numbers (5 * heldTimers) ⌝ }
+{
+    if HELD_NUMBERS < numbers {
+        return HELD_NUMBERS;
+    }
+    numbers
+}
+
 // A kept ladder: its list, and the report of both scans.
 fn report_kept(
     vars: u32,
@@ -41,21 +54,26 @@ fn report_kept(
     lengths: &[u32],
     times: &[u32],
     table: &[u8],
+    timers: &[u32],
+    tick: u32,
     watchdog: u32,
     out: &mut [u8],
 ) -> Printed
     ensures { λ r. ⌜ Done (keptScanned vars
         (keptOf (now (words .entry)) (now (labels .entry)) (now (offsets .entry)) (now (lengths .entry)) (now (times .entry)))
-        (now (table .entry)) watchdog) (now (out .entry)) r (now (out .exit)) ⌝ }
+        (now (table .entry)) (now (timers .entry)) tick watchdog) (now (out .entry)) r (now (out .exit)) ⌝ }
 {
     let mut ladder_table = [0u8; MOST_TABLE];
     let mut list_table = [0u8; MOST_TABLE];
+    let mut ladder_timers = [0u32; HELD_NUMBERS];
+    let mut list_timers = [0u32; HELD_NUMBERS];
     let mut code = [0u32; MOST_INSTRUCTIONS];
     let mut code_labels = [0u16; MOST_RECORDS];
     let mut code_offsets = [0u32; MOST_RECORDS];
     let mut code_lengths = [0u32; MOST_RECORDS];
     let mut code_times = [0u32; MOST_RECORDS];
     let n = copy_bytes(table.len());
+    let k = copy_numbers(timers.len());
     match paired_scans(
         vars,
         words,
@@ -64,8 +82,12 @@ fn report_kept(
         lengths,
         times,
         table,
+        timers,
+        tick,
         &mut ladder_table[..n],
         &mut list_table[..n],
+        &mut ladder_timers[..k],
+        &mut list_timers[..k],
         &mut code,
         &mut code_labels,
         &mut code_offsets,
@@ -81,8 +103,11 @@ fn report_kept(
                 vars,
                 ends,
                 table,
+                timers,
                 &ladder_table[..n],
                 &list_table[..n],
+                &ladder_timers[..k],
+                &list_timers[..k],
                 &code_labels[..m],
                 &code_times[..m],
             );
@@ -91,10 +116,18 @@ fn report_kept(
     }
 }
 
-// V, the rung watchdog, a table and a text.
-pub fn report(vars: u32, watchdog: u32, table: &[u8], text: &[u8], out: &mut [u8]) -> Printed
-    ensures { λ r. ⌜ Done (textScanned vars watchdog (now (table .entry)) (now (text .entry)))
-        (now (out .entry)) r (now (out .exit)) ⌝ }
+// V, the rung watchdog, a table, timer records, the tick and a text.
+fn report(
+    vars: u32,
+    watchdog: u32,
+    table: &[u8],
+    timers: &[u32],
+    tick: u32,
+    text: &[u8],
+    out: &mut [u8],
+) -> Printed
+    ensures { λ r. ⌜ Done (textScanned vars watchdog (now (table .entry)) (now (timers .entry)) tick (now (text .entry)))
+        (now (out .entry)) r (now (out .exit)) × PlacedWithin mostReport r ⌝ }
 {
     let mut words = [0u32; MOST_WORDS];
     let mut labels = [0u16; MOST_RECORDS];
@@ -122,11 +155,35 @@ pub fn report(vars: u32, watchdog: u32, table: &[u8], text: &[u8], out: &mut [u8
                 &lengths[..m],
                 &times[..m],
                 table,
+                timers,
+                tick,
                 watchdog,
                 out,
             )
         }
     }
+}
+
+// V, the rung watchdog, a table and the bytes after the variables line: the tick, the timer records and the text.
+pub fn report_rest(vars: u32, watchdog: u32, table: &[u8], rest: &[u8], out: &mut [u8]) -> Printed
+    ensures { λ r. ⌜ Done (restScanned vars watchdog (now (table .entry)) (now (rest .entry)))
+        (now (out .entry)) r (now (out .exit)) × PlacedWithin mostReport r ⌝ }
+{
+    let mut numbers = [0u32; HELD_NUMBERS];
+    let clock = program_scan_lines::take_now(rest, 0);
+    let records = program_scan_lines::take_timers(rest, clock.at, &mut numbers);
+    let count = records.count;
+    let from = records.at;
+    let to = program_numbers::kept_end(rest.len(), from);
+    report(
+        vars,
+        watchdog,
+        table,
+        &numbers[..count],
+        clock.tick,
+        &rest[from..to],
+        out,
+    )
 }
 
 // The whole input.
@@ -142,8 +199,8 @@ pub fn run(input: &[u8], out: &mut [u8]) -> Printed
     let third = program_scan_lines::take_variables(input, second.at, vars, &mut table);
     let bytes = program_scan_lines::table_bytes(third.variables, vars);
     let from = third.at;
-    let to = program_numbers::kept_end(input.len(), from);
-    report(
+    let to = program_scan_lines::rest_end(input.len(), from);
+    report_rest(
         vars,
         program_scan_lines::watchdog(second_line),
         &table[..bytes],

@@ -1,4 +1,5 @@
 -- Laws that the proofs of functions cite.
 pub mod Printing
 pub mod Rungs
+pub mod Timers
 pub mod Verdicts

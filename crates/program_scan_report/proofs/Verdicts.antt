@@ -8,7 +8,7 @@ use mathlib.Core.List.{List, [], _∷_}
 use lib.Dec.{eqb, leb}
 use lib.ListN.{length, take, drop, getD, length-take, drop-of-length-le}
 use lib.Seq.{drop-cons, getD-take}
-use borrow.Author.Tests.{leb-true, leb-false, ne-eqb, eq-eqb}
+use borrow.Author.Tests.{not-true, not-false, leb-true, leb-false, ne-eqb, eq-eqb}
 use Rattle.questions.specs.Bytes.{sameBytes}
 use Rattle.ladder_definitions.specs.LadderScan.{countsIn as ladderCountsIn}
 use Rattle.list_definitions.specs.ListScan.{countsIn as listCountsIn}
@@ -69,20 +69,57 @@ module _ {xs ys : List ℕ} {n i : ℕ} (h : Comparing xs ys n i) where
       let b : drop i (take n ys) ≡ [] = drop-of-length-le (take n ys) {i = i} (omega (arith, length-take n ys)) in
       sym (ap (λ z. sameBytes z (drop i (take n ys))) a ∙ ap (sameBytes []) b) ∙ h .same
 
+-- numbers: the loop's invariant is that those from i on are the same just when all are
+pub record Matching (xs ys : List ℕ) (i : ℕ) : Type 0 where
+  pub same : sameBytes (drop i xs) (drop i ys) ≡ sameBytes xs ys
+
+pub matching-first : (xs ys : List ℕ) → Matching xs ys 0
+matching-first xs ys = record { same = refl }
+
+-- lists of other lengths differ
+pub other-length : (xs ys : List ℕ) → (length xs ≡ length ys → ⊥) → false ≡ sameBytes xs ys
+unfolding sameBytes
+other-length [] [] n = absurd (n refl)
+other-length [] (y ∷ ys) n = refl
+other-length (x ∷ xs) [] n = refl
+other-length (x ∷ xs) (y ∷ ys) n = go (eqb x y) (other-length xs ys (λ e. n (ap suc e)))
+  where
+    go : (b : Bool) → false ≡ sameBytes xs ys → false ≡ (b && sameBytes xs ys)
+    go true e = e
+    go false e = refl
+
+module _ {xs ys : List ℕ} {i : ℕ} (h : Matching xs ys i) (l : length xs ≡ length ys) where
+  match : i < length xs → sameBytes (drop i xs) (drop i ys) ≡ (eqb (getD xs i 0) (getD ys i 0) && sameBytes (drop (suc i) xs) (drop (suc i) ys))
+  unfolding sameBytes
+  match k = rw (drop-cons xs i 0 k, drop-cons ys i 0 (omega arith)) refl
+
+  pub matching-differs : i < length xs → (getD xs i 0 ≡ getD ys i 0 → ⊥) → false ≡ sameBytes xs ys
+  matching-differs k d = sym (match k ∙ ap (λ b. b && sameBytes (drop (suc i) xs) (drop (suc i) ys)) (ne-eqb _ _ d)) ∙ h .same
+
+  pub matching-more : i < length xs → getD xs i 0 ≡ getD ys i 0 → Matching xs ys (i + 1)
+  matching-more k e = record { same = rw add-one (sym (match k ∙ ap (λ b. b && sameBytes (drop (suc i) xs) (drop (suc i) ys)) (eq-eqb _ _ e)) ∙ h .same) }
+
+  pub matching-end : length xs ≤ i → true ≡ sameBytes xs ys
+  unfolding sameBytes
+  matching-end k =
+      let a : drop i xs ≡ [] = drop-of-length-le xs k in
+      let b : drop i ys ≡ [] = drop-of-length-le ys {i = i} (omega arith) in
+      sym (ap (λ z. sameBytes z (drop i ys)) a ∙ ap (sameBytes []) b) ∙ h .same
+
 -- ---- the verdict's cases
 
 -- what verdict is, over the struct's bools
 abbrev ended : Bool → Bool → Verdict → Verdict
 ended a b both = elim a [ true ↦ elim b [ true ↦ both | false ↦ notAlike ] | false ↦ elim b [ true ↦ notAlike | false ↦ bothStopped ] ]
 
-module _ (e : EndsStruct) (l t : List ℕ) where
-  verdict-ended : verdict (endsIn e) l t
-      ≡ ended (e .«ladder_ended») (e .«list_ended») (alikeIf (eqb (e .ladder .rungs) (e .list .rungs) && (eqb (e .ladder .moved) (e .list .moved) && sameBytes l t)))
+module _ (e : EndsStruct) (l t ns ms : List ℕ) where
+  verdict-ended : verdict (endsIn e) l t ns ms
+      ≡ ended (e .«ladder_ended») (e .«list_ended») (alikeIf (eqb (e .ladder .rungs) (e .list .rungs) && (eqb (e .ladder .moved) (e .list .moved) && (sameBytes l t && sameBytes ns ms))))
   unfolding verdict endsIn haltOf listCountsIn
   verdict-ended = go (e .«ladder_ended») (e .«list_ended»)
     where
       both : Verdict
-      both = alikeIf (eqb (e .ladder .rungs) (e .list .rungs) && (eqb (e .ladder .moved) (e .list .moved) && sameBytes l t))
+      both = alikeIf (eqb (e .ladder .rungs) (e .list .rungs) && (eqb (e .ladder .moved) (e .list .moved) && (sameBytes l t && sameBytes ns ms)))
 
       go : (a b : Bool) → verdict (record {
         counts = countsIn (e .counts);
@@ -90,13 +127,13 @@ module _ (e : EndsStruct) (l t : List ℕ) where
         ladder = ladderCountsIn (e .ladder);
         listHalt = haltOf b;
         list = listCountsIn (e .list);
-      }) l t ≡ ended a b both
+      }) l t ns ms ≡ ended a b both
       go true true = refl
       go true false = refl
       go false true = refl
       go false false = refl
 
-  pub verdict-differ : not (Bool·beq (e .«ladder_ended») (e .«list_ended»)) ≡ true → notAlike ≡ verdict (endsIn e) l t
+  pub verdict-differ : not (Bool·beq (e .«ladder_ended») (e .«list_ended»)) ≡ true → notAlike ≡ verdict (endsIn e) l t ns ms
   verdict-differ n = go (e .«ladder_ended») (e .«list_ended») _ n ∙ sym verdict-ended
     where
       go : (a b : Bool) (v : Verdict) → not (Bool·beq a b) ≡ true → notAlike ≡ ended a b v
@@ -106,7 +143,7 @@ module _ (e : EndsStruct) (l t : List ℕ) where
       go false false v n = absurd (false≢true n)
 
   module _ (same : not (Bool·beq (e .«ladder_ended») (e .«list_ended»)) ≡ false) where
-    pub verdict-stopped : not (e .«ladder_ended») ≡ true → bothStopped ≡ verdict (endsIn e) l t
+    pub verdict-stopped : not (e .«ladder_ended») ≡ true → bothStopped ≡ verdict (endsIn e) l t ns ms
     verdict-stopped n = go (e .«ladder_ended») (e .«list_ended») _ same n ∙ sym verdict-ended
       where
         go : (a b : Bool) (v : Verdict) → not (Bool·beq a b) ≡ false → not a ≡ true → bothStopped ≡ ended a b v
@@ -115,7 +152,7 @@ module _ (e : EndsStruct) (l t : List ℕ) where
         go false false v s n = refl
 
     module _ (both : not (e .«ladder_ended») ≡ false) where
-      verdict-both : verdict (endsIn e) l t ≡ alikeIf (eqb (e .ladder .rungs) (e .list .rungs) && (eqb (e .ladder .moved) (e .list .moved) && sameBytes l t))
+      verdict-both : verdict (endsIn e) l t ns ms ≡ alikeIf (eqb (e .ladder .rungs) (e .list .rungs) && (eqb (e .ladder .moved) (e .list .moved) && (sameBytes l t && sameBytes ns ms)))
       verdict-both = verdict-ended ∙ go (e .«ladder_ended») (e .«list_ended») _ same both
         where
           go : (a b : Bool) (v : Verdict) → not (Bool·beq a b) ≡ false → not a ≡ false → ended a b v ≡ v
@@ -123,26 +160,34 @@ module _ (e : EndsStruct) (l t : List ℕ) where
           go true false v s n = absurd (false≢true (sym s))
           go false b v s n = absurd (false≢true (sym n))
 
-      pub verdict-rungs : (e .ladder .rungs ≡ e .list .rungs → ⊥) → notAlike ≡ verdict (endsIn e) l t
+      pub verdict-rungs : (e .ladder .rungs ≡ e .list .rungs → ⊥) → notAlike ≡ verdict (endsIn e) l t ns ms
       unfolding alikeIf
-      verdict-rungs d = sym (verdict-both ∙ ap (λ b. alikeIf (b && (eqb (e .ladder .moved) (e .list .moved) && sameBytes l t))) (ne-eqb _ _ d))
+      verdict-rungs d = sym (verdict-both ∙ ap (λ b. alikeIf (b && (eqb (e .ladder .moved) (e .list .moved) && (sameBytes l t && sameBytes ns ms)))) (ne-eqb _ _ d))
 
       module _ (r : e .ladder .rungs ≡ e .list .rungs) where
-        verdict-counts : verdict (endsIn e) l t ≡ alikeIf (eqb (e .ladder .moved) (e .list .moved) && sameBytes l t)
-        verdict-counts = verdict-both ∙ ap (λ b. alikeIf (b && (eqb (e .ladder .moved) (e .list .moved) && sameBytes l t))) (eq-eqb _ _ r)
+        verdict-counts : verdict (endsIn e) l t ns ms ≡ alikeIf (eqb (e .ladder .moved) (e .list .moved) && (sameBytes l t && sameBytes ns ms))
+        verdict-counts = verdict-both ∙ ap (λ b. alikeIf (b && (eqb (e .ladder .moved) (e .list .moved) && (sameBytes l t && sameBytes ns ms)))) (eq-eqb _ _ r)
 
-        pub verdict-moved : (e .ladder .moved ≡ e .list .moved → ⊥) → notAlike ≡ verdict (endsIn e) l t
+        pub verdict-moved : (e .ladder .moved ≡ e .list .moved → ⊥) → notAlike ≡ verdict (endsIn e) l t ns ms
         unfolding alikeIf
-        verdict-moved d = sym (verdict-counts ∙ ap (λ b. alikeIf (b && sameBytes l t)) (ne-eqb _ _ d))
+        verdict-moved d = sym (verdict-counts ∙ ap (λ b. alikeIf (b && (sameBytes l t && sameBytes ns ms))) (ne-eqb _ _ d))
 
         module _ (m : e .ladder .moved ≡ e .list .moved) {b : Bool} (q : b ≡ sameBytes l t) where
-          verdict-bytes : verdict (endsIn e) l t ≡ alikeIf b
-          verdict-bytes = verdict-counts ∙ ap (λ x. alikeIf (x && sameBytes l t)) (eq-eqb _ _ m) ∙ ap alikeIf (sym q)
+          verdict-bytes : verdict (endsIn e) l t ns ms ≡ alikeIf (b && sameBytes ns ms)
+          verdict-bytes = verdict-counts ∙ ap (λ x. alikeIf (x && (sameBytes l t && sameBytes ns ms))) (eq-eqb _ _ m) ∙ ap (λ x. alikeIf (x && sameBytes ns ms)) (sym q)
 
-          pub verdict-alike : b ≡ true → alike ≡ verdict (endsIn e) l t
+          pub verdict-variables : not b ≡ true → notAlike ≡ verdict (endsIn e) l t ns ms
           unfolding alikeIf
-          verdict-alike y = sym (verdict-bytes ∙ ap alikeIf y)
+          verdict-variables n = sym (verdict-bytes ∙ ap (λ x. alikeIf (x && sameBytes ns ms)) (not-true b n))
 
-          pub verdict-other : b ≡ false → notAlike ≡ verdict (endsIn e) l t
-          unfolding alikeIf
-          verdict-other n = sym (verdict-bytes ∙ ap alikeIf n)
+          module _ (y : not b ≡ false) {c : Bool} (z : c ≡ sameBytes ns ms) where
+            verdict-numbers : verdict (endsIn e) l t ns ms ≡ alikeIf c
+            verdict-numbers = verdict-bytes ∙ ap (λ x. alikeIf (x && sameBytes ns ms)) (not-false b y) ∙ ap alikeIf (sym z)
+
+            pub verdict-alike : c ≡ true → alike ≡ verdict (endsIn e) l t ns ms
+            unfolding alikeIf
+            verdict-alike w = sym (verdict-numbers ∙ ap alikeIf w)
+
+            pub verdict-other : c ≡ false → notAlike ≡ verdict (endsIn e) l t ns ms
+            unfolding alikeIf
+            verdict-other w = sym (verdict-numbers ∙ ap alikeIf w)

@@ -7,11 +7,11 @@ use denote.Enum.Declared.{tagOf}
 use Rattle.questions.proofs.Refusal.{the-type}
 use Rattle.questions.specs.Refusals.{refusalOf}
 use Rattle.questions.specs.declared.Refusal.{Refusal as RefusalCase}
-use Rattle.questions.specs.declared.Refusal.the-variants.{Variables, TextLength, Text, Kept, Sizes, Variable, Label, Jump, Scratch, List as ListCase, Table, Watchdog, Buffer as BufferCase, NameTable, ListText}
+use Rattle.questions.specs.declared.Refusal.the-variants.{Variables, TextLength, Text, Kept, Sizes, Variable, Label, Jump, Scratch, List as ListCase, Table, Watchdog, Buffer as BufferCase, NameTable, ListText, Timers, TimerNumber}
 
 -- the refusals without a place
 abbrev placeless : List ℕ
-placeless = 0 ∷ 1 ∷ 3 ∷ 4 ∷ 8 ∷ 9 ∷ 10 ∷ 11 ∷ 12 ∷ 13 ∷ 14 ∷ []
+placeless = 0 ∷ 1 ∷ 3 ∷ 4 ∷ 8 ∷ 9 ∷ 10 ∷ 11 ∷ 12 ∷ 13 ∷ 14 ∷ 15 ∷ 16 ∷ []
 
 pub no-place : (refusal : RefusalCase) → OneOf placeless (tagOf the-type refusal) → 0 ≡ refusalOf refusal .place
 unfolding refusalOf
@@ -30,3 +30,5 @@ no-place Watchdog k = refl
 no-place BufferCase k = refl
 no-place NameTable k = refl
 no-place ListText k = refl
+no-place Timers k = refl
+no-place TimerNumber k = refl

@@ -29,6 +29,8 @@ pub enum Refusal {
     Buffer,
     NameTable,
     ListText,
+    Timers,
+    TimerNumber,
 }
 
 // The answer to some questions in order: accepted, or the first "no".
@@ -57,6 +59,8 @@ pub fn refusal_number(refusal: Refusal) -> usize
         Refusal::Buffer => 13,
         Refusal::NameTable => 14,
         Refusal::ListText => 15,
+        Refusal::Timers => 16,
+        Refusal::TimerNumber => 17,
     }
 }
 

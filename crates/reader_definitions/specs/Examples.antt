@@ -5,13 +5,13 @@ use mathlib.Core.Path.{_≡_, refl}
 use mathlib.Core.List.{List, [], _∷_, flatMap}
 use lib.ListN.{drop, replicate}
 use Rattle.questions.specs.Bytes.{bytes, decimal, digits, sameBytes}
-use Rattle.questions.specs.Tests.{all}
+use Rattle.questions.specs.Tests.{all, different}
 use Rattle.questions.specs.Questions.{ask, firstNo, varsInRange, question1, longEnough, question13}
 use Rattle.rungs.specs.Records.{lay, laid, longest}
 use Rattle.rungs.specs.Buffers.{Buffers, buffers, asBuffers, needs, written, writtenOver}
 use Rattle.text_grammar.specs.Reader.{mapP, bind, followed, digitOf, digitsFrom, numeralOf}
-use Rattle.list_definitions.specs.Instruction.{ST, NOT, JMP, LD, operand, opOf, operandNumber, instrWord, decodeInstr, ops, onlyNot, sortOf, operandSort, sortNumber, sameSort}
-use Rattle.list_definitions.specs.Names.{fixedNames, trimmed, nameOf, namesFrom, namesIn, isCapital, isName, different, isNameTable, fixedTable, question14}
+use Rattle.list_definitions.specs.Instruction.{ST, NOT, JMP, LD, TON, operand, opOf, operandNumber, instrWord, decodeInstr, ops, onlyNot, sortOf, operandSort, sortNumber, sameSort}
+use Rattle.list_definitions.specs.Names.{fixedNames, trimmed, nameOf, namesFrom, namesIn, isCapital, isName, isNameTable, fixedTable, question14}
 use Rattle.list_definitions.specs.Questions.{operandInRange, wordInRange, recordsLaid, listInRange, question10}
 use Rattle.list_definitions.specs.Listing.{operandText, instrLine, labelLine, rungLines, listingLines, ended, listingText}
 use Rattle.list_definitions.specs.Examples.{zeros, parkTable}
@@ -54,6 +54,10 @@ answers =
     ∷ answer fixedTable 5 (bytes "L1:\nNOT \n")
     ∷ answer fixedTable 5 (bytes "L1:\nNOT v0\n")
     ∷ answer fixedTable 5 (bytes "L1:\nLD\n")
+    ∷ answer fixedTable 5 (bytes "L1:\nTON d65535\n")
+    ∷ answer fixedTable 5 (bytes "L1:\nTON d65536\n")
+    ∷ answer fixedTable 5 (bytes "L1:\nTON v0\n")
+    ∷ answer fixedTable 5 (bytes "L1:\nLD d0\n")
     ∷ answer fixedTable 5 (bytes "L1:\nL2:\nNOT\n")
     ∷ answer fixedTable 5 (bytes "L1:\nNOT\nL2:\n")
     ∷ answer fixedTable 5 (bytes "L1:\nJMP @2\n")
@@ -62,7 +66,7 @@ answers =
 
 answers-worked : answers ≡
     counts 12 2 10 ∷ counts 4 2 3 ∷ no-with 15 ∷ no-with 15 ∷ no-with 1 ∷ no-with 14 ∷ no-with 15 ∷ no-with 15 ∷ no-with 15 ∷ no-with 15 ∷ no-with 15 ∷ no-with 15 ∷ no-with 15
-    ∷ no-with 15 ∷ no-with 15 ∷ no-with 15 ∷ no-with 10 ∷ no-with 10 ∷ no-with 10 ∷ no-with 13 ∷ []
+    ∷ no-with 15 ∷ no-with 15 ∷ no-with 15 ∷ counts 1 1 1 ∷ no-with 15 ∷ no-with 15 ∷ no-with 15 ∷ no-with 10 ∷ no-with 10 ∷ no-with 10 ∷ no-with 13 ∷ []
 unfolding answers answer counts no-with caseA room fixedTable parkTable zeros bytes fixedNames trimmed flatMap all ask firstNo varsInRange question1 longEnough question13
     lay laid longest asBuffers needs written writtenOver mapP bind followed digitOf digitsFrom numeralOf operand opOf operandNumber instrWord decodeInstr ops onlyNot
     sortOf operandSort sortNumber sameSort operandInRange wordInRange recordsLaid listInRange question10 namesFrom isCapital isName sameBytes different isNameTable question14
@@ -72,8 +76,8 @@ answers-worked = refl
 
 -- the list of some rungs, printed in the park's names
 printed : List ℕ
-printed = listingText (namesIn parkTable) 5 (listOfRungs (record { label = 10; code = LD 0 ∷ NOT ∷ JMP 3 ∷ [] } ∷ record { label = 0; code = ST 36 ∷ [] } ∷ []))
+printed = listingText (namesIn parkTable) 5 (listOfRungs (record { label = 10; code = LD 0 ∷ NOT ∷ JMP 3 ∷ [] } ∷ record { label = 0; code = ST 36 ∷ TON 3 ∷ [] } ∷ []))
 
-printed-worked : printed ≡ bytes "L10:\nL v0\nNICHT\nSPRUNG @3\nL0:\nS t31\n"
+printed-worked : printed ≡ bytes "L10:\nL v0\nNICHT\nSPRUNG @3\nL0:\nS t31\nEV d3\n"
 unfolding printed parkTable zeros bytes decimal digits flatMap lay operand opOf trimmed nameOf operandText instrLine labelLine rungLines listingLines ended listingText namesFrom listOfRungs
 printed-worked = refl

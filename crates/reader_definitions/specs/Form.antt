@@ -1,6 +1,6 @@
 -- The line form of a list, production by production: which bytes are a text of the form, and of which rungs. Document 02, Req 05: "The form has at least one line,
 -- a label line first, numbers as in a ladder's text, v below V, t below 32, and for each op only the sort of operand it takes."; the lines are those of
--- document 01, "Listing", with the names of a table. Assumes nothing.
+-- document 01, "Listing", with the names of a table; a timer's number: Req 06. Assumes nothing.
 use Prim.Native.Nat.{ℕ, _+_, _<_}
 use mathlib.Core.Bool.{Bool, _&&_}
 use mathlib.Core.List.{List, [], _∷_, _++_, flatMap}
@@ -11,7 +11,7 @@ use Rattle.questions.specs.Tests.{all}
 use Rattle.table.specs.State.{scratchBytes, tableSize}
 use Rattle.rungs.specs.Records.{lay}
 use Rattle.text_grammar.specs.Grammar.{mostNumber, IsNumber}
-use Rattle.list_definitions.specs.Instruction.{Instr, Operand, tableIndex, noOperand, instructionIndex, operand, opOf}
+use Rattle.list_definitions.specs.Instruction.{Instr, Operand, tableIndex, noOperand, instructionIndex, timerNumber, operand, opOf, instrFits}
 use Rattle.list_definitions.specs.Machine.{InstructionList}
 use Rattle.list_definitions.specs.Questions.{instrInRange}
 use Rattle.list_definitions.specs.Names.{Names, nameOf}
@@ -21,11 +21,13 @@ pub record ListRung : Type 0 where
   pub label : ℕ
   pub code : List Instr
 
--- "space, operand (NOT: name only). Operands are v or t with its number, or @ with the index."; "v below V, t below 32"
+-- "space, operand (NOT: name only). Operands are v or t with its number, or @ with the index."; "v below V, t below 32";
+-- 02, Req 06: "Listing shows a timer as d with its number"
 pub data IsOperand (vars : ℕ) : List ℕ → Operand → Type 0 where
   vNumber : {s : List ℕ} {x : ℕ} → IsNumber s x → x < vars → IsOperand vars (byte " " ∷ byte "v" ∷ s) (tableIndex x)
   tNumber : {s : List ℕ} {x : ℕ} → IsNumber s x → x < scratchBytes → IsOperand vars (byte " " ∷ byte "t" ∷ s) (tableIndex (vars + x))
   atNumber : {s : List ℕ} {j : ℕ} → IsNumber s j → IsOperand vars (byte " " ∷ byte "@" ∷ s) (instructionIndex j)
+  dNumber : {s : List ℕ} {n : ℕ} → IsNumber s n → IsOperand vars (byte " " ∷ byte "d" ∷ s) (timerNumber n)
   nameOnly : IsOperand vars [] noOperand
 
 -- "name, space, operand", "for each op only the sort of operand it takes"; every line ends with LF
@@ -50,9 +52,12 @@ pub data IsListText (names : Names) (vars : ℕ) : List ℕ → List ListRung �
   oneRung : {s : List ℕ} {g : ListRung} → IsRung names vars s g → IsListText names vars s (g ∷ [])
   moreRungs : {s t : List ℕ} {g : ListRung} {gs : List ListRung} → IsRung names vars s g → IsListText names vars t gs → IsListText names vars (s ++ t) (g ∷ gs)
 
--- a rung whose label and operands the form can show
+-- an instruction whose operand the form can show, and a rung whose label and operands it can
+unfoldable pub instrInForm : ℕ → Instr → Bool
+instrInForm vars i = instrInRange (tableSize vars) mostNumber i && instrFits i
+
 unfoldable pub rungInForm : ℕ → ListRung → Bool
-rungInForm vars g = leb (g .label) mostNumber && all (instrInRange (tableSize vars) mostNumber) (g .code)
+rungInForm vars g = leb (g .label) mostNumber && all (instrInForm vars) (g .code)
 
 -- the list of some rungs: their instructions one after the other, and records laid for them
 unfoldable pub listOfRungs : List ListRung → InstructionList

@@ -9,7 +9,7 @@ use Rattle.questions.specs.Bytes.{byte, sameBytes}
 use Rattle.table.specs.State.{scratchBytes}
 use Rattle.rungs.specs.Words.{word}
 use Rattle.text_grammar.specs.Reader.{pick, Parse, read, stuck, mapP, bind, followed, digitOf, numeralOf}
-use Rattle.list_definitions.specs.Instruction.{Instr, Operand, tableIndex, noOperand, instructionIndex, operandNumber, decodeInstr, sortOf, operandSort, sameSort}
+use Rattle.list_definitions.specs.Instruction.{Instr, Operand, tableIndex, noOperand, instructionIndex, timerNumber, operandNumber, decodeInstr, sortOf, operandSort, sameSort}
 use Rattle.list_definitions.specs.Names.{Names, trimmed, nameBytes, isCapital}
 use Rattle.reader_definitions.specs.Form.{ListRung}
 
@@ -40,7 +40,8 @@ unfoldable pub lettered : ℕ → ℕ → ℕ → Option Operand
 lettered vars letter x =
     pick (eqb letter (byte "v")) (below x vars (tableIndex x))
     (pick (eqb letter (byte "t")) (below x scratchBytes (tableIndex (vars + x)))
-    (pick (eqb letter (byte "@")) (some (instructionIndex x)) none))
+    (pick (eqb letter (byte "@")) (some (instructionIndex x))
+    (pick (eqb letter (byte "d")) (some (timerNumber x)) none)))
 
 -- after a name: a space, a letter and a number; or no operand
 unfoldable pub operandFrom : ℕ → List ℕ → ℕ → Parse Operand

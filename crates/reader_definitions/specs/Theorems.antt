@@ -60,7 +60,7 @@ module _ (table : List ℕ) (vars : ℕ) (table-yes : question14 table ≡ none)
   pub printed-exactly : (s : List ℕ) (gs : List ListRung)
       → IsListText (namesIn table) vars s gs ↔ ((s ≡ listingText (namesIn table) vars (listOfRungs gs)) × (1 ≤ length gs) × T (all (rungInForm vars) gs))
   printed-exactly s gs = (
-    λ x. (sym (prints-again (namesIn table) vars s gs x), text-ranged x .0, text-ranged x .1),
+    λ x. (sym (prints-again (namesIn table) vars s gs x), text-ranged few x .0, text-ranged few x .1),
     λ h. rw (h .0) (in-range-form (namesIn table) vars few gs (h .1) (h .2)),
   )
 

@@ -11,7 +11,7 @@ use Rattle.rungs.specs.Words.{operands}
 use Rattle.rungs.specs.Laws.Numbers.{Firsts, _then_, past, every}
 use Rattle.text_grammar.specs.Grammar.{mostNumber}
 use Rattle.text_grammar.specs.Reader.{Parse, read, stuck, bind, followed}
-use Rattle.list_definitions.specs.Instruction.{Instr, LD, LDN, ST, STN, AND, ANDN, OR, ORN, XOR, XORN, NOT, JMP, JMPC, JMPCN, S, R, Operand, tableIndex, noOperand, instructionIndex, operand, operandNumber, instrWord, noOp, onlyNot, ops, sortOf, operandSort, sortNumber, sameSort}
+use Rattle.list_definitions.specs.Instruction.{Instr, LD, LDN, ST, STN, AND, ANDN, OR, ORN, XOR, XORN, NOT, JMP, JMPC, JMPCN, S, R, TON, Operand, tableIndex, noOperand, instructionIndex, timerNumber, operand, operandNumber, instrWord, noOp, onlyNot, ops, sortOf, operandSort, sortNumber, sameSort}
 use Rattle.list_definitions.specs.Names.{Names}
 use Rattle.list_definitions.specs.Laws.Decoding.{decode-word, instr-decoded}
 use Rattle.reader_definitions.specs.Reader.{between, opNamed, given, operandFrom, instrWith, instrNamed, instructionFrom}
@@ -27,21 +27,23 @@ use Rattle.reader_lines.proofs.Bytes.{byte-within}
 abbrev Makes : ℕ → Type 0
 Makes k = (o : Operand) → sortNumber (operandSort k) ≡ sortNumber (sortOf o) → (i : Instr) × (getD ops k noOp (operandNumber o) ≡ some i)
 
-no-operand-sort : (o : Operand) → 3 ≡ sortNumber (sortOf o) → ⊥
+no-operand-sort : (o : Operand) → 4 ≡ sortNumber (sortOf o) → ⊥
 unfolding sortOf sortNumber
 no-operand-sort (tableIndex x) e = omega arith
 no-operand-sort noOperand e = omega arith
 no-operand-sort (instructionIndex j) e = omega arith
+no-operand-sort (timerNumber n) e = omega arith
 
 makes-not : (o : Operand) → 1 ≡ sortNumber (sortOf o) → (i : Instr) × (onlyNot (operandNumber o) ≡ some i)
 unfolding sortOf sortNumber operandNumber onlyNot
 makes-not (tableIndex x) e = absurd (omega arith)
 makes-not noOperand e = (NOT, refl)
 makes-not (instructionIndex j) e = absurd (omega arith)
+makes-not (timerNumber n) e = absurd (omega arith)
 
 makes : (k : ℕ) → Makes k
 unfolding ops onlyNot operand sortOf operandSort sortNumber Firsts past
-makes = every 17 Makes
+makes = every 18 Makes
     ((λ o e. absurd (no-operand-sort o e))
     then (λ o e. (LD (operandNumber o), refl))
     then (λ o e. (LDN (operandNumber o), refl))
@@ -59,6 +61,7 @@ makes = every 17 Makes
     then (λ o e. (JMPCN (operandNumber o), refl))
     then (λ o e. (S (operandNumber o), refl))
     then (λ o e. (R (operandNumber o), refl))
+    then (λ o e. (TON (operandNumber o), refl))
     then tt)
     (λ k o e. absurd (no-operand-sort o e))
 

@@ -13,7 +13,7 @@ use Rattle.text_grammar.specs.Reader.{Parse, read, stuck, bind, numeralOf}
 use Rattle.text_grammar.specs.Numbers.{NumberRead}
 use Rattle.text_grammar.specs.declared.Numeral.{Numeral}
 use Rattle.text_grammar.specs.declared.Numeral.the-variants.{Value, Missing}
-use Rattle.list_definitions.specs.Instruction.{Operand, tableIndex, instructionIndex, operandNumber, sortOf, sortNumber}
+use Rattle.list_definitions.specs.Instruction.{Operand, tableIndex, instructionIndex, timerNumber, operandNumber, sortOf, sortNumber}
 use Rattle.reader_definitions.specs.Reader.{given, lettered, operandFrom}
 use Rattle.reader_lines.specs.Parts.{operandCase, LetterWithin, LetterParsed, OperandWithin, OperandParsed}
 use Rattle.reader_lines.specs.declared.OperandAt.{OperandAt}
@@ -52,9 +52,13 @@ module _ (vars letter x n : ℕ) where
   unfolding lettered sortOf sortNumber operandNumber
   at-number z m = got (instructionIndex x) 2 x (rw z refl) refl refl m
 
-  pub other-letter : (letter ≡ 118 → ⊥) → (letter ≡ 116 → ⊥) → (letter ≡ 64 → ⊥) → LetterParsed (lettered vars letter x) n OperandStuck
+  pub d-number : letter ≡ 100 → x ≤ mostNumber → LetterParsed (lettered vars letter x) n (OperandRead 3 x n)
+  unfolding lettered sortOf sortNumber operandNumber
+  d-number z m = got (timerNumber x) 3 x (rw z refl) refl refl m
+
+  pub other-letter : (letter ≡ 118 → ⊥) → (letter ≡ 116 → ⊥) → (letter ≡ 64 → ⊥) → (letter ≡ 100 → ⊥) → LetterParsed (lettered vars letter x) n OperandStuck
   unfolding lettered
-  other-letter h i j = lost (rw (ne-eqb letter 118 h, ne-eqb letter 116 i, ne-eqb letter 64 j) refl)
+  other-letter h i j k = lost (rw (ne-eqb letter 118 h, ne-eqb letter 116 i, ne-eqb letter 64 j, ne-eqb letter 100 k) refl)
 
 -- ---- what stands after a name
 

@@ -1,4 +1,4 @@
-// One line of a list's text. Document 02, Req 05.
+// One line of a list's text. Document 02, Req 05 and Req 06.
 ghost use Prim.Native.Nat.{_<_, _≤_};
 ghost use mathlib.Core.Path.{_≡_};
 ghost use lib.ListN.{length, take, drop};
@@ -22,7 +22,9 @@ const NOTHING: u32 = 1;
 
 const INSTRUCTION: u32 = 2;
 
-const NO_OP: u32 = 3;
+const TIMER: u32 = 3;
+
+const NO_OP: u32 = 4;
 
 // Scratch bytes are t0 to t31.
 const SCRATCH: u32 = SCRATCH_BYTES as u32;
@@ -92,7 +94,7 @@ fn op_named(table: &[u8], text: &[u8], at: usize, to: usize) -> u32
 {
     let mut op: u32 = list_ops::LD;
     let mut from: usize = 0;
-    while op <= list_ops::R {
+    while op <= list_ops::TON {
         if same_name(table, from, text, at, to) {
             return op;
         }
@@ -110,6 +112,7 @@ fn sort_of(op: u32) -> u32
         OperandSort::Table => TABLE,
         OperandSort::Nothing => NOTHING,
         OperandSort::Instruction => INSTRUCTION,
+        OperandSort::Timer => TIMER,
         OperandSort::NoOp => NO_OP,
     }
 }
@@ -142,6 +145,13 @@ fn lettered(letter: u8, number: u32, next: usize, vars: u32) -> OperandAt
     if letter == b'@' {
         return OperandAt::Read {
             sort: INSTRUCTION,
+            number,
+            next,
+        };
+    }
+    if letter == b'd' {
+        return OperandAt::Read {
+            sort: TIMER,
             number,
             next,
         };

@@ -1,6 +1,11 @@
--- The table that both scans work on. Definitions: State, Questions, Halt, Writes. Laws of them, which no contract cites: Laws.
+-- The table and the timer records that both scans work on. Definitions: Timer, State, Questions, Halt, Writes, TimerRecords. Worked timers: Examples. What functions promise:
+-- Parts. Laws, which no contract cites: Laws.
+pub mod Timer
 pub mod State
 pub mod Questions
 pub mod Halt
 pub mod Writes
+pub mod TimerRecords
+pub mod Examples
+pub mod Parts
 pub mod Laws

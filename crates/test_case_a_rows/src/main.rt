@@ -1,8 +1,8 @@
-// Runs document 01's case A, and then a ladder with set and reset coils, through the calls over rows: this program owns two rows of rung
-// records, the ladder's and the list's, and lends them. It prints what each call answered, the variables and the times entered that each
-// scan left (document 02, Req 04), and the listing, with the fixed names. Then it lends rows of 300 records, which the calls refuse: 5,
-// or 4 where the last record does not fit; List scan 10; Listing 10, or 14 with a name table of zeros (02, Req 05). Last it searches a row
-// of 300 records for labels.
+// Runs document 01's case A, and then a ladder with set and reset coils and one with timers, through the calls over rows: this program
+// owns two rows of rung records, the ladder's and the list's, and lends them. It prints what each call answered, the variables, the times
+// entered (document 02, Req 04) and the timer records (Req 06) that each scan left, and the listing, with the fixed names. Then it lends
+// rows of 300 records, which the calls refuse: 5, or 4 where the last record does not fit; List scan 10; both scans 16 with 33 timer
+// records (Req 06); Listing 10, or 14 with a name table of zeros (Req 05). Last it searches a row of 300 records for labels.
 use ladder_definitions::LadderScanned;
 use libc::STDOUT_FILENO;
 use list_definitions::ListScanned;
@@ -14,7 +14,7 @@ use test_requests::output;
 use text_definitions::TextRead;
 use translation_definitions::Translated;
 
-// "A* `10:c0|c1&n2>o1|c3&j20` `20:n3>o4`, V 5, only v0 true": it has as many kept words as instructions, and so has the other ladder.
+// "A* `10:c0|c1&n2>o1|c3&j20` `20:n3>o4`, V 5, only v0 true": it has as many kept words as instructions, and so have the other ladders.
 const VARS: u32 = 5;
 
 const WORDS: usize = 12;
@@ -30,6 +30,17 @@ const LISTING_BYTES: usize = 200;
 const RUNG_WATCHDOG: u32 = 2;
 
 const INSTRUCTION_WATCHDOG: u32 = 20;
+
+// Two timer records, each preset, start, variable, running and done. With power at the tick the first is done, without power the other's
+// flags clear.
+const TIMER_NUMBERS: usize = 10;
+
+const TIMERS: [u32; TIMER_NUMBERS] = [3, 5, 1, 1, 0, 4, 1, 2, 1, 1];
+
+const TICK: u32 = 8;
+
+// 33 timer records: one more than question 16 takes.
+const MANY_TIMER_NUMBERS: usize = 165;
 
 // A row of more records than questions 5 and 10 take, and its words, two to a record.
 const LONG_RUNGS: usize = 300;
@@ -114,6 +125,8 @@ fn answers_of(
 
 // The five calls, over two rows of this function's own.
 fn run_rows(
+    ladder_timers: &mut [u32],
+    list_timers: &mut [u32],
     names: &[u8],
     text: &[u8],
     ladder_table: &mut [u8],
@@ -126,8 +139,24 @@ fn run_rows(
     let mut code_row = no_row();
     let read = text_rows::read(VARS, text, &mut words, &mut row);
     let translated = translation_rows::translate(VARS, &words, &row, &mut code, &mut code_row);
-    let ladder = ladder_rows::ladder_scan(VARS, &words, &row, ladder_table, RUNG_WATCHDOG);
-    let list = list_rows::list_scan(VARS, &code, &mut code_row, list_table, INSTRUCTION_WATCHDOG);
+    let ladder = ladder_rows::ladder_scan(
+        VARS,
+        &words,
+        &row,
+        ladder_table,
+        ladder_timers,
+        TICK,
+        RUNG_WATCHDOG,
+    );
+    let list = list_rows::list_scan(
+        VARS,
+        &code,
+        &mut code_row,
+        list_table,
+        list_timers,
+        TICK,
+        INSTRUCTION_WATCHDOG,
+    );
     let listed = list_rows::listing(VARS, &code, &code_row, names, lines);
     answers_of(read, translated, ladder, list, listed, row, code_row)
 }
@@ -174,6 +203,8 @@ fn long_answers_of(
 
 // Four of the calls, over one row of records: the words are a ladder, and a list. Translate writes into a copy of the row.
 fn run_long(
+    ladder_timers: &mut [u32],
+    list_timers: &mut [u32],
     names: &[u8],
     mut row: [Rung; LONG_RUNGS],
     words: &[u32],
@@ -184,8 +215,24 @@ fn run_long(
 ) -> LongAnswers {
     let mut code_row = row;
     let translated = translation_rows::translate(VARS, words, &row, code, &mut code_row);
-    let ladder = ladder_rows::ladder_scan(VARS, words, &row, ladder_table, RUNG_WATCHDOG);
-    let list = list_rows::list_scan(VARS, words, &mut row, list_table, INSTRUCTION_WATCHDOG);
+    let ladder = ladder_rows::ladder_scan(
+        VARS,
+        words,
+        &row,
+        ladder_table,
+        ladder_timers,
+        TICK,
+        RUNG_WATCHDOG,
+    );
+    let list = list_rows::list_scan(
+        VARS,
+        words,
+        &mut row,
+        list_table,
+        list_timers,
+        TICK,
+        INSTRUCTION_WATCHDOG,
+    );
     let listed = list_rows::listing(VARS, words, &row, names, lines);
     long_answers_of(translated, ladder, list, listed, row)
 }
@@ -303,6 +350,12 @@ fn put_times(room: &mut [u8], placed: usize, times: Times) -> usize {
     output::put_next(room, first, times.last as u64)
 }
 
+// The numbers of timer records.
+fn put_timers(room: &mut [u8], placed: usize, timers: &[u32]) -> usize {
+    let name = output::put_text(room, placed, b"\ntimers");
+    output::put_items(room, name, timers, TIMER_NUMBERS)
+}
+
 // The first `bytes` bytes of the listing.
 fn put_lines(room: &mut [u8], placed: usize, listing: &[u8], bytes: usize) -> usize {
     if bytes <= listing.len() {
@@ -333,16 +386,21 @@ fn put_ladder_scan(room: &mut [u8], placed: usize, answer: LadderScanned, table:
 }
 
 // What List scan answered and left.
-fn put_list_scan(
-    room: &mut [u8],
-    placed: usize,
-    answer: ListScanned,
-    table: &[u8],
-    times: Times,
-) -> usize {
+fn put_list_scan(room: &mut [u8], placed: usize, answer: ListScanned, table: &[u8]) -> usize {
     let answered = put_list(room, placed, answer);
-    let variables = put_variables(room, answered, table);
-    put_times(room, variables, times)
+    put_variables(room, answered, table)
+}
+
+// What Read and Translate answered.
+fn put_made(room: &mut [u8], placed: usize, read: TextRead, translated: Translated) -> usize {
+    let after_read = put_read(room, placed, read);
+    put_translated(room, after_read, translated)
+}
+
+// The times entered of a row and the numbers of timer records that a scan left.
+fn put_left(room: &mut [u8], placed: usize, times: Times, timers: &[u32]) -> usize {
+    let after_times = put_times(room, placed, times);
+    put_timers(room, after_times, timers)
 }
 
 // What the five calls answered and left. The ladder's row has Read's times, which no scan has changed.
@@ -351,7 +409,9 @@ fn put_answers(
     placed: usize,
     answers: Answers,
     ladder_table: &[u8],
+    ladder_timers: &[u32],
     list_table: &[u8],
+    list_timers: &[u32],
     lines: &[u8],
 ) -> usize {
     let read = answers.read;
@@ -361,23 +421,42 @@ fn put_answers(
     let listed = answers.listed;
     let row = answers.row;
     let code_row = answers.code_row;
-    let after_read = put_read(room, placed, read);
-    let after_translated = put_translated(room, after_read, translated);
-    let after_ladder = put_ladder_scan(room, after_translated, ladder, ladder_table);
-    let after_row = put_times(room, after_ladder, times_of(row));
-    let after_list = put_list_scan(room, after_row, list, list_table, times_of(code_row));
-    put_listed(room, after_list, listed, lines)
+    let after_made = put_made(room, placed, read, translated);
+    let after_ladder = put_ladder_scan(room, after_made, ladder, ladder_table);
+    let after_row = put_left(room, after_ladder, times_of(row), ladder_timers);
+    let after_list = put_list_scan(room, after_row, list, list_table);
+    let after_code_row = put_left(room, after_list, times_of(code_row), list_timers);
+    put_listed(room, after_code_row, listed, lines)
 }
 
 // Runs the five calls on a text, with only v0 true, and puts what they answered.
 fn put_case(room: &mut [u8], placed: usize, names: &[u8], text: &[u8]) -> usize {
     let mut ladder_table = [0u8; TABLE_BYTES];
     let mut list_table = [0u8; TABLE_BYTES];
+    let mut ladder_timers = TIMERS;
+    let mut list_timers = TIMERS;
     let mut lines = [0u8; LISTING_BYTES];
     ladder_table[0] = 1;
     list_table[0] = 1;
-    let answers = run_rows(names, text, &mut ladder_table, &mut list_table, &mut lines);
-    put_answers(room, placed, answers, &ladder_table, &list_table, &lines)
+    let answers = run_rows(
+        &mut ladder_timers,
+        &mut list_timers,
+        names,
+        text,
+        &mut ladder_table,
+        &mut list_table,
+        &mut lines,
+    );
+    put_answers(
+        room,
+        placed,
+        answers,
+        &ladder_table,
+        &ladder_timers,
+        &list_table,
+        &list_timers,
+        &lines,
+    )
 }
 
 // What the four calls answered and left. A refused List scan leaves the times as they were.
@@ -396,12 +475,20 @@ fn put_long_answers(
     let row = answers.row;
     let after_translated = put_translated(room, placed, translated);
     let after_ladder = put_ladder_scan(room, after_translated, ladder, ladder_table);
-    let after_list = put_list_scan(room, after_ladder, list, list_table, long_times_of(row));
-    put_listed(room, after_list, listed, lines)
+    let after_list = put_list_scan(room, after_ladder, list, list_table);
+    let after_row = put_times(room, after_list, long_times_of(row));
+    put_listed(room, after_row, listed, lines)
 }
 
 // Runs the four calls over a row of 300 records, and puts what they answered.
-fn put_long(room: &mut [u8], placed: usize, names: &[u8], last: u32) -> usize {
+fn put_long(
+    room: &mut [u8],
+    placed: usize,
+    ladder_timers: &mut [u32],
+    list_timers: &mut [u32],
+    names: &[u8],
+    last: u32,
+) -> usize {
     let words = long_words();
     let mut code = no_words();
     let mut ladder_table = [0u8; TABLE_BYTES];
@@ -410,6 +497,8 @@ fn put_long(room: &mut [u8], placed: usize, names: &[u8], last: u32) -> usize {
     ladder_table[0] = 1;
     list_table[0] = 1;
     let answers = run_long(
+        ladder_timers,
+        list_timers,
         names,
         long_row(last),
         &words,
@@ -418,12 +507,13 @@ fn put_long(room: &mut [u8], placed: usize, names: &[u8], last: u32) -> usize {
         &mut list_table,
         &mut lines,
     );
-    let head = put_count(
+    let rungs = put_count(
         room,
         placed,
         b"300 records, the last of length",
         last as u64,
     );
+    let head = put_count(room, rungs, b", timers", ladder_timers.len() as u64 / 5);
     put_long_answers(room, head, answers, &ladder_table, &list_table, &lines)
 }
 
@@ -452,15 +542,36 @@ fn put_searches(room: &mut [u8], placed: usize) -> usize {
     put_long_search(room, last, AGAIN as u32)
 }
 
+// Case A, and the ladders with set and reset coils and with timers.
+fn put_cases(room: &mut [u8], names: &[u8]) -> usize {
+    let case_a = put_case(room, 0, names, b"10:c0|c1&n2>o1|c3&j20\n20:n3>o4\n");
+    let latched = put_case(room, case_a, names, b"10:c0|c1&n2>s1|c3&r4\n20:n3>r0\n");
+    put_case(room, latched, names, b"10:c0|c1&n2>t0|c3&t1\n20:n3>o4\n")
+}
+
+// Rows of 300 records with two timer records, the other row with a name table of zeros.
+fn put_refused(room: &mut [u8], placed: usize, names: &[u8], zeros: &[u8]) -> usize {
+    let mut ladder_timers = TIMERS;
+    let mut list_timers = TIMERS;
+    let laid = put_long(room, placed, &mut ladder_timers, &mut list_timers, names, 2);
+    put_long(room, laid, &mut ladder_timers, &mut list_timers, zeros, 1)
+}
+
+// A row of 300 records with 33 timer records.
+fn put_many_timers(room: &mut [u8], placed: usize, names: &[u8]) -> usize {
+    let mut ladder_timers = [0u32; MANY_TIMER_NUMBERS];
+    let mut list_timers = [0u32; MANY_TIMER_NUMBERS];
+    put_long(room, placed, &mut ladder_timers, &mut list_timers, names, 1)
+}
+
 fn put_all(room: &mut [u8]) -> usize {
     let zeros = [0u8; NAME_TABLE_BYTES];
     let mut names = zeros;
     list_names::put_fixed_names(&mut names);
-    let case_a = put_case(room, 0, &names, b"10:c0|c1&n2>o1|c3&j20\n20:n3>o4\n");
-    let latched = put_case(room, case_a, &names, b"10:c0|c1&n2>s1|c3&r4\n20:n3>r0\n");
-    let laid = put_long(room, latched, &names, 2);
-    let short = put_long(room, laid, &zeros, 1);
-    put_searches(room, short)
+    let cases = put_cases(room, &names);
+    let refused = put_refused(room, cases, &names, &zeros);
+    let many = put_many_timers(room, refused, &names);
+    put_searches(room, many)
 }
 
 fn main() {

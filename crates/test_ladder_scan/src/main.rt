@@ -27,7 +27,7 @@ fn print_case(bytes: &[u8]) {
 // The next case: prints its name line, and what comes of its input.
 fn run_case(chunk: &mut [u8], from: Input) -> Case {
     let mut name = [0u8; 80];
-    let mut bytes = [0u8; 100];
+    let mut bytes = [0u8; 1000];
     let case = cases::read_case(chunk, from, &mut name, &mut bytes);
     let n = case.bytes;
     if 0 < case.name {

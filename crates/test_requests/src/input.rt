@@ -304,6 +304,100 @@ pub fn read_names(chunk: &mut [u8], input: Input, names: &mut [u8]) -> Counted
     }
 }
 
+// The next number of the line, 0 or 1, as a byte at a place.
+fn read_flag(chunk: &mut [u8], input: Input, flags: &mut [u8], i: usize) -> Input {
+    let flag = limited(chunk, input, 1);
+    set_byte(flags, i, flag.value);
+    flag
+}
+
+// A timer's numbers, before its flags.
+fn read_delay(
+    chunk: &mut [u8],
+    input: Input,
+    preset: &mut [u32],
+    start: &mut [u32],
+    variable: &mut [u16],
+    i: usize,
+) -> Input {
+    let ticks = read_item(chunk, input, preset, i);
+    let started = read_item(chunk, ticks, start, i);
+    read_label(chunk, started, variable, i)
+}
+
+fn read_flags(
+    chunk: &mut [u8],
+    input: Input,
+    running: &mut [u8],
+    done: &mut [u8],
+    i: usize,
+) -> Input {
+    let runs = read_flag(chunk, input, running, i);
+    read_flag(chunk, runs, done, i)
+}
+
+fn read_timer(
+    chunk: &mut [u8],
+    input: Input,
+    preset: &mut [u32],
+    start: &mut [u32],
+    variable: &mut [u16],
+    running: &mut [u8],
+    done: &mut [u8],
+    i: usize,
+) -> Input {
+    let named = read_delay(chunk, input, preset, start, variable, i);
+    read_flags(chunk, named, running, done, i)
+}
+
+fn read_timer_records(
+    chunk: &mut [u8],
+    from: Input,
+    preset: &mut [u32],
+    start: &mut [u32],
+    variable: &mut [u16],
+    running: &mut [u8],
+    done: &mut [u8],
+    n: usize,
+) -> Input {
+    let mut input = from;
+    let mut i: usize = 0;
+    while i < n {
+        input = read_timer(chunk, input, preset, start, variable, running, done, i);
+        i += 1;
+    }
+    input
+}
+
+// Up to 40 timers, their count first.
+pub fn read_timers(
+    chunk: &mut [u8],
+    input: Input,
+    preset: &mut [u32],
+    start: &mut [u32],
+    variable: &mut [u16],
+    running: &mut [u8],
+    done: &mut [u8],
+) -> Counted
+    ensures { λ r. ⌜ r .count ≤ 40 ⌝ }
+{
+    let counted = limited(chunk, input, 40);
+    let count = counted.value as usize;
+    Counted {
+        input: read_timer_records(
+            chunk,
+            counted,
+            preset,
+            start,
+            variable,
+            running,
+            done,
+            count,
+        ),
+        count,
+    }
+}
+
 // Variables, words and records.
 pub fn read_lent(
     chunk: &mut [u8],

@@ -48,3 +48,15 @@ pub fn copy_bytes(from: &[u8], to: &mut [u8]) {
         i += 1;
     }
 }
+
+// The words into others, as far as these reach.
+pub fn copy_words(from: &[u32], to: &mut [u32]) {
+    let mut i: usize = 0;
+    while i < from.len() {
+        if to.len() <= i {
+            return;
+        }
+        to[i] = from[i];
+        i += 1;
+    }
+}

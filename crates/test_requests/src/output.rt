@@ -193,6 +193,47 @@ pub fn put_records(
     put_next(room, placed, (labels.len() - k) as u64)
 }
 
+fn byte_at(bytes: &[u8], i: usize) -> u32 {
+    if i < bytes.len() { wide(bytes[i]) } else { 255 }
+}
+
+fn put_timer(
+    room: &mut [u8],
+    placed: usize,
+    preset: &[u32],
+    start: &[u32],
+    variable: &[u16],
+    running: &[u8],
+    done: &[u8],
+    i: usize,
+) -> usize {
+    let ticks = put_next(room, placed, word_at(preset, i) as u64);
+    let started = put_next(room, ticks, word_at(start, i) as u64);
+    let named = put_next(room, started, label_at(variable, i) as u64);
+    let runs = put_next(room, named, byte_at(running, i) as u64);
+    put_next(room, runs, byte_at(done, i) as u64)
+}
+
+// The first n timers, each number after a space.
+pub fn put_timers(
+    room: &mut [u8],
+    from: usize,
+    preset: &[u32],
+    start: &[u32],
+    variable: &[u16],
+    running: &[u8],
+    done: &[u8],
+    n: usize,
+) -> usize {
+    let mut placed = from;
+    let mut i: usize = 0;
+    while i < n {
+        placed = put_timer(room, placed, preset, start, variable, running, done, i);
+        i += 1;
+    }
+    placed
+}
+
 pub fn refused_head(refusal: Refusal) -> Head {
     Head {
         ending: 0,

@@ -1,4 +1,4 @@
-// Answers test requests for the five calls and for the search for a label, one a line, until the input ends or a request is bad.
+// Answers test requests for the six calls and for the search for a label, one a line, until the input ends or a request is bad.
 use test_requests::output;
 
 fn main() {

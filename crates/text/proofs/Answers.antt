@@ -20,7 +20,7 @@ use Rattle.rungs.specs.Records.{rowOf, mostRecords, noneEntered, lay, longest}
 use Rattle.rungs.specs.Laws.Layout.{lay-length}
 use Rattle.ladder_definitions.specs.Tree.{Ladder}
 use Rattle.ladder_definitions.specs.Kept.{Kept, rungWords, encode, decode}
-use Rattle.ladder_definitions.specs.Questions.{question4, sizesInRange, question5, question6, question7, question8, question9, ladderAnswer, ladderQuestions}
+use Rattle.ladder_definitions.specs.Questions.{question4, sizesInRange, question5, question6, question7, question8, question9, ladderAnswer, ladderQuestions, formQuestions}
 use Rattle.ladder_definitions.specs.Laws.Accepting.{ladder-is}
 use Rattle.text_grammar.specs.Reader.{Parse, read, stuck, textOf}
 use Rattle.text_grammar.specs.Questions.{question3}
@@ -164,7 +164,7 @@ module _ (vars : ℕ) (text : List ℕ) (lent : Buffers) where
           -- questions 4 and 9 always get a "yes"
           same-no : firstNo (ladderAnswer vars (record { words = keptBuffers gs .words; records = rowOf (keptBuffers gs .labels) (keptBuffers gs .offsets) (keptBuffers gs .lengths) (keptBuffers gs .times) })
               ∷ question13 (needs (keptBuffers gs) lent) ∷ []) ≡ firstNo (questions gs)
-          unfolding ladderAnswer ladderQuestions question1 question2 question5 ask
+          unfolding ladderAnswer ladderQuestions formQuestions question1 question2 question5 ask
           same-no = rw (kept-back, ladder-is (encode gs) gs back, yes1, yes2, yes3, yes4, yes5, yes9) (joined (question6 vars gs) (question7 gs) (question8 gs) _)
 
           rungs-read : length (keptBuffers gs .labels) ≡ length gs

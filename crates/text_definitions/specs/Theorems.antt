@@ -35,7 +35,7 @@ module _ (vars : ℕ) (text : List ℕ) (lent : Buffers) (words rungs : ℕ) (ta
   pub scratch-accepted : question9 (textLadder text) ≡ yes
   scratch-accepted = scratch-always written-in-grammar
 
-  -- What Read writes gets a "yes" to every question that Translate and Ladder scan both put first: 1 and 4 to 9.
+  -- What Read writes gets a "yes" to every question that Translate puts first, 1 and 4 to 9. Ladder scan puts them too.
   pub written-accepted : ladderAnswer vars (writtenKept (readText vars text lent .buffers) words rungs) ≡ yes
   written-accepted = rw written-exactly (encoded-accepted vars text lent words rungs taken)
 

@@ -3,7 +3,7 @@ use mathlib.Core.Path.{_≡_, refl}
 use mathlib.Core.List.{List, [], _∷_, map}
 use Prim.Native.Nat.{ℕ}
 use Rattle.questions.specs.Bytes.{bytes}
-use Rattle.ladder_definitions.specs.Tree.{contact, contactn, Front, input, frontAnd, frontOr, coil, jump, setCoil, resetCoil, Rear, output, rearAnd, rearOr, Ladder}
+use Rattle.ladder_definitions.specs.Tree.{contact, contactn, Front, input, frontAnd, frontOr, coil, jump, setCoil, resetCoil, timer, Rear, output, rearAnd, rearOr, Ladder}
 use Rattle.text_grammar.specs.Reader.{Parse, read, stuck, mapP, bind, followed, digitOf, digitsFrom, numeralOf, chain, termBy, frontBy, factorBy, factorOf, termOf, frontOf, opensFactor, branchBy, rearBy, outputAt, endBy, endOf, rearOf, rung, lineOf, linesOf, textOf}
 
 pub record Row : Type 0 where
@@ -27,6 +27,9 @@ s v = output (setCoil v)
 
 abbrev r : ℕ → Rear
 r v = output (resetCoil v)
+
+abbrev t : ℕ → Rear
+t number = output (timer number)
 
 pub rows : List Row
 rows =
@@ -56,7 +59,14 @@ rows =
     ∷ record { text = bytes "0:c0>s"; answer = stuck 6 }
     ∷ record { text = bytes "0:c0>r1&"; answer = stuck 7 }
     ∷ record { text = bytes "0:c0>s65536"; answer = stuck 10 }
-    ∷ record { text = bytes "0:c0>t0"; answer = stuck 5 }
+    -- 02, Req 06
+    ∷ record { text = bytes "0:c0>t0\n"; answer = read 8 (rung 0 (c 0) (t 0) ∷ []) }
+    ∷ record { text = bytes "0:c0>c1&[t65535|o2]|t31\n"; answer = read 24 (rung 0 (c 0) (rearOr (rearAnd (c 1) (rearOr (t 65535) (o 2))) (t 31)) ∷ []) }
+    ∷ record { text = bytes "0:t0>o0\n"; answer = stuck 2 }
+    ∷ record { text = bytes "0:c0>t"; answer = stuck 6 }
+    ∷ record { text = bytes "0:c0>t65536"; answer = stuck 10 }
+    ∷ record { text = bytes "0:c0>t00"; answer = stuck 7 }
+    ∷ record { text = bytes "0:c0>d0"; answer = stuck 5 }
     ∷ []
 
 pub texts-read : map (λ (r : Row). textOf (r .text)) rows ≡ map (λ (r : Row). r .answer) rows

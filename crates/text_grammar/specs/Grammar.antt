@@ -1,8 +1,8 @@
--- The grammar of document 01, "Text", production by production, with the letters of 02, Req 01: which bytes are a text, and of which ladder. Assumes nothing.
+-- The grammar of document 01, "Text", production by production, with the letters of 02, Req 01 and Req 06: which bytes are a text, and of which ladder. Assumes nothing.
 use Prim.Native.Nat.{ℕ, suc, _+_, _*_, _≤_}
 use mathlib.Core.List.{List, [], _∷_, _++_}
 use Rattle.questions.specs.Bytes.{byte}
-use Rattle.ladder_definitions.specs.Tree.{contact, contactn, Front, input, frontAnd, frontOr, Output, coil, coiln, jump, jumpn, setCoil, resetCoil, Rear, output, rearAnd, rearOr, Rung, Ladder}
+use Rattle.ladder_definitions.specs.Tree.{contact, contactn, Front, input, frontAnd, frontOr, Output, coil, coiln, jump, jumpn, setCoil, resetCoil, timer, Rear, output, rearAnd, rearOr, Rung, Ladder}
 
 -- digits, of which the first is not 0, and their value
 pub data IsDigits : List ℕ → ℕ → Type 0 where
@@ -41,7 +41,7 @@ mutual
     inRound : {d : ℕ} {s : List ℕ} {f : Front} → IsFront d s f → IsFactor (suc d) (byte "(" ∷ (s ++ byte ")" ∷ [])) f
 
 -- the letters of outputs, each with what it makes of its number: "o" a coil, "q" a negated coil, "j" a jump, "k" a negated jump;
--- 02, Req 01: "outputs s and r", a set coil and a reset coil
+-- 02, Req 01: "outputs s and r", a set coil and a reset coil; Req 06: "an output t with a timer number"
 pub data IsOutput : ℕ → (ℕ → Output) → Type 0 where
   oLetter : IsOutput (byte "o") coil
   qLetter : IsOutput (byte "q") coiln
@@ -49,6 +49,7 @@ pub data IsOutput : ℕ → (ℕ → Output) → Type 0 where
   kLetter : IsOutput (byte "k") jumpn
   sLetter : IsOutput (byte "s") setCoil
   rLetter : IsOutput (byte "r") resetCoil
+  tLetter : IsOutput (byte "t") timer
 
 mutual
   -- rear = branch, then any number of "|" branch; to the right
@@ -61,7 +62,7 @@ mutual
     atEnd : {d : ℕ} {s : List ℕ} {r : Rear} → IsEnd d s r → IsBranch d s r
     factorAnd : {d : ℕ} {s t : List ℕ} {f : Front} {r : Rear} → IsFactor d s f → IsBranch d t r → IsBranch d (s ++ byte "&" ∷ t) (rearAnd f r)
 
-  -- end = ("o" "q" "j" or "k") number or "[" rear "]"; with 02's letters ("o" "q" "j" "k" "s" or "r") number
+  -- end = ("o" "q" "j" or "k") number or "[" rear "]"; with 02's letters ("o" "q" "j" "k" "s" "r" or "t") number
   pub data IsEnd : ℕ → List ℕ → Rear → Type 0 where
     outputNumber : {d b : ℕ} {make : ℕ → Output} {s : List ℕ} {v : ℕ} → IsOutput b make → IsNumber s v → IsEnd d (b ∷ s) (output (make v))
     inSquare : {d : ℕ} {s : List ℕ} {r : Rear} → IsRear d s r → IsEnd (suc d) (byte "[" ∷ (s ++ byte "]" ∷ [])) r

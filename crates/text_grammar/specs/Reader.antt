@@ -6,7 +6,7 @@ use Prim.Native.Nat.{ℕ, zero, suc, _+_, _-_, _*_}
 use lib.Dec.{eqb, leb, ltb}
 use lib.ListN.{length, getD}
 use Rattle.questions.specs.Bytes.{byte}
-use Rattle.ladder_definitions.specs.Tree.{contact, contactn, Front, input, frontAnd, frontOr, Output, coil, coiln, jump, jumpn, setCoil, resetCoil, Rear, output, rearAnd, rearOr, Rung, Ladder}
+use Rattle.ladder_definitions.specs.Tree.{contact, contactn, Front, input, frontAnd, frontOr, Output, coil, coiln, jump, jumpn, setCoil, resetCoil, timer, Rear, output, rearAnd, rearOr, Rung, Ladder}
 use Rattle.text_grammar.specs.Grammar.{mostNumber, mostBrackets}
 
 abbrev pub pick : {A : Type 0} → Bool → A → A → A
@@ -106,7 +106,8 @@ outputAt b =
     (pick (eqb b (byte "j")) (some jump)
     (pick (eqb b (byte "k")) (some jumpn)
     (pick (eqb b (byte "s")) (some setCoil)
-    (pick (eqb b (byte "r")) (some resetCoil) none)))))
+    (pick (eqb b (byte "r")) (some resetCoil)
+    (pick (eqb b (byte "t")) (some timer) none))))))
 
 -- the output that the letter at `at` begins; where no letter stands there, the other part
 abbrev pub outputOr : Option (ℕ → Output) → List ℕ → ℕ → Parse Rear → Parse Rear

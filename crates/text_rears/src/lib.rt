@@ -1,4 +1,5 @@
-// Rears: rear, branch and rear_end call each other, with at most `depth` brackets open below. Document 01, "Text"; document 02, Req 01.
+// Rears: rear, branch and rear_end call each other, with at most `depth` brackets open below. Document 01, "Text"; document 02, Req 01
+// and Req 06.
 ghost use mathlib.Core.Path.{_≡_};
 ghost use Prim.Native.Nat.{_<_, _≤_};
 ghost use Rattle.text_grammar.specs.Reader.{rearOf, branchOf, endOf, opensFactor};
@@ -37,6 +38,7 @@ fn output_kind(b: u8) -> u32
         b'k' => ladder_kinds::NEGATED_JUMP,
         b's' => ladder_kinds::SET_COIL,
         b'r' => ladder_kinds::RESET_COIL,
+        b't' => ladder_kinds::TIMER,
         _ => 0,
     }
 }

@@ -5,7 +5,7 @@ use mathlib.Core.Path.{_≡_, refl, sym, ap, _∙_}
 use mathlib.Core.Bool.{Bool, true, false}
 use mathlib.Core.List.{List}
 use Rattle.rungs.specs.Words.{operands, word, numberOf, operandOf}
-use Rattle.ladder_definitions.specs.Tree.{Output, coil, coiln, jump, jumpn, setCoil, resetCoil, outputNames, number}
+use Rattle.ladder_definitions.specs.Tree.{Output, coil, coiln, jump, jumpn, setCoil, resetCoil, timer, outputNames, number}
 use Rattle.ladder_definitions.specs.Kept.{outputKind, nameSorts, nameSort}
 use Rattle.ladder_definitions.specs.Laws.Trees.{same-output}
 use Rattle.ladder_kinds.specs.Kinds.{namesLabel}
@@ -49,12 +49,16 @@ pub reset-op : OutputOp 12 16
 unfolding outputKind outputNames number outputCode opOf
 reset-op = op-made resetCoil 12 16 (λ v. refl) (λ v. refl) (λ v start. refl) (omega arith)
 
+pub timer-op : OutputOp 13 17
+unfolding outputKind outputNames number outputCode opOf
+timer-op = op-made timer 13 17 (λ n. refl) (λ n. refl) (λ n start. refl) (omega arith)
+
 pub no-op : (kind : ℕ) → ((o : Output) → kind ≡ outputKind o → ⊥) → OutputOp kind 0
 no-op kind n = record { few = omega arith; same = λ o e start. absurd (n o e) }
 
 -- ---- the operand
 
--- what is named: a variable, or a label, which stands for the start of its rung
+-- what is named: a variable or a timer, or a label, which stands for the start of its rung
 abbrev namedOperand : (ℕ → ℕ) → Bool → ℕ → ℕ
 namedOperand start label n = elim label [ true ↦ start n | false ↦ n ]
 
@@ -66,6 +70,7 @@ operand-named start (jump l) = refl
 operand-named start (jumpn l) = refl
 operand-named start (setCoil v) = refl
 operand-named start (resetCoil v) = refl
+operand-named start (timer n) = refl
 
 operand-read : (start : ℕ → ℕ) (kind n : ℕ) (label : Bool) (o : Output) → label ≡ namesLabel kind → kind ≡ outputKind o → n ≡ number (outputNames o)
     → namedOperand start label n ≡ operandNumber (operand (outputCode start o))

@@ -137,6 +137,7 @@ fn output_op(kind: u32) -> u32
         ladder_kinds::NEGATED_JUMP => list_ops::JMPCN,
         ladder_kinds::SET_COIL => list_ops::S,
         ladder_kinds::RESET_COIL => list_ops::R,
+        ladder_kinds::TIMER => list_ops::TON,
         _ => 0,
     }
 }

@@ -10,7 +10,7 @@ use Rattle.ladder_definitions.specs.LadderScan.{LadderCounts, LadderScanAnswer,
 use Rattle.list_definitions.specs.ListScan.{ListCounts, ListScanAnswer, scanned as listScanned}
 
 -- "the list scan answers Ended too": "Then the V variables are equal in the two copies, byte for byte, the list scan's rungs entered are the same k, and its
--- instructions carried out are at least 2 × k and at most k × L"
+-- instructions carried out are at least 2 × k and at most k × L". 02, Req 06: they "must also end with equal records", which SameButScratch says too.
 pub record EndedAlike (least longest k : ℕ) (s : State) (list : ListScanAnswer) (t : State) : Type 0 where
   pub counts : ListCounts
   pub ended : list ≡ listScanned Ended counts

@@ -1,15 +1,16 @@
 -- Worked translations, by hand from the clauses of document 01, "Translation"; and scans of a latch in turn, by ladder and list. Assumes nothing.
 use mathlib.Core.Path.{_≡_, refl}
-use mathlib.Core.Bool.{true, false}
-use mathlib.Core.List.{List, [], _∷_, map, flatMap}
+use mathlib.Core.Bool.{true, false, xor}
+use mathlib.Core.List.{List, [], _∷_, _++_, map, flatMap, zipWith}
 use Prim.Native.Nat.{ℕ}
-use lib.ListN.{replicate}
-use Rattle.table.specs.State.{State, stateOf, tableSize, variables, valueAt, value, writtenAt, write, writeIf}
-use Rattle.rungs.specs.Records.{lay, search, startOf, isStart}
+use lib.ListN.{length, replicate}
+use Rattle.table.specs.Timer.{elapsed, started, tested, powered}
+use Rattle.table.specs.State.{State, stateOf, tableSize, variables, valueAt, value, writtenAt, turns, write, writeIf, setTimer, runTimer}
+use Rattle.rungs.specs.Records.{lay, search, startOf, isStart, enter}
 use Rattle.ladder_definitions.specs.Tree.{frontAnd, frontOr, rearAnd, rearOr, Ladder}
-use Rattle.ladder_definitions.specs.Bench.{rung, c, n, o, q, j, k, s, r, latch}
+use Rattle.ladder_definitions.specs.Bench.{Outcome, TimedRow, TimedOutcome, timedRows, timedExpected, timedStart, rung, c, n, o, q, j, k, s, r, t, delay, shared, latch}
 use Rattle.ladder_definitions.specs.Meaning.{scanLadder, scanFrom, runRung, runRear, runOutput, workFront, workInput, follow, left}
-use Rattle.list_definitions.specs.Instruction.{Instr, LD, LDN, ST, STN, AND, ANDN, OR, ORN, JMPC, JMPCN}
+use Rattle.list_definitions.specs.Instruction.{Instr, LD, LDN, ST, STN, AND, ANDN, OR, ORN, JMPC, JMPCN, TON}
 use Rattle.list_definitions.specs.Machine.{scanList, scanMachine, begin, fresh, step, count, does, halted}
 use Rattle.translation_definitions.specs.Translate.{F, R, join, outputCode, rungCode, listRecords, translate}
 
@@ -51,6 +52,12 @@ rows =
       vars = 4;
       code = LD 0 ∷ ST 4 ∷ Instr.S 2 ∷ LD 4 ∷ ANDN 1 ∷ Instr.R 3 ∷ LD 1 ∷ Instr.R 2 ∷ [];
     }
+    -- Req 06: 0:c0>t65535|n1&t0: a timer number is no variable, and is not bounded by V
+    ∷ record {
+      ladder = rung 0 (c 0) (rearOr (t 65535) (rearAnd (n 1) (t 0))) ∷ [];
+      vars = 2;
+      code = LD 0 ∷ ST 2 ∷ TON 65535 ∷ LD 2 ∷ ANDN 1 ∷ TON 0 ∷ [];
+    }
     ∷ []
 
 translations : map (λ r. translate (r .vars) (r .ladder) .code) rows ≡ map (λ r. r .code) rows
@@ -61,7 +68,7 @@ translations = refl
 -- table that the one before left; v0 is true in the first and false from then on, v1 is true in the third. The variables after each:
 threeScans : (State → State) → List (List ℕ)
 threeScans scan =
-    let first = scan (write (stateOf 3 (replicate (tableSize 3) 0)) 0 true) in
+    let first = scan (write (stateOf 3 (replicate (tableSize 3) 0) [] 0) 0 true) in
     let second = scan (write first 0 false) in
     let third = scan (write second 1 true) in
     variables first ∷ variables second ∷ variables third ∷ []
@@ -71,3 +78,18 @@ latch-held : map threeScans ((λ t. scanLadder latch 2 t .state) ∷ (λ t. scan
 unfolding threeScans F R join outputCode rungCode lay search startOf listRecords translate flatMap variables valueAt value writtenAt write writeIf
     scanLadder scanFrom runRung runRear runOutput workFront workInput follow left scanList scanMachine begin fresh step count does halted isStart
 latch-held = refl
+
+-- 02, Req 06: a timer's list, scanned as the ladder is, ends with the same variables and timer records: delay is LD v0, TON d0, LD v1, ST v2, and shared is
+-- LD v0, TON d0, LDN v0, TON d0. The rows are those of ladder_definitions.Bench; the last but one, which stopped after one rung, is stopped after two instructions.
+listOutcome : ℕ → TimedRow → TimedOutcome
+listOutcome w r =
+    let x = scanList (translate (length (r .before)) (r .ladder)) w (timedStart r) in
+    record { outcome = record { halt = x .halt; rungs = x .counts .rungs; moved = x .state .moved; variables = variables (x .state) }; timers = x .state .timers }
+
+watchdogs : List ℕ
+watchdogs = replicate 9 4 ++ 2 ∷ 4 ∷ []
+
+timers-listed : zipWith listOutcome watchdogs timedRows ≡ map timedExpected timedRows
+unfolding listOutcome watchdogs zipWith timedRows timedExpected timedStart F R join outputCode rungCode lay search startOf listRecords translate flatMap variables valueAt value writtenAt turns write writeIf
+    setTimer runTimer elapsed started tested powered scanList scanMachine begin fresh step count enter does halted isStart xor
+timers-listed = refl

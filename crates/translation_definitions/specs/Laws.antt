@@ -5,6 +5,8 @@ pub mod Calls
 pub mod Exact
 pub mod Exec
 pub mod Legal
+pub mod Timed
+pub mod Refused
 pub mod Lists
 pub mod Many
 pub mod Operands

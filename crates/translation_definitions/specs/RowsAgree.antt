@@ -6,6 +6,7 @@ use mathlib.Core.List.{List}
 use lib.ListN.{take}
 use Rattle.rows.specs.declared.Rung.{Rung}
 use Rattle.rows.specs.Rows.{recordsOf}
+use Rattle.table.specs.Timer.{Timer}
 use Rattle.ladder_definitions.specs.Kept.{Kept}
 use Rattle.translation_definitions.specs.declared.Counts.{Counts}
 use Rattle.translation_definitions.specs.declared.Translated.{Translated}
@@ -17,9 +18,9 @@ abbrev pub keptIn : List ℕ → List Rung → Kept
 keptIn words row = record { words = words; records = recordsOf row }
 
 -- Of Translate's answer, and of the code words and the row that it left:
-pub record RowsAgree (vars : ℕ) (kept : Kept) (answer : Translated) (code : List ℕ) (row : List Rung) (table : List ℕ) (n : ℕ) : Type 0 where
+pub record RowsAgree (vars : ℕ) (kept : Kept) (answer : Translated) (code : List ℕ) (row : List Rung) (table : List ℕ) (timers : List Timer) (now n : ℕ) : Type 0 where
   -- Translate wrote a list, with its counts
   pub counts : Counts
   pub translated : answer ≡ Written counts
   -- "In demand 3 a ladder's list is what Translate writes for it, records included.": the first instructions and records, as many as it counted
-  pub scans : ScansAgree vars kept (take (counts .instructions) code) (recordsOf (take (counts .rungs) row)) (counts .longest) table n
+  pub scans : ScansAgree vars kept (take (counts .instructions) code) (recordsOf (take (counts .rungs) row)) (counts .longest) table timers now n

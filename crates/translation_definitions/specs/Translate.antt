@@ -4,8 +4,8 @@ use mathlib.Core.List.{List, [], _∷_, _++_, flatMap}
 use lib.ListN.{length}
 use Rattle.table.specs.State.{scratchIndex}
 use Rattle.rungs.specs.Records.{RungRecord, lay, startOf}
-use Rattle.ladder_definitions.specs.Tree.{contact, contactn, Front, input, frontAnd, frontOr, Output, coil, coiln, jump, jumpn, setCoil, resetCoil, Rear, output, rearAnd, rearOr, Rung, Ladder}
-use Rattle.list_definitions.specs.Instruction.{Instr, LD, LDN, ST, STN, AND, ANDN, OR, ORN, JMPC, JMPCN}
+use Rattle.ladder_definitions.specs.Tree.{contact, contactn, Front, input, frontAnd, frontOr, Output, coil, coiln, jump, jumpn, setCoil, resetCoil, timer, Rear, output, rearAnd, rearOr, Rung, Ladder}
+use Rattle.list_definitions.specs.Instruction.{Instr, LD, LDN, ST, STN, AND, ANDN, OR, ORN, JMPC, JMPCN, TON}
 use Rattle.list_definitions.specs.Machine.{InstructionList}
 
 -- what follows F(f, d) in "F(f AND g, d): if g is a contact, F(f, d) + AND v (negated: ANDN v); else F(f, d) + ST td + F(g, d+1) + AND td. OR likewise, with
@@ -24,7 +24,7 @@ F vars (frontAnd f g) d = F vars f d ++ join AND ANDN g (F vars g (d + 1)) (scra
 F vars (frontOr f g) d = F vars f d ++ join OR ORN g (F vars g (d + 1)) (scratchIndex vars d)
 
 -- "coil ST v; negated coil STN v; jump JMPC, negated JMPCN, to the first instruction of the target rung", which `start` gives;
--- 02, Req 01: "They translate to S v and R v"
+-- 02, Req 01: "They translate to S v and R v"; Req 06: a timer is "translated to op 17 TON"
 unfoldable pub outputCode : (ℕ → ℕ) → Output → Instr
 outputCode start (coil v) = ST v
 outputCode start (coiln v) = STN v
@@ -32,6 +32,7 @@ outputCode start (jump l) = JMPC (start l)
 outputCode start (jumpn l) = JMPCN (start l)
 outputCode start (setCoil v) = Instr.S v
 outputCode start (resetCoil v) = Instr.R v
+outputCode start (timer n) = TON n
 
 -- R(rear, d): "R(f AND r, d): if f is a contact, AND v (or ANDN v) + R(r, d); else ST td + F(f, d+1) + AND td + R(r, d).
 -- R(a OR b, d): ST td + R(a, d+1) + LD td + R(b, d)."

@@ -1,4 +1,4 @@
--- `translation::copy_table` meets its contract. The loop's invariant: the first bytes are copied. Assumes nothing.
+-- `both_scans::copy_table` meets its contract. The loop's invariant: the first bytes are copied. Assumes nothing.
 use Prim.Native.Nat.{_-_}
 use native.Mathlib.Omega.{arith}
 use mathlib.Core.Path.{refl}

@@ -3,6 +3,7 @@ use Rattle.both_scans.proofs.Boths.{paired-promise}
 use borrow.Author.Needs.{needs}
 use Rattle.both_scans.proofs.paired_scans.Statement.{statement}
 use Rattle.both_scans.proofs.paired_scans.Tie as tie
+use Rattle.both_scans.proofs.scan_both.Reads as scan-both-reads
 
 scan-both-requires : tie.Need-scan-both-requires
 scan-both-requires c κs = search needs
@@ -28,8 +29,14 @@ same-length-6 c = search needs
 same-length-7 : tie.Need-same-length-7
 same-length-7 c = search needs
 
+same-length-8 : tie.Need-same-length-8
+same-length-8 c = search needs
+
+same-length-9 : tie.Need-same-length-9
+same-length-9 c = search needs
+
 returns : tie.Need-returns
-returns c = paired-promise _ _ _ _ _ (c .before .before .before .before .before .before .before .before .before .before .before .before .before .before .scan-both .ensures)
+returns c = paired-promise _ _ _ _ _ _ _ (c .before .before .before .before .before .before .before .before .before .before .before .before .before .before .before .before .before .before .scan-both .ensures)
 
 pub paired-scans-spec : {M : Type 1} → statement M
 paired-scans-spec =
@@ -43,4 +50,6 @@ paired-scans-spec =
     same-length-5
     same-length-6
     same-length-7
+    same-length-8
+    same-length-9
     returns)

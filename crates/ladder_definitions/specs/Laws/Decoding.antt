@@ -13,7 +13,7 @@ use Rattle.questions.specs.Tests.{all}
 use Rattle.questions.specs.Laws.Tests.{none-some, T→true, all-head, all-tail, all-cons}
 use Rattle.rungs.specs.Records.{RungRecord, lay}
 use Rattle.rungs.specs.Laws.Numbers.{Firsts, _then_, past, every}
-use Rattle.ladder_definitions.specs.Tree.{Input, contact, contactn, Front, input, frontAnd, frontOr, Output, coil, coiln, jump, jumpn, setCoil, resetCoil, Rear, output, rearAnd, rearOr, Rung, Ladder, frontAll, rearAll, rungAll, inputVariable, outputNames, number}
+use Rattle.ladder_definitions.specs.Tree.{Input, contact, contactn, Front, input, frontAnd, frontOr, Output, coil, coiln, jump, jumpn, setCoil, resetCoil, timer, Rear, output, rearAnd, rearOr, Rung, Ladder, frontAll, rearAll, rungAll, inputVariable, outputNames, number}
 use Rattle.rungs.specs.Words.{operands, word}
 use Rattle.ladder_definitions.specs.Kept.{inputKind, outputKind, inputWord, outputWord, frontWords, rearWords, rungWords, Trees, trees, putInput, putFront, putOutput, putRearAnd, putRearOr, noKind, kinds, decodeWords, oneRung, decodeRung, decodeFrom, inputFits, outputFits}
 
@@ -56,6 +56,7 @@ rear-back (output (jump l)) ws rs h e = operand-word 7 l ws _ h e
 rear-back (output (jumpn l)) ws rs h e = operand-word 8 l ws _ h e
 rear-back (output (setCoil v)) ws rs h e = operand-word 11 v ws _ h e
 rear-back (output (resetCoil v)) ws rs h e = operand-word 12 v ws _ h e
+rear-back (output (timer n)) ws rs h e = operand-word 13 n ws _ h e
 rear-back (rearAnd f r) ws rs h e =
     let b = and-yes (frontFits f) (rearFits r) h in
     rw append-assoc (decode-word (word 9 0) 9 0 (frontWords f ++ (rearWords r ++ ws)) _ (front-back f (rearWords r ++ ws) _ _ (b .0) (rear-back r ws rs (b .1) e)) refl refl)
@@ -156,7 +157,7 @@ fits v h = lt→ltb v operands h
 
 put-word : (k o : ℕ) (ts us : Trees) → getD kinds k noKind o ts ≡ some us → Put (word k o) o ts us
 unfolding kinds inputWord inputKind inputVariable outputWord outputKind outputNames number frontWords inputFits outputFits frontAll Firsts past
-put-word = every 13 (λ k. (o : ℕ) (ts us : Trees) → getD kinds k noKind o ts ≡ some us → Put (word k o) o ts us)
+put-word = every 14 (λ k. (o : ℕ) (ts us : Trees) → getD kinds k noKind o ts ≡ some us → Put (word k o) o ts us)
     ((λ o ts us e. absurd (none-some e))
     then put-input 1 contact (λ v. refl) fits
     then put-input 2 contactn (λ v. refl) fits
@@ -170,6 +171,7 @@ put-word = every 13 (λ k. (o : ℕ) (ts us : Trees) → getD kinds k noKind o t
     then put-rear-or
     then put-output 11 setCoil (λ v. refl) fits
     then put-output 12 resetCoil (λ v. refl) fits
+    then put-output 13 timer (λ v. refl) fits
     then tt)
     (λ k o ts us e. absurd (none-some e))
 

@@ -10,9 +10,11 @@ use mir.Facts.{and-yes}
 use Rattle.questions.specs.Tests.{all}
 use Rattle.questions.specs.Laws.Tests.{all-head, all-tail, all-second}
 use Rattle.table.specs.State.{State}
-use Rattle.table.specs.Laws.Alike.{Alike, value-alike, write-both, write-if-both, ScratchStays, scratch-self, scratch-both, scratch-written, scratch-if}
+use Rattle.table.specs.Questions.{timerBelow}
+use Rattle.table.specs.Laws.Timers.{same-below}
+use Rattle.table.specs.Laws.Alike.{Alike, value-alike, write-both, write-if-both, timer-both, ScratchStays, scratch-self, scratch-both, scratch-written, scratch-if, scratch-timer}
 use Rattle.rungs.specs.Records.{search}
-use Rattle.ladder_definitions.specs.Tree.{contact, contactn, Front, input, frontAnd, frontOr, Output, coil, coiln, jump, jumpn, setCoil, resetCoil, Rear, output, rearAnd, rearOr, Rung, Ladder, labels, frontAll, rearAll, rungAll, inputVariable, outputNames}
+use Rattle.ladder_definitions.specs.Tree.{contact, contactn, Front, input, frontAnd, frontOr, Output, coil, coiln, jump, jumpn, setCoil, resetCoil, timer, Rear, output, rearAnd, rearOr, Rung, Ladder, labels, frontAll, rearAll, rungAll, inputVariable, outputNames}
 use Rattle.ladder_definitions.specs.Meaning.{Worked, workInput, workFront, Run, onward, jumped, left, jumpIf, unlessJumped, runOutput, runRear, runRung, from, follow, LadderResult, scanFrom, scanLadder}
 use Rattle.ladder_definitions.specs.Questions.{inputBelow, namedBelow, outputBelow, rungBelow, joinScratch}
 
@@ -67,6 +69,7 @@ module _ (vars : ℕ) where
   output-alike (jumpn l) q s t b p = jump-alike (not q) l s t p
   output-alike (setCoil v) q s t b p = onwards (write-if-both p q v true (ltb→lt v vars b))
   output-alike (resetCoil v) q s t b p = onwards (write-if-both p q v false (ltb→lt v vars b))
+  output-alike (timer n) q s t b p = onwards (timer-both p n q)
 
   unless-alike : (x y : Run) (next : State → Run) → RunsAlike vars x y → ((s t : State) → Alike vars s t → RunsAlike vars (next s) (next t)) → RunsAlike vars (unlessJumped x next) (unlessJumped y next)
   unfolding unlessJumped
@@ -130,51 +133,61 @@ unfolding jumpIf left
 jump-stays true l s = scratch-self s
 jump-stays false l s = scratch-self s
 
-output-stays : (o : Output) (p : Bool) (s : State) → T (outputBelow (s .vars) o) → ScratchStays s (left (runOutput o p s))
+-- the variables of a state's timers are below V
+abbrev Timed : State → Type 0
+Timed s = T (all (timerBelow (s .vars)) (s .timers))
+
+still-timed : {s u : State} → ScratchStays s u → Timed s → Timed u
+still-timed {s} {u} h t = rw (same-below (u .vars) (u .timers) (s .timers) (h .same-timed), h .same-vars) t
+
+output-stays : (o : Output) (p : Bool) (s : State) → T (outputBelow (s .vars) o) → Timed s → ScratchStays s (left (runOutput o p s))
 unfolding runOutput outputBelow namedBelow outputNames left
-output-stays (coil v) p s b = scratch-written s v p (ltb→lt v (s .vars) b)
-output-stays (coiln v) p s b = scratch-written s v (not p) (ltb→lt v (s .vars) b)
-output-stays (jump l) p s b = jump-stays p l s
-output-stays (jumpn l) p s b = jump-stays (not p) l s
-output-stays (setCoil v) p s b = scratch-if s v p true (ltb→lt v (s .vars) b)
-output-stays (resetCoil v) p s b = scratch-if s v p false (ltb→lt v (s .vars) b)
+output-stays (coil v) p s b t = scratch-written s v p (ltb→lt v (s .vars) b)
+output-stays (coiln v) p s b t = scratch-written s v (not p) (ltb→lt v (s .vars) b)
+output-stays (jump l) p s b t = jump-stays p l s
+output-stays (jumpn l) p s b t = jump-stays (not p) l s
+output-stays (setCoil v) p s b t = scratch-if s v p true (ltb→lt v (s .vars) b)
+output-stays (resetCoil v) p s b t = scratch-if s v p false (ltb→lt v (s .vars) b)
+output-stays (timer n) p s b t = scratch-timer s n p t
 
 unless-stays : (s : State) (x : Run) (next : State → Run) → ScratchStays s (left x) → ((u : State) → ScratchStays s u → ScratchStays u (left (next u))) → ScratchStays s (left (unlessJumped x next))
 unfolding unlessJumped left
 unless-stays s (onward u) next h k = scratch-both h (k u h)
 unless-stays s (jumped l u) next h k = h
 
-rear-stays : (r : Rear) (p : Bool) (s : State) → T (rearBelow (s .vars) r) → ScratchStays s (left (runRear r p s))
+rear-stays : (r : Rear) (p : Bool) (s : State) → T (rearBelow (s .vars) r) → Timed s → ScratchStays s (left (runRear r p s))
 unfolding runRear rearAll
-rear-stays (output o) p s b = output-stays o p s b
-rear-stays (rearAnd f r) p s b =
+rear-stays (output o) p s b t = output-stays o p s b t
+rear-stays (rearAnd f r) p s b t =
     let h = front-stays f s in
-    scratch-both h (rear-stays r (p && workFront f s .power) (workFront f s .state) (rw (h .same-vars) (and-yes (frontBelow (s .vars) f) (rearBelow (s .vars) r) b .1)))
-rear-stays (rearOr a c) p s b =
+    scratch-both h (rear-stays r (p && workFront f s .power) (workFront f s .state) (rw (h .same-vars) (and-yes (frontBelow (s .vars) f) (rearBelow (s .vars) r) b .1)) (still-timed h t))
+rear-stays (rearOr a c) p s b t =
     let bb = and-yes (rearBelow (s .vars) a) (rearBelow (s .vars) c) b in
-    unless-stays s (runRear a p s) (λ u. runRear c p u) (rear-stays a p s (bb .0)) (λ u h. rear-stays c p u (rw (h .same-vars) (bb .1)))
+    unless-stays s (runRear a p s) (λ u. runRear c p u) (rear-stays a p s (bb .0) t) (λ u h. rear-stays c p u (rw (h .same-vars) (bb .1)) (still-timed h t))
 
-rung-stays : (g : Rung) (s : State) → T (rungBelow (s .vars) g) → ScratchStays s (left (runRung g s))
+rung-stays : (g : Rung) (s : State) → T (rungBelow (s .vars) g) → Timed s → ScratchStays s (left (runRung g s))
 unfolding runRung rungAll
-rung-stays g s b =
+rung-stays g s b t =
     let h = front-stays (g .front) s in
     scratch-both h (rear-stays (g .rear) (workFront (g .front) s .power) (workFront (g .front) s .state)
-    (rw (h .same-vars) (and-yes (frontBelow (s .vars) (g .front)) (rearBelow (s .vars) (g .rear)) b .1)))
+    (rw (h .same-vars) (and-yes (frontBelow (s .vars) (g .front)) (rearBelow (s .vars) (g .rear)) b .1)) (still-timed h t))
 
-scan-from-stays : (gs : Ladder) (n k : ℕ) (rest : Ladder) (s : State) → T (all (rungBelow (s .vars)) gs) → T (all (rungBelow (s .vars)) rest) → ScratchStays s (scanFrom gs n k rest s .state)
+scan-from-stays : (gs : Ladder) (n k : ℕ) (rest : Ladder) (s : State) → T (all (rungBelow (s .vars)) gs) → T (all (rungBelow (s .vars)) rest) → Timed s
+    → ScratchStays s (scanFrom gs n k rest s .state)
 unfolding scanFrom
-scan-from-stays gs zero k [] s b c = scratch-self s
-scan-from-stays gs zero k (g ∷ rest) s b c = scratch-self s
-scan-from-stays gs (suc n) k [] s b c = scratch-self s
-scan-from-stays gs (suc n) k (g ∷ rest) s b c =
+scan-from-stays gs zero k [] s b c t = scratch-self s
+scan-from-stays gs zero k (g ∷ rest) s b c t = scratch-self s
+scan-from-stays gs (suc n) k [] s b c t = scratch-self s
+scan-from-stays gs (suc n) k (g ∷ rest) s b c t =
     let x = runRung g s in
-    let h = rung-stays g s (all-head (rungBelow (s .vars)) g rest c) in
+    let h = rung-stays g s (all-head (rungBelow (s .vars)) g rest c) t in
     scratch-both h (scan-from-stays gs n (k + 1) (follow gs rest x) (left x) (rw (h .same-vars) b)
-    (rw (h .same-vars) (all-follow (rungBelow (s .vars)) gs rest x b (all-tail (rungBelow (s .vars)) g rest c))))
+    (rw (h .same-vars) (all-follow (rungBelow (s .vars)) gs rest x b (all-tail (rungBelow (s .vars)) g rest c))) (still-timed h t))
 
-pub scan-stays : (gs : Ladder) (n : ℕ) (s : State) → T (all (rungBelow (s .vars)) gs) → ScratchStays s (scanLadder gs n s .state)
+pub scan-stays : (gs : Ladder) (n : ℕ) (s : State) → T (all (rungBelow (s .vars)) gs) → T (all (timerBelow (s .vars)) (s .timers))
+    → ScratchStays s (scanLadder gs n s .state)
 unfolding scanLadder
-scan-stays gs n s b = scan-from-stays gs n 0 gs s b b
+scan-stays gs n s b t = scan-from-stays gs n 0 gs s b b t
 
 -- ---- a front joined takes at most one scratch byte more
 

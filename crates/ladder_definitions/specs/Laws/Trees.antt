@@ -12,7 +12,7 @@ use lib.ListN.{length, drop, getD, List·getD-eq-default}
 use lib.Seq.{drop-append-seam, drop-drop, getD-drop}
 use mir.Facts.{and-yes}
 use Rattle.rungs.specs.Words.{operands, word, numberOf, operandOf, isOperand}
-use Rattle.ladder_definitions.specs.Tree.{Input, contact, contactn, Front, input, frontAnd, frontOr, Output, coil, coiln, jump, jumpn, setCoil, resetCoil, Rear, output, rearAnd, rearOr, Rung, inputVariable, outputNames, number, frontAll, rearAll, rungAll}
+use Rattle.ladder_definitions.specs.Tree.{Input, contact, contactn, Front, input, frontAnd, frontOr, Output, coil, coiln, jump, jumpn, setCoil, resetCoil, timer, Rear, output, rearAnd, rearOr, Rung, inputVariable, outputNames, number, frontAll, rearAll, rungAll}
 use Rattle.ladder_definitions.specs.Kept.{inputKind, outputKind, inputWord, outputWord, KindSort, contactSort, joinedSort, outputSort, rearAndSort, rearOrSort, noSort, kindSorts, kindSort, frontWords, rearWords, rungWords, inputFits, outputFits}
 use Rattle.ladder_definitions.specs.Held.{FrontAt, RearAt, RungAt}
 use Rattle.ladder_definitions.specs.Roots.{frontKind, rearKind}
@@ -74,6 +74,7 @@ rear-kind-sort (output (jump l)) = refl
 rear-kind-sort (output (jumpn l)) = refl
 rear-kind-sort (output (setCoil v)) = refl
 rear-kind-sort (output (resetCoil v)) = refl
+rear-kind-sort (output (timer n)) = refl
 rear-kind-sort (rearAnd f r) = refl
 rear-kind-sort (rearOr a b) = refl
 
@@ -90,7 +91,7 @@ same-input : (i j : Input) → inputKind i ≡ inputKind j → inputVariable i �
 same-input i j k v = sym (input-told i) ∙ rw (k, v) (input-told j)
 
 outputBy : ℕ → ℕ → Output
-outputBy k o = getD (coil ∷ coil ∷ coil ∷ coil ∷ coil ∷ coil ∷ coiln ∷ jump ∷ jumpn ∷ coil ∷ coil ∷ setCoil ∷ resetCoil ∷ []) k coil o
+outputBy k o = getD (coil ∷ coil ∷ coil ∷ coil ∷ coil ∷ coil ∷ coiln ∷ jump ∷ jumpn ∷ coil ∷ coil ∷ setCoil ∷ resetCoil ∷ timer ∷ []) k coil o
 
 output-told : (o : Output) → outputBy (outputKind o) (number (outputNames o)) ≡ o
 unfolding outputBy outputKind outputNames number
@@ -100,6 +101,7 @@ output-told (jump l) = refl
 output-told (jumpn l) = refl
 output-told (setCoil v) = refl
 output-told (resetCoil v) = refl
+output-told (timer n) = refl
 
 pub same-output : (p q : Output) → outputKind p ≡ outputKind q → number (outputNames p) ≡ number (outputNames q) → p ≡ q
 same-output p q k o = sym (output-told p) ∙ rw (k, o) (output-told q)

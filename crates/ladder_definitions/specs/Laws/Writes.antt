@@ -8,12 +8,12 @@ use lib.Dec.{T, leb, leb→le}
 use lib.ListN.{length, length-append}
 use Rattle.questions.specs.Tests.{all}
 use Rattle.questions.specs.Laws.Tests.{all-head, all-tail}
-use Rattle.table.specs.State.{State}
+use Rattle.table.specs.State.{State, write}
 use Rattle.table.specs.Writes.{Write}
 use Rattle.table.specs.Laws.Legal.{LegalTable}
 use Rattle.table.specs.Laws.Changes.{makes-few}
-use Rattle.table.specs.Laws.Replaying.{makes, makes-append, makes-legal, write-if-makes, wrote-if-few}
-use Rattle.ladder_definitions.specs.Tree.{contact, contactn, Front, input, frontAnd, frontOr, Output, coil, coiln, jump, jumpn, setCoil, resetCoil, Rear, output, rearAnd, rearOr, Rung, Ladder}
+use Rattle.table.specs.Laws.Replaying.{untimed, makes, makes-append, makes-legal, write-if-makes, wrote-if-few, timer-makes, timer-few}
+use Rattle.ladder_definitions.specs.Tree.{contact, contactn, Front, input, frontAnd, frontOr, Output, coil, coiln, jump, jumpn, setCoil, resetCoil, timer, Rear, output, rearAnd, rearOr, Rung, Ladder}
 use Rattle.ladder_definitions.specs.Meaning.{workInput, workFront, Run, onward, jumped, left, jumpIf, unlessJumped, runOutput, runRear, runRung, follow, scanFrom, scanLadder}
 use Rattle.ladder_definitions.specs.Kept.{frontWords, rearWords, rungWords}
 use Rattle.ladder_definitions.specs.Questions.{mostRungWords}
@@ -34,36 +34,37 @@ unfolding jumpIf left
 jump-leaves true l s = refl
 jump-leaves false l s = refl
 
-pub output-makes : (o : Output) (p : Bool) (s : State) → left (runOutput o p s) ≡ makes (outputWrites o p) s
-unfolding runOutput outputWrites makes left
+pub output-makes : (o : Output) (p : Bool) (s : State) → untimed (left (runOutput o p s)) ≡ makes (outputWrites o p s) (untimed s)
+unfolding runOutput outputWrites makes left write
 output-makes (coil v) p s = refl
 output-makes (coiln v) p s = refl
-output-makes (jump l) p s = jump-leaves p l s
-output-makes (jumpn l) p s = jump-leaves (not p) l s
+output-makes (jump l) p s = ap untimed (jump-leaves p l s)
+output-makes (jumpn l) p s = ap untimed (jump-leaves (not p) l s)
 output-makes (setCoil v) p s = write-if-makes p s v true
 output-makes (resetCoil v) p s = write-if-makes p s v false
+output-makes (timer n) p s = timer-makes s n p
 
-unless-makes : (x : Run) (ws : List Write) (next : State → Run) (more : State → List Write) (s : State) → left x ≡ makes ws s
-    → ((u : State) → left (next u) ≡ makes (more u) u) → left (unlessJumped x next) ≡ makes (ws ++ unlessJumpedWrites x more) s
+unless-makes : (x : Run) (ws : List Write) (next : State → Run) (more : State → List Write) (s : State) → untimed (left x) ≡ makes ws (untimed s)
+    → ((u : State) → untimed (left (next u)) ≡ makes (more u) (untimed u)) → untimed (left (unlessJumped x next)) ≡ makes (ws ++ unlessJumpedWrites x more) (untimed s)
 unfolding unlessJumped unlessJumpedWrites left makes
-unless-makes (onward u) ws next more s e h = h u ∙ ap (makes (more u)) e ∙ sym (makes-append ws (more u) s)
-unless-makes (jumped l u) ws next more s e h = e ∙ sym (makes-append ws [] s)
+unless-makes (onward u) ws next more s e h = h u ∙ ap (makes (more u)) e ∙ sym (makes-append ws (more u) (untimed s))
+unless-makes (jumped l u) ws next more s e h = e ∙ sym (makes-append ws [] (untimed s))
 
-pub rear-makes : (r : Rear) (p : Bool) (s : State) → left (runRear r p s) ≡ makes (rearWrites r p s) s
+pub rear-makes : (r : Rear) (p : Bool) (s : State) → untimed (left (runRear r p s)) ≡ makes (rearWrites r p s) (untimed s)
 unfolding runRear rearWrites
 rear-makes (output o) p s = output-makes o p s
 rear-makes (rearAnd f r) p s =
     let w = workFront f s in
-    rear-makes r (p && w .power) (w .state) ∙ ap (makes (rearWrites r (p && w .power) (w .state))) (front-leaves f s)
+    rear-makes r (p && w .power) (w .state) ∙ ap (λ u. makes (rearWrites r (p && w .power) (w .state)) (untimed u)) (front-leaves f s)
 rear-makes (rearOr a b) p s = unless-makes (runRear a p s) (rearWrites a p s) (λ u. runRear b p u) (λ u. rearWrites b p u) s (rear-makes a p s) (λ u. rear-makes b p u)
 
-pub rung-makes : (g : Rung) (s : State) → left (runRung g s) ≡ makes (rungWrites g s) s
+pub rung-makes : (g : Rung) (s : State) → untimed (left (runRung g s)) ≡ makes (rungWrites g s) (untimed s)
 unfolding runRung rungWrites
 rung-makes g s =
     let w = workFront (g .front) s in
-    rear-makes (g .rear) (w .power) (w .state) ∙ ap (makes (rearWrites (g .rear) (w .power) (w .state))) (front-leaves (g .front) s)
+    rear-makes (g .rear) (w .power) (w .state) ∙ ap (λ u. makes (rearWrites (g .rear) (w .power) (w .state)) (untimed u)) (front-leaves (g .front) s)
 
-from-makes : (gs : Ladder) (n k : ℕ) (rest : Ladder) (s : State) → scanFrom gs n k rest s .state ≡ makes (writesFrom gs n rest s) s
+from-makes : (gs : Ladder) (n k : ℕ) (rest : Ladder) (s : State) → untimed (scanFrom gs n k rest s .state) ≡ makes (writesFrom gs n rest s) (untimed s)
 unfolding scanFrom writesFrom makes
 from-makes gs zero k [] s = refl
 from-makes gs zero k (g ∷ rest) s = refl
@@ -71,14 +72,14 @@ from-makes gs (suc n) k [] s = refl
 from-makes gs (suc n) k (g ∷ rest) s =
     let x = runRung g s in
     let later = writesFrom gs n (follow gs rest x) (left x) in
-    from-makes gs n (k + 1) (follow gs rest x) (left x) ∙ ap (makes later) (rung-makes g s) ∙ sym (makes-append (rungWrites g s) later s)
+    from-makes gs n (k + 1) (follow gs rest x) (left x) ∙ ap (makes later) (rung-makes g s) ∙ sym (makes-append (rungWrites g s) later (untimed s))
 
-pub ladder-makes : (gs : Ladder) (n : ℕ) (s : State) → scanLadder gs n s .state ≡ makes (ladderWrites gs n s) s
+pub ladder-makes : (gs : Ladder) (n : ℕ) (s : State) → untimed (scanLadder gs n s .state) ≡ makes (ladderWrites gs n s) (untimed s)
 unfolding scanLadder ladderWrites
 ladder-makes gs n s = from-makes gs n 0 gs s
 
 pub ladder-legal : (vars : ℕ) (gs : Ladder) (n : ℕ) (s : State) → LegalTable vars (s .bytes) → LegalTable vars (scanLadder gs n s .state .bytes)
-ladder-legal vars gs n s h = rw (ladder-makes gs n s) (makes-legal vars (ladderWrites gs n s) s h)
+ladder-legal vars gs n s h = rw (ap (λ t. t .bytes) (ladder-makes gs n s)) (makes-legal vars (ladderWrites gs n s) (untimed s) h)
 
 -- ---- how many they are
 
@@ -88,14 +89,15 @@ front-some (input i) = omega arith
 front-some (frontAnd f g) = omega arith
 front-some (frontOr f g) = omega arith
 
-output-few : (o : Output) (p : Bool) → length (outputWrites o p) ≤ 1
+output-few : (o : Output) (p : Bool) (s : State) → length (outputWrites o p s) ≤ 1
 unfolding outputWrites
-output-few (coil v) p = omega arith
-output-few (coiln v) p = omega arith
-output-few (jump l) p = omega arith
-output-few (jumpn l) p = omega arith
-output-few (setCoil v) p = wrote-if-few p v true
-output-few (resetCoil v) p = wrote-if-few p v false
+output-few (coil v) p s = omega arith
+output-few (coiln v) p s = omega arith
+output-few (jump l) p s = omega arith
+output-few (jumpn l) p s = omega arith
+output-few (setCoil v) p s = wrote-if-few p v true
+output-few (resetCoil v) p s = wrote-if-few p v false
+output-few (timer n) p s = timer-few s n p
 
 unless-few : (x : Run) (more : State → List Write) (most : ℕ) → ((u : State) → 2 * length (more u) ≤ most) → 2 * length (unlessJumpedWrites x more) ≤ most
 unfolding unlessJumpedWrites
@@ -105,7 +107,7 @@ unless-few (jumped l u) more most h = omega arith
 -- each output has a word, and a rear-or before each output but the first
 rear-few : (r : Rear) (p : Bool) (s : State) → 2 * length (rearWrites r p s) ≤ length (rearWords r) + 1
 unfolding rearWrites rearWords
-rear-few (output o) p s = let h = output-few o p in omega arith
+rear-few (output o) p s = let h = output-few o p s in omega arith
 rear-few (rearAnd f r) p s =
     let h = rear-few r (p && workFront f s .power) (workFront f s .state) in
     let k = length-append (frontWords f) (rearWords r) in
@@ -151,6 +153,6 @@ ladder-few gs n s b = let h = from-few gs n 0 gs s b b in omega arith
 pub ladder-moved : (gs : Ladder) (n : ℕ) (s : State) → T (all shortRung gs) → scanLadder gs n s .state .moved ≤ s .moved + mostRungWrites * scanLadder gs n s .rungs
 ladder-moved gs n s b =
     let few = ladder-few gs n s b in
-    let most = makes-few (ladderWrites gs n s) s in
+    let most = makes-few (ladderWrites gs n s) (untimed s) in
     let state = ap (λ t. t .moved) (ladder-makes gs n s) in
     omega arith

@@ -13,7 +13,7 @@ use borrow.Author.Tests.{eq-eqb, ne-eqb, le-leb}
 use Rattle.rungs.specs.Words.{numberOf, operandOf}
 use Rattle.rungs.specs.Records.{RungRecord}
 use Rattle.rungs.specs.Laws.Numbers.{Firsts, _then_, past, every}
-use Rattle.ladder_definitions.specs.Tree.{Input, contact, contactn, Front, frontAnd, frontOr, Output, coil, coiln, jump, jumpn, setCoil, resetCoil, Rung, Ladder}
+use Rattle.ladder_definitions.specs.Tree.{Input, contact, contactn, Front, frontAnd, frontOr, Output, coil, coiln, jump, jumpn, setCoil, resetCoil, timer, Rung, Ladder}
 use Rattle.ladder_definitions.specs.Kept.{Trees, trees, putInput, putFront, putOutput, putRearAnd, putRearOr, noKind, kinds, kindSorts, kindSort, decodeWords, oneRung, decodeRung, decodeFrom, decode}
 use Rattle.ladder_definitions.specs.Questions.{ladderOf, holdsLadder}
 use Rattle.ladder_kept.specs.Pending.{Pending, misplaced, pending, takeFront, splitFront, takeRear, frontRear, splitRear, pendingAfter, completes, holdsFrom}
@@ -92,7 +92,7 @@ rear-or-met (suc o) f r ts = refl
 -- a word is put before the trees that are pending after it, and before no others
 word-met : (k o f r : ℕ) (ts : Trees) → met (pendingAfter (kindSort k) o f r) ts ≡ decodedAs f r (getD kinds k noKind o ts)
 unfolding pendingAfter kindSort kindSorts kinds met decodedAs Firsts past
-word-met = every 13 (λ k. (o f r : ℕ) (ts : Trees) → met (pendingAfter (kindSort k) o f r) ts ≡ decodedAs f r (getD kinds k noKind o ts))
+word-met = every 14 (λ k. (o f r : ℕ) (ts : Trees) → met (pendingAfter (kindSort k) o f r) ts ≡ decodedAs f r (getD kinds k noKind o ts))
     ((λ o f r ts. refl)
     then input-met contact
     then input-met contactn
@@ -106,6 +106,7 @@ word-met = every 13 (λ k. (o f r : ℕ) (ts : Trees) → met (pendingAfter (kin
     then rear-or-met
     then output-met setCoil
     then output-met resetCoil
+    then output-met timer
     then tt)
     (λ k o f r ts. refl)
 

@@ -59,8 +59,12 @@ unfolding sortIn kindSort kindSorts
 returns-12 c = rw (c .match .keys12) refl
 
 returns-13 : tie.Need-returns-13
+unfolding sortIn kindSort kindSorts
+returns-13 c = rw (c .match .keys13) refl
+
+returns-14 : tie.Need-returns-14
 unfolding sortIn kindSorts noneTo
-returns-13 c = no-sort _ (λ l h. let past = past-all _ (length kindSorts - 1) (c .match .rest) l in omega arith)
+returns-14 c = no-sort _ (λ l h. let past = past-all _ (length kindSorts - 1) (c .match .rest) l in omega arith)
 
 pub sort-of-spec : {M : Type 1} → statement M
-sort-of-spec = tie.close (tie.spec returns returns-2 returns-3 returns-4 returns-5 returns-6 returns-7 returns-8 returns-9 returns-10 returns-11 returns-12 returns-13)
+sort-of-spec = tie.close (tie.spec returns returns-2 returns-3 returns-4 returns-5 returns-6 returns-7 returns-8 returns-9 returns-10 returns-11 returns-12 returns-13 returns-14)

@@ -9,7 +9,7 @@ use lib.ListN.{length, List·getD-eq-default}
 use borrow.Author.Tests.{ne-eqb}
 use Rattle.rungs.specs.Laws.Numbers.{Firsts, _then_, past, every}
 use Rattle.ladder_definitions.specs.Kept.{noSort, kindSorts, kindSort, nameSorts, nameSort}
-use Rattle.ladder_kinds.specs.Kinds.{namesVariable, namesLabel}
+use Rattle.ladder_kinds.specs.Kinds.{namesVariable, namesLabel, namesTimer}
 
 -- before the first kind and past the last there is no sort
 pub no-sort : (k : ℕ) → (1 ≤ k → k < length kindSorts → ⊥) → noSort ≡ kindSort k
@@ -26,8 +26,8 @@ variableTests k = eqb k 1 || eqb k 2 || eqb k 5 || eqb k 6 || eqb k 11 || eqb k 
 
 pub variable-tests : (k : ℕ) → variableTests k ≡ namesVariable k
 unfolding namesVariable nameSort nameSorts Firsts past
-variable-tests = every 13 (λ k. variableTests k ≡ namesVariable k) (refl then refl then refl then refl then refl then refl then refl then refl then refl then refl then refl then refl then refl then tt)
-    (λ k. let n = past 13 k in
+variable-tests = every 14 (λ k. variableTests k ≡ namesVariable k) (refl then refl then refl then refl then refl then refl then refl then refl then refl then refl then refl then refl then refl then refl then tt)
+    (λ k. let n = past 14 k in
     rw (
       ne-eqb n 1 (λ e. omega arith),
       ne-eqb n 2 (λ e. omega arith),
@@ -42,5 +42,10 @@ labelTests k = eqb k 7 || eqb k 8
 
 pub label-tests : (k : ℕ) → labelTests k ≡ namesLabel k
 unfolding namesLabel nameSort nameSorts Firsts past
-label-tests = every 13 (λ k. labelTests k ≡ namesLabel k) (refl then refl then refl then refl then refl then refl then refl then refl then refl then refl then refl then refl then refl then tt)
-    (λ k. let n = past 13 k in rw (ne-eqb n 7 (λ e. omega arith), ne-eqb n 8 (λ e. omega arith)) refl)
+label-tests = every 14 (λ k. labelTests k ≡ namesLabel k) (refl then refl then refl then refl then refl then refl then refl then refl then refl then refl then refl then refl then refl then refl then tt)
+    (λ k. let n = past 14 k in rw (ne-eqb n 7 (λ e. omega arith), ne-eqb n 8 (λ e. omega arith)) refl)
+
+pub timer-tests : (k : ℕ) → eqb k 13 ≡ namesTimer k
+unfolding namesTimer nameSort nameSorts Firsts past
+timer-tests = every 14 (λ k. eqb k 13 ≡ namesTimer k) (refl then refl then refl then refl then refl then refl then refl then refl then refl then refl then refl then refl then refl then refl then tt)
+    (λ k. let n = past 14 k in rw (ne-eqb n 13 (λ e. omega arith)) refl)

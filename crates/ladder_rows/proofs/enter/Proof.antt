@@ -19,14 +19,20 @@ enum-known-label c = search needs
 same-length : tie.Need-same-length
 same-length c = search needs
 
-returns : tie.Need-returns
-returns c = entered-onward _ _ _ _ _ (c .before .before .before .before .before .run-rung .ensures) _ _ (c .before .sum .given .1)
-
 same-length-2 : tie.Need-same-length-2
 same-length-2 c = search needs
 
+returns : tie.Need-returns
+returns c = entered-onward _ _ _ _ _ (c .before .before .before .before .before .before .before .run-rung .ensures) _ _ (c .before .sum .given .1)
+
+same-length-3 : tie.Need-same-length-3
+same-length-3 c = search needs
+
+same-length-4 : tie.Need-same-length-4
+same-length-4 c = search needs
+
 returns-2 : tie.Need-returns-2
-returns-2 c = entered-jumped _ _ _ _ _ (c .before .before .before .before .before .run-rung .ensures) _ _ (c .before .label .given .1)
+returns-2 c = entered-jumped _ _ _ _ _ (c .before .before .before .before .before .before .before .run-rung .ensures) _ _ (c .before .label .given .1)
 
 pub enter-spec : {M : Type 1} → statement M
 enter-spec =
@@ -37,6 +43,8 @@ enter-spec =
     enum-known-sum
     enum-known-label
     same-length
-    returns
     same-length-2
+    returns
+    same-length-3
+    same-length-4
     returns-2)

@@ -49,21 +49,21 @@ module _ (ws ls os : List ℕ) (s : State) (w : ℕ) (here : State) (entered run
   done : (gs : Ladder) → LadderHeld ws ls os gs → (x : LadderResult) → scanFrom gs (w - entered) entered (drop rung gs) here ≡ x → x ≡ scanLadder gs w s
   done gs held x e = sym e ∙ inv .same gs held
 
-  pub scan-ended : length ls ≤ rung → Scanned ws ls os s w (EndedCase (record { rungs = entered; moved = here .moved })) (here .bytes)
+  pub scan-ended : length ls ≤ rung → Scanned ws ls os s w (EndedCase (record { rungs = entered; moved = here .moved })) (here .bytes) (here .timers)
   unfolding scanFrom scanEnds ladderScannedAnswer
   scan-ended h = record {
     same = λ gs held.
         let m = many ws ls os gs held in
         let none : drop rung gs ≡ [] = drop-of-length-le gs {i = rung} (omega arith) in
         let e = done gs held (record { halt = Ended; rungs = entered; state = here }) (rw none (over gs (w - entered))) in
-        record { answer = ap (λ x. scanEnds x .answer) e; same-table = ap (λ x. scanEnds x .table) e };
+        record { answer = ap (λ x. scanEnds x .answer) e; same-table = ap (λ x. scanEnds x .table) e; same-timers = ap (λ x. scanEnds x .timers) e };
   }
     where
       over : (gs : Ladder) (n : ℕ) → scanFrom gs n entered [] here ≡ record { halt = Ended; rungs = entered; state = here }
       over gs zero = refl
       over gs (suc n) = refl
 
-  pub scan-stopped : rung < length ls → entered ≡ w → Scanned ws ls os s w (StoppedCase (record { rungs = entered; moved = here .moved })) (here .bytes)
+  pub scan-stopped : rung < length ls → entered ≡ w → Scanned ws ls os s w (StoppedCase (record { rungs = entered; moved = here .moved })) (here .bytes) (here .timers)
   unfolding scanFrom scanEnds ladderScannedAnswer
   scan-stopped h z = record {
     same = λ gs held.
@@ -71,7 +71,7 @@ module _ (ws ls os : List ℕ) (s : State) (w : ℕ) (here : State) (entered run
         let a = apart gs rung (omega arith) in
         let n : w - entered ≡ 0 = omega arith in
         let e = done gs held (record { halt = Stopped; rungs = entered; state = here }) (rw (n, a .here) refl) in
-        record { answer = ap (λ x. scanEnds x .answer) e; same-table = ap (λ x. scanEnds x .table) e };
+        record { answer = ap (λ x. scanEnds x .answer) e; same-table = ap (λ x. scanEnds x .table) e; same-timers = ap (λ x. scanEnds x .timers) e };
   }
 
   module _ (small : length ws ≤ mostWords) (h : rung < length ls) (z : entered ≡ w → ⊥) (start : ℕ) (at : start ≡ getD os rung 0) (r : Ran) (u : ℕ → State)

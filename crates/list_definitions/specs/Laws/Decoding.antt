@@ -10,7 +10,7 @@ use Rattle.questions.specs.Tests.{all}
 use Rattle.questions.specs.Laws.Tests.{none-some, all-head, all-tail, all-cons}
 use Rattle.rungs.specs.Words.{operands, word, numberOf, operandOf, isOperand}
 use Rattle.rungs.specs.Laws.Numbers.{Firsts, _then_, past, every}
-use Rattle.list_definitions.specs.Instruction.{Instr, LD, LDN, ST, STN, AND, ANDN, OR, ORN, XOR, XORN, NOT, JMP, JMPC, JMPCN, S, R, Operand, tableIndex, noOperand, instructionIndex, operand, operandFits, instrFits, opOf, operandNumber, instrWord, noOp, op, onlyNot, ops, decodeInstr, decodeCode}
+use Rattle.list_definitions.specs.Instruction.{Instr, LD, LDN, ST, STN, AND, ANDN, OR, ORN, XOR, XORN, NOT, JMP, JMPC, JMPCN, S, R, TON, Operand, tableIndex, noOperand, instructionIndex, timerNumber, operand, operandFits, instrFits, opOf, operandNumber, instrWord, noOp, op, onlyNot, ops, decodeInstr, decodeCode}
 
 pub decode-word : (k x : ℕ) → T (isOperand x) → decodeInstr (word k x) ≡ getD ops k noOp x
 unfolding decodeInstr
@@ -26,6 +26,7 @@ unfolding operandFits operandNumber
 number-small (tableIndex x) h = ltb→lt x operands h
 number-small noOperand h = omega arith
 number-small (instructionIndex j) h = ltb→lt j operands h
+number-small (timerNumber n) h = ltb→lt n operands h
 
 pub decode-instr : (i : Instr) → T (instrFits i) → decodeInstr (instrWord i) ≡ some i
 unfolding instrWord opOf operandNumber instrFits operand operandFits ops onlyNot
@@ -45,6 +46,7 @@ decode-instr (JMPC j) h = decode-word 13 j h
 decode-instr (JMPCN j) h = decode-word 14 j h
 decode-instr (S x) h = decode-word 15 x h
 decode-instr (R x) h = decode-word 16 x h
+decode-instr (TON n) h = decode-word 17 n h
 
 -- the instruction that an op makes of an operand
 record Made (k x : ℕ) (i : Instr) : Type 0 where
@@ -65,7 +67,7 @@ fit x h = lt→ltb x operands h
 
 made-by : (k x : ℕ) (i : Instr) → getD ops k noOp x ≡ some i → Made k x i
 unfolding ops instrWord opOf operandNumber instrFits operand operandFits Firsts past
-made-by = every 17 (λ k. (x : ℕ) (i : Instr) → getD ops k noOp x ≡ some i → Made k x i)
+made-by = every 18 (λ k. (x : ℕ) (i : Instr) → getD ops k noOp x ≡ some i → Made k x i)
     ((λ x i e. absurd (none-some e))
     then made 1 LD (λ y. refl) fit
     then made 2 LDN (λ y. refl) fit
@@ -83,6 +85,7 @@ made-by = every 17 (λ k. (x : ℕ) (i : Instr) → getD ops k noOp x ≡ some i
     then made 14 JMPCN (λ y. refl) fit
     then made 15 S (λ y. refl) fit
     then made 16 R (λ y. refl) fit
+    then made 17 TON (λ y. refl) fit
     then tt)
     (λ k x i e. absurd (none-some e))
 

@@ -11,13 +11,13 @@ use lib.Dec.{T, T-not, not-T, eqb, leb, leb→le, le→leb, eqb→eq}
 use lib.ListN.{length, getD, take, drop, replicate, length-take, length-drop, length-append}
 use lib.Seq.{drop-drop, drop-append-seam}
 use Rattle.questions.specs.Bytes.{bytes, sameBytes}
-use Rattle.questions.specs.Tests.{all}
+use Rattle.questions.specs.Tests.{all, different}
 use Rattle.questions.specs.Questions.{ask}
 use Rattle.questions.specs.Laws.Tests.{all-head, all-tail, all-getD}
 use Rattle.questions.specs.Laws.Answers.{ask-passed, passed-ask}
 use Rattle.questions.specs.Laws.Bytes.{same-refl, same-equal}
-use Rattle.list_definitions.specs.Instruction.{Instr, LD, LDN, ST, STN, AND, ANDN, OR, ORN, XOR, XORN, NOT, JMP, JMPC, JMPCN, S, R, opOf}
-use Rattle.list_definitions.specs.Names.{Names, trimmed, fixedNames, mostOp, nameBytes, namesFrom, namesIn, fixedTable, isCapital, isName, different, isNameTable, question14, IsName, IsNameTable}
+use Rattle.list_definitions.specs.Instruction.{Instr, LD, LDN, ST, STN, AND, ANDN, OR, ORN, XOR, XORN, NOT, JMP, JMPC, JMPCN, S, R, TON, opOf}
+use Rattle.list_definitions.specs.Names.{Names, trimmed, fixedNames, mostOp, nameBytes, namesFrom, namesIn, fixedTable, isCapital, isName, isNameTable, question14, IsName, IsNameTable}
 
 pub true→T : (b : Bool) → b ≡ true → T b
 true→T true e = tt
@@ -113,6 +113,7 @@ op-in-table (JMPC j) = omega arith
 op-in-table (JMPCN j) = omega arith
 op-in-table (S x) = omega arith
 op-in-table (R x) = omega arith
+op-in-table (TON n) = omega arith
 
 -- ---- the question, in plain words
 
@@ -159,21 +160,21 @@ name-is name h =
     rw (e, rest) (yes-and (leb 1 (length w)) _ (le→leb 1 _ (h .some-letter))
     (yes-and (all isCapital w) _ (get-all isCapital w 0 (λ i l. let c = h .capitals i l in yes-and (leb 65 (getD w i 0)) (leb (getD w i 0) 90) (le→leb 65 _ (c .0)) (le→leb _ 90 (c .1)))) (zeros-filled (h .filling))))
 
-different-apart : (names : Names) → T (different names) → (p q : ℕ) → p < q → q < length names → getD names p [] ≡ getD names q [] → ⊥
+different-apart : (names : Names) → T (different sameBytes names) → (p q : ℕ) → p < q → q < length names → getD names p [] ≡ getD names q [] → ⊥
 unfolding different
 different-apart [] h p q a l e = omega arith
 different-apart (name ∷ names) h p zero a l e = omega arith
 different-apart (name ∷ names) h zero (suc q) a l e =
-    let d = and-yes (all (λ other. not (sameBytes other name)) names) (different names) h in
+    let d = and-yes (all (λ other. not (sameBytes other name)) names) (different sameBytes names) h in
     T-not (sameBytes (getD names q []) name) (all-getD (λ other. not (sameBytes other name)) names q [] (omega arith) (d .0)) (rw (← e) (true→T _ (same-refl name)))
 different-apart (name ∷ names) h (suc p) (suc q) a l e =
-    different-apart names (and-yes (all (λ other. not (sameBytes other name)) names) (different names) h .1) p q (omega arith) (omega arith) e
+    different-apart names (and-yes (all (λ other. not (sameBytes other name)) names) (different sameBytes names) h .1) p q (omega arith) (omega arith) e
 
-apart-different : (names : Names) → ((p q : ℕ) → p < q → q < length names → getD names p [] ≡ getD names q [] → ⊥) → T (different names)
+apart-different : (names : Names) → ((p q : ℕ) → p < q → q < length names → getD names p [] ≡ getD names q [] → ⊥) → T (different sameBytes names)
 unfolding different
 apart-different [] h = tt
 apart-different (name ∷ names) h =
-    yes-and (all (λ other. not (sameBytes other name)) names) (different names)
+    yes-and (all (λ other. not (sameBytes other name)) names) (different sameBytes names)
     (get-all (λ other. not (sameBytes other name)) names []
     (λ i l. not-T (sameBytes (getD names i []) name) (λ t. h 0 (suc i) (omega arith) (omega arith) (sym (same-equal (getD names i []) name t)))))
     (apart-different names (λ p q a l e. h (suc p) (suc q) (omega arith) (omega arith) e))
@@ -182,8 +183,8 @@ pub accepted-table : (table : List ℕ) → question14 table ≡ none → IsName
 unfolding question14 isNameTable
 accepted-table table e =
     let names = namesIn table in
-    let x = and-yes (eqb (length table) (nameBytes * mostOp)) (all isName names && different names) (ask-passed 14 _ e) in
-    let y = and-yes (all isName names) (different names) (x .1) in
+    let x = and-yes (eqb (length table) (nameBytes * mostOp)) (all isName names && different sameBytes names) (ask-passed 14 _ e) in
+    let y = and-yes (all isName names) (different sameBytes names) (x .1) in
     let many = names-many mostOp table in
     record {
       six-bytes-an-op = eqb→eq _ _ (x .0);
@@ -196,8 +197,8 @@ unfolding question14 isNameTable
 table-accepted table h =
     let names = namesIn table in
     let many = names-many mostOp table in
-    passed-ask 14 _ (yes-and (eqb (length table) (nameBytes * mostOp)) (all isName names && different names) (true→T _ (eq-eqb _ _ (h .six-bytes-an-op)))
-    (yes-and (all isName names) (different names) (get-all isName names [] (λ i l. let k : i < mostOp = rw many at l in rw (name-at mostOp table i k) (name-is _ (h .each-a-name i k))))
+    passed-ask 14 _ (yes-and (eqb (length table) (nameBytes * mostOp)) (all isName names && different sameBytes names) (true→T _ (eq-eqb _ _ (h .six-bytes-an-op)))
+    (yes-and (all isName names) (different sameBytes names) (get-all isName names [] (λ i l. let k : i < mostOp = rw many at l in rw (name-at mostOp table i k) (name-is _ (h .each-a-name i k))))
     (apart-different names (λ p q a l e. let k : q < mostOp = rw many at l in h .none-repeats p q a k (sym (name-at mostOp table p (omega arith)) ∙ (e ∙ name-at mostOp table q k))))))
 
 -- ---- the fixed table

@@ -10,6 +10,7 @@ use Rattle.questions.specs.Questions.{Answer, Refusal, ask, firstNo, question1,
 use Rattle.questions.specs.Refusals.{refusalOf}
 use Rattle.questions.specs.declared.Refusal.{Refusal as RefusalCase}
 use Rattle.questions.specs.declared.Refusal.the-variants.{NameTable}
+use Rattle.table.specs.Timer.{Timer}
 use Rattle.rungs.specs.Records.{RungRecord}
 use Rattle.list_definitions.specs.Questions.{question10, listAnswer}
 use Rattle.list_definitions.specs.ListScan.{listOf, scanQuestions, callListScan, listScannedAnswer, ListScanDone}
@@ -40,14 +41,11 @@ unfolding firstNo question14 ask
 names-accepted table e later = rw e refl
 
 module _ (vars : ℕ) (ws : List ℕ) (rs : List RungRecord) where
-  pub scan-asked-list : (t : List ℕ) (w : ℕ) (r : Refusal) → listAnswer vars ws rs ≡ some r → scanQuestions vars ws rs t w ≡ some r
-  unfolding listAnswer scanQuestions
-  scan-asked-list t w r e = first-refused (question1 vars) (question10 vars ws rs) _ r e
-
-  pub scan-refuses : (t : List ℕ) (w : ℕ) (refusal : RefusalCase) (times : List ℕ) → scanQuestions vars ws rs t w ≡ some (refusalOf refusal)
-      → ListScanDone (callListScan vars ws rs t w) (ScanRefused refusal) t times times
+  pub scan-refuses : (t : List ℕ) (timers : List Timer) (now w : ℕ) (refusal : RefusalCase) (times : List ℕ) → scanQuestions vars ws rs t timers w ≡ some (refusalOf refusal)
+      → ListScanDone (callListScan vars ws rs t timers now w) (ScanRefused refusal) t timers times times
   unfolding callListScan listScannedAnswer
-  scan-refuses t w refusal times e = record { answer = rw (e, callListScan); same-table = rw (e, callListScan); same-times = rw (e, callListScan) }
+  scan-refuses t timers now w refusal times e =
+      record { answer = rw (e, callListScan); same-table = rw (e, callListScan); same-timers = rw (e, callListScan); same-times = rw (e, callListScan) }
 
   pub listing-unnamed : (table out : List ℕ) → isNameTable table ≡ false → ListingDone (listing table vars ws rs out) (Refused NameTable) out
   unfolding listing listedAnswer refusalOf

@@ -6,17 +6,17 @@ use mathlib.Core.Bool.{Bool, true, false}
 use mathlib.Core.Option.{Option, none, some}
 use mathlib.Core.List.{[], _++_}
 use lib.ListN.{length, getElem?, length-append}
-use Rattle.table.specs.State.{State}
+use Rattle.table.specs.State.{State, write}
 use Rattle.table.specs.Laws.Legal.{LegalTable}
 use Rattle.table.specs.Laws.Changes.{makes-few}
-use Rattle.table.specs.Laws.Replaying.{makes, makes-append, makes-vars, makes-legal, write-if-makes, wrote-if-few}
-use Rattle.list_definitions.specs.Instruction.{Instr, LD, LDN, ST, STN, AND, ANDN, OR, ORN, XOR, XORN, NOT, JMP, JMPC, JMPCN, S, R}
+use Rattle.table.specs.Laws.Replaying.{untimed, makes, makes-append, makes-vars, makes-legal, write-if-makes, wrote-if-few, timer-makes, timer-few}
+use Rattle.list_definitions.specs.Instruction.{Instr, LD, LDN, ST, STN, AND, ANDN, OR, ORN, XOR, XORN, NOT, JMP, JMPC, JMPCN, S, R, TON}
 use Rattle.list_definitions.specs.Machine.{InstructionList, Machine, does, count, step, halted, fresh, begin, scanMachine, scanList}
 use Rattle.list_definitions.specs.Writes.{instrWrites, writesFrom, listWrites}
 use Rattle.list_definitions.specs.Laws.Watchdog.{scan-end, scan-stop, scan-step}
 
-pub does-makes : (i : Instr) (v : Bool) (e : State) (pc : ℕ) → does i v e pc .state ≡ makes (instrWrites i v) e
-unfolding does instrWrites makes
+pub does-makes : (i : Instr) (v : Bool) (e : State) (pc : ℕ) → untimed (does i v e pc .state) ≡ makes (instrWrites i v e) (untimed e)
+unfolding does instrWrites makes write
 does-makes (LD x) v e pc = refl
 does-makes (LDN x) v e pc = refl
 does-makes (ST x) v e pc = refl
@@ -33,25 +33,27 @@ does-makes (JMPC j) v e pc = refl
 does-makes (JMPCN j) v e pc = refl
 does-makes (S x) v e pc = write-if-makes v e x true
 does-makes (R x) v e pc = write-if-makes v e x false
+does-makes (TON n) v e pc = timer-makes e n v
 
-instr-few : (i : Instr) (v : Bool) → length (instrWrites i v) ≤ 1
+instr-few : (i : Instr) (v : Bool) (e : State) → length (instrWrites i v e) ≤ 1
 unfolding instrWrites
-instr-few (LD x) v = omega arith
-instr-few (LDN x) v = omega arith
-instr-few (ST x) v = omega arith
-instr-few (STN x) v = omega arith
-instr-few (AND x) v = omega arith
-instr-few (ANDN x) v = omega arith
-instr-few (OR x) v = omega arith
-instr-few (ORN x) v = omega arith
-instr-few (XOR x) v = omega arith
-instr-few (XORN x) v = omega arith
-instr-few NOT v = omega arith
-instr-few (JMP j) v = omega arith
-instr-few (JMPC j) v = omega arith
-instr-few (JMPCN j) v = omega arith
-instr-few (S x) v = wrote-if-few v x true
-instr-few (R x) v = wrote-if-few v x false
+instr-few (LD x) v e = omega arith
+instr-few (LDN x) v e = omega arith
+instr-few (ST x) v e = omega arith
+instr-few (STN x) v e = omega arith
+instr-few (AND x) v e = omega arith
+instr-few (ANDN x) v e = omega arith
+instr-few (OR x) v e = omega arith
+instr-few (ORN x) v e = omega arith
+instr-few (XOR x) v e = omega arith
+instr-few (XORN x) v e = omega arith
+instr-few NOT v e = omega arith
+instr-few (JMP j) v e = omega arith
+instr-few (JMPC j) v e = omega arith
+instr-few (JMPCN j) v e = omega arith
+instr-few (S x) v e = wrote-if-few v x true
+instr-few (R x) v e = wrote-if-few v x false
+instr-few (TON n) v e = timer-few e n v
 
 module _ (l : InstructionList) where
   -- at the end nothing is written, and else what the instruction writes and then the rest
@@ -61,13 +63,13 @@ module _ (l : InstructionList) where
   writes-end (suc n) m t e = rw (e, writesFrom)
 
   writes-step : (n : ℕ) (m : Machine) (t : State) (i : Instr) → getElem? (l .code) (m .index) ≡ some i
-      → writesFrom l (suc n) m t ≡ instrWrites i (m .accumulator) ++ writesFrom l n (step (l .records) i m t .0) (step (l .records) i m t .1)
+      → writesFrom l (suc n) m t ≡ instrWrites i (m .accumulator) t ++ writesFrom l n (step (l .records) i m t .0) (step (l .records) i m t .1)
   unfolding writesFrom
   writes-step n m t i e = rw (e, writesFrom)
 
   -- the writes from the machine m and the state t on
   record Made (n : ℕ) (m : Machine) (t : State) : Type 0 where
-    state : scanMachine l n m t .state ≡ makes (writesFrom l n m t) t
+    state : untimed (scanMachine l n m t .state) ≡ makes (writesFrom l n m t) (untimed t)
     few : m .counts .instructions + length (writesFrom l n m t) ≤ scanMachine l n m t .counts .instructions
 
   made-end : (n : ℕ) (m : Machine) (t : State) → getElem? (l .code) (m .index) ≡ none → Made n m t
@@ -80,13 +82,13 @@ module _ (l : InstructionList) where
   made-step : (n : ℕ) (m : Machine) (t : State) (i : Instr) → getElem? (l .code) (m .index) ≡ some i → Made n (step (l .records) i m t .0) (step (l .records) i m t .1) → Made (suc n) m t
   unfolding step count
   made-step n m t i e ih =
-      let first = instrWrites i (m .accumulator) in
+      let first = instrWrites i (m .accumulator) t in
       let later = writesFrom l n (step (l .records) i m t .0) (step (l .records) i m t .1) in
-      let h = instr-few i (m .accumulator) in
+      let h = instr-few i (m .accumulator) t in
       let k = ih .few in
       record {
         state = rw (scan-step l n m t i e, writes-step n m t i e)
-            (ih .state ∙ ap (makes later) (does-makes i (m .accumulator) t (m .index)) ∙ sym (makes-append first later t));
+            (ih .state ∙ ap (makes later) (does-makes i (m .accumulator) t (m .index)) ∙ sym (makes-append first later (untimed t)));
         few = rw (scan-step l n m t i e, writes-step n m t i e, length-append first later) (omega arith);
       }
 
@@ -103,7 +105,7 @@ module _ (l : InstructionList) where
       go none e ih = made-end (suc n) m t e
       go (some i) e ih = made-step n m t i e (ih i)
 
-  pub list-makes : (w : ℕ) (s : State) → scanList l w s .state ≡ makes (listWrites l w s) s
+  pub list-makes : (w : ℕ) (s : State) → untimed (scanList l w s .state) ≡ makes (listWrites l w s) (untimed s)
   unfolding scanList listWrites
   list-makes w s = machine-made w (begin l) s .state
 
@@ -115,12 +117,12 @@ module _ (l : InstructionList) where
   pub list-moved : (w : ℕ) (s : State) → scanList l w s .state .moved ≤ s .moved + scanList l w s .counts .instructions
   list-moved w s =
       let few = list-few w s in
-      let most = makes-few (listWrites l w s) s in
+      let most = makes-few (listWrites l w s) (untimed s) in
       let state = ap (λ t. t .moved) (list-makes w s) in
       omega arith
 
   pub list-vars : (w : ℕ) (s : State) → scanList l w s .state .vars ≡ s .vars
-  list-vars w s = rw (list-makes w s) (makes-vars (listWrites l w s) s)
+  list-vars w s = ap (λ t. t .vars) (list-makes w s) ∙ makes-vars (listWrites l w s) (untimed s)
 
 pub list-legal : (vars : ℕ) (l : InstructionList) (w : ℕ) (s : State) → LegalTable vars (s .bytes) → LegalTable vars (scanList l w s .state .bytes)
-list-legal vars l w s h = rw (list-makes l w s) (makes-legal vars (listWrites l w s) s h)
+list-legal vars l w s h = rw (ap (λ t. t .bytes) (list-makes l w s)) (makes-legal vars (listWrites l w s) (untimed s) h)

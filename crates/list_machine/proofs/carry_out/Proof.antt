@@ -4,9 +4,9 @@ use mathlib.Core.Bool.{xor}
 use Rattle.table.specs.State.{valueAt, value}
 use Rattle.table.specs.Laws.Moved.{sum-few, sum-if-few}
 use Rattle.rungs.specs.Laws.Numbers.{noneTo}
-use Rattle.list_definitions.specs.Instruction.{LD, LDN, ST, STN, AND, ANDN, OR, ORN, XOR, XORN, JMP, JMPC, JMPCN, S, R, ops}
+use Rattle.list_definitions.specs.Instruction.{LD, LDN, ST, STN, AND, ANDN, OR, ORN, XOR, XORN, JMP, JMPC, JMPCN, S, R, TON, ops}
 use Rattle.list_definitions.specs.Machine.{does}
-use Rattle.list_machine.proofs.Steps.{arm, arm-keeps, arm-not, arm-other}
+use Rattle.list_machine.proofs.Steps.{arm, arm-keeps, arm-writes, ran-few, arm-not, arm-other}
 use borrow.Author.Needs.{needs}
 use Rattle.list_machine.proofs.carry_out.Statement.{statement}
 use Rattle.list_machine.proofs.carry_out.Tie as tie
@@ -104,8 +104,14 @@ write-if-requires-2 c κs = search needs
 after-requires-16 : tie.Need-after-requires-16
 after-requires-16 c κs = tt
 
+run-timer-requires : tie.Need-run-timer-requires
+run-timer-requires c κs = search needs
+
 after-requires-17 : tie.Need-after-requires-17
 after-requires-17 c κs = tt
+
+after-requires-18 : tie.Need-after-requires-18
+after-requires-18 c κs = tt
 
 same-length : tie.Need-same-length
 same-length c = search needs
@@ -126,14 +132,14 @@ same-length-3 c = search needs
 
 returns-3 : tie.Need-returns-3
 unfolding ops does
-returns-3 c = let wrote = c .before .before .before .write .ensures in arm (c .before .before .before .before .before .match .keys3) ST refl (c .after3 .ensures) (sum-few _ _ _ _ _ _ _ wrote) (λ pc q. rw (wrote, q))
+returns-3 c = let wrote = c .before .before .before .write .ensures in arm-writes (c .before .before .before .before .before .match .keys3) ST refl (c .after3 .ensures) wrote (sum-few _ _ _ _ _ _ _ wrote) (λ pc q. rw q refl)
 
 same-length-4 : tie.Need-same-length-4
 same-length-4 c = search needs
 
 returns-4 : tie.Need-returns-4
 unfolding ops does
-returns-4 c = let wrote = c .before .before .before .write2 .ensures in arm (c .before .before .before .before .before .match .keys4) STN refl (c .after4 .ensures) (sum-few _ _ _ _ _ _ _ wrote) (λ pc q. rw (wrote, q))
+returns-4 c = let wrote = c .before .before .before .write2 .ensures in arm-writes (c .before .before .before .before .before .match .keys4) STN refl (c .after4 .ensures) wrote (sum-few _ _ _ _ _ _ _ wrote) (λ pc q. rw q refl)
 
 same-length-5 : tie.Need-same-length-5
 same-length-5 c = search needs
@@ -197,18 +203,28 @@ same-length-11 c = search needs
 
 returns-15 : tie.Need-returns-15
 unfolding ops does
-returns-15 c = let wrote = c .before .before .before .write-if .ensures in arm (c .before .before .before .before .before .match .keys15) S refl (c .after15 .ensures) (sum-if-few _ _ _ _ _ _ _ _ wrote) (λ pc q. rw (wrote, q))
+returns-15 c = let wrote = c .before .before .before .write-if .ensures in arm-writes (c .before .before .before .before .before .match .keys15) S refl (c .after15 .ensures) wrote (sum-if-few _ _ _ _ _ _ _ _ wrote) (λ pc q. rw q refl)
 
 same-length-12 : tie.Need-same-length-12
 same-length-12 c = search needs
 
 returns-16 : tie.Need-returns-16
 unfolding ops does
-returns-16 c = let wrote = c .before .before .before .write-if2 .ensures in arm (c .before .before .before .before .before .match .keys16) R refl (c .after16 .ensures) (sum-if-few _ _ _ _ _ _ _ _ wrote) (λ pc q. rw (wrote, q))
+returns-16 c = let wrote = c .before .before .before .write-if2 .ensures in arm-writes (c .before .before .before .before .before .match .keys16) R refl (c .after16 .ensures) wrote (sum-if-few _ _ _ _ _ _ _ _ wrote) (λ pc q. rw q refl)
+
+same-length-13 : tie.Need-same-length-13
+same-length-13 c = search needs
+
+same-length-14 : tie.Need-same-length-14
+same-length-14 c = search needs
 
 returns-17 : tie.Need-returns-17
+unfolding ops does
+returns-17 c = let ran = c .before .before .before .before .before .run-timer .ensures in arm (c .before .before .before .before .before .before .before .before .match .keys17) TON refl (c .after17 .ensures) (ran-few _ _ _ _ _ _ _ _ _ _ ran) (λ pc q. rw (ran .same, q))
+
+returns-18 : tie.Need-returns-18
 unfolding ops noneTo
-returns-17 c = arm-other (c .before .match .rest) (c .after17 .ensures)
+returns-18 c = arm-other (c .before .match .rest) (c .after18 .ensures)
 
 pub carry-out-spec : {M : Type 1} → statement M
 carry-out-spec =
@@ -245,7 +261,9 @@ carry-out-spec =
     after-requires-15
     write-if-requires-2
     after-requires-16
+    run-timer-requires
     after-requires-17
+    after-requires-18
     same-length
     returns
     same-length-2
@@ -274,4 +292,7 @@ carry-out-spec =
     returns-15
     same-length-12
     returns-16
-    returns-17)
+    same-length-13
+    same-length-14
+    returns-17
+    returns-18)

@@ -17,17 +17,20 @@ add-carry-out c = search needs
 carry-out-requires : tie.Need-carry-out-requires
 carry-out-requires c κs = search needs
 
-add-t11 : tie.Need-add-t11
-add-t11 c = search needs
+add-t13 : tie.Need-add-t13
+add-t13 c = search needs
 
-add-t15 : tie.Need-add-t15
-add-t15 c = search needs
+add-t19 : tie.Need-add-t19
+add-t19 c = search needs
 
 same-length : tie.Need-same-length
 same-length c = search needs
 
+same-length-2 : tie.Need-same-length-2
+same-length-2 c = search needs
+
 returns : tie.Need-returns
-returns c = stepped _ _ _ _ _ _ refl (c .before .before .before .before .carry-out .ensures)
+returns c = stepped _ _ _ _ _ _ refl (c .before .before .before .before .before .before .carry-out .ensures)
 
 pub stepped-spec : {M : Type 1} → statement M
 stepped-spec =
@@ -37,7 +40,8 @@ stepped-spec =
     shared-slice-read-carry-out
     add-carry-out
     carry-out-requires
-    add-t11
-    add-t15
+    add-t13
+    add-t19
     same-length
+    same-length-2
     returns)

@@ -12,6 +12,7 @@ use lib.ListN.{length, getD, getElem?, length-map}
 use borrow.Author.Tests.{ltb-true, leb-true, leb-false, eqb-true, eqb-false}
 use Rattle.questions.specs.Tests.{bit, all}
 use Rattle.questions.specs.Laws.Tests.{all-head, all-tail, bit-few}
+use Rattle.table.specs.Timer.{Timer}
 use Rattle.table.specs.State.{State}
 use Rattle.rungs.specs.Records.{RungRecord, offsets, isStart, enter, noneEntered}
 use Rattle.list_definitions.specs.Instruction.{Instr, instrWord, instrFits, decodeInstr, decodeCode}
@@ -124,16 +125,16 @@ running-first ws os b at w e zeros = record {
 }
 
 module _ (ws os b : List ℕ) (s : State) (w : ℕ) (ts : List ℕ) (u : ℕ → State) (m : MachineStruct) (next : ℕ) (r : Running ws os b s w ts u m next) where
-  pub ran-ended : u (m .counts .moved) .moved ≡ m .counts .moved → length ws ≤ m .index → Ran ws os b s w (EndedCase (m .counts)) ts (u (m .counts .moved) .bytes)
+  pub ran-ended : u (m .counts .moved) .moved ≡ m .counts .moved → length ws ≤ m .index → Ran ws os b s w (EndedCase (m .counts)) ts (u (m .counts .moved) .bytes) (u (m .counts .moved) .timers)
   unfolding halted scanEnds countsIn listScannedAnswer machineCounts machineOf
   ran-ended sum h = record {
     same = λ l d o a.
         let e = sym (scan-end l (w - m .counts .instructions) (machineOf m ts) (u (m .counts .moved)) (at-end ws (l .code) d (m .index) h)) ∙ r .same l d o a in
-        record { answer = rw sum at (ap (λ x. scanEnds x .answer) e); same-table = ap (λ x. scanEnds x .table) e; same-times = ap (λ x. scanEnds x .times b) e };
+        record { answer = rw sum at (ap (λ x. scanEnds x .answer) e); same-table = ap (λ x. scanEnds x .table) e; same-timers = ap (λ x. scanEnds x .timers) e; same-times = ap (λ x. scanEnds x .times b) e };
   }
 
   pub ran-stopped : u (m .counts .moved) .moved ≡ m .counts .moved → m .index < length ws → m .counts .instructions ≡ w
-      → Ran ws os b s w (StoppedCase (m .counts)) ts (u (m .counts .moved) .bytes)
+      → Ran ws os b s w (StoppedCase (m .counts)) ts (u (m .counts .moved) .bytes) (u (m .counts .moved) .timers)
   unfolding halted scanEnds countsIn listScannedAnswer machineCounts machineOf
   ran-stopped sum h z = record {
     same = λ l d o a.
@@ -141,7 +142,7 @@ module _ (ws os b : List ℕ) (s : State) (w : ℕ) (ts : List ℕ) (u : ℕ →
         let n : w - m .counts .instructions ≡ 0 = omega arith in
         let stop = scan-stop l (machineOf m ts) (u (m .counts .moved)) (k .instr) (k .stands) in
         let e = sym stop ∙ (rw n at (r .same l d o a)) in
-        record { answer = rw sum at (ap (λ x. scanEnds x .answer) e); same-table = ap (λ x. scanEnds x .table) e; same-times = ap (λ x. scanEnds x .times b) e };
+        record { answer = rw sum at (ap (λ x. scanEnds x .answer) e); same-table = ap (λ x. scanEnds x .table) e; same-timers = ap (λ x. scanEnds x .timers) e; same-times = ap (λ x. scanEnds x .times b) e };
   }
 
   module _ (h : m .index < length ws) (z : m .counts .instructions ≡ w → ⊥) (m′ : MachineStruct) (ts′ : List ℕ) (u′ : ℕ → State)
@@ -281,21 +282,22 @@ module _ (ws os b : List ℕ) (s : State) (w : ℕ) (ts : List ℕ) (u : ℕ →
       omega arith
 
   -- the state has the machine's sum
-  pub standing-ends : u (m .counts .moved) .moved ≡ m .counts .moved → runsOn (length ws) w m ≡ false → Ran ws os b s w (haltedAt (length ws) m) ts (u (m .counts .moved) .bytes)
+  pub standing-ends : u (m .counts .moved) .moved ≡ m .counts .moved → runsOn (length ws) w m ≡ false → Ran ws os b s w (haltedAt (length ws) m) ts (u (m .counts .moved) .bytes) (u (m .counts .moved) .timers)
   unfolding haltedAt
   standing-ends sum off = go (leb (length ws) (m .index)) refl
     where
-      go : (q : Bool) → leb (length ws) (m .index) ≡ q → Ran ws os b s w (haltedAt (length ws) m) ts (u (m .counts .moved) .bytes)
+      go : (q : Bool) → leb (length ws) (m .index) ≡ q → Ran ws os b s w (haltedAt (length ws) m) ts (u (m .counts .moved) .bytes) (u (m .counts .moved) .timers)
       go true e = rw (e, haltedAt) (ran-ended ws os b s w ts u m (place .next) (standing .running) sum (leb-true _ _ e))
       go false e = rw (e, haltedAt)
           (ran-stopped ws os b s w ts u m (place .next) (standing .running) sum (leb-false _ _ e) (halts (length ws) w m off (leb-false _ _ e)))
 
 -- ---- a scan from zeros, over times entered of which any value is taken
 
-pub ran-over : (ws os before zeros : List ℕ) (s : State) (w : ℕ) (r : ListScanned) (after u : List ℕ) → Ran ws os zeros s w r after u → Ran ws os before s w r after u
+pub ran-over : (ws os before zeros : List ℕ) (s : State) (w : ℕ) (r : ListScanned) (after u : List ℕ) (ts : List Timer) → Ran ws os zeros s w r after u ts
+    → Ran ws os before s w r after u ts
 unfolding scanEnds
-ran-over ws os before zeros s w r after u ran = record {
+ran-over ws os before zeros s w r after u ts ran = record {
   same = λ l d o a.
       let done = ran .same l d o a in
-      record { answer = done .answer; same-table = done .same-table; same-times = done .same-times };
+      record { answer = done .answer; same-table = done .same-table; same-timers = done .same-timers; same-times = done .same-times };
 }

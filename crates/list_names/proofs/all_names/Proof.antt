@@ -2,7 +2,7 @@
 use native.Mathlib.Omega.{arith}
 use borrow.Author.Tests.{not-true, not-false}
 use Rattle.questions.specs.Tests.{all}
-use Rattle.list_definitions.specs.Names.{namesIn, isName}
+use Rattle.list_definitions.specs.Names.{mostOp, namesIn, isName}
 use Rattle.list_names.proofs.Tables.{Testing, testing-start, testing-stop, testing-more, testing-end}
 use Rattle.list_names.proofs.all_names.Statement.{statement}
 use Rattle.list_names.proofs.all_names.Tie as tie
@@ -14,7 +14,7 @@ abbrev μ-loop : tie.MeasureT-loop
 μ-loop table at₀ left₀ at left = left
 
 loop-holds : tie.Need-loop-holds Inv-loop μ-loop
-loop-holds c = testing-start _ _ 0 16 (omega (arith, c .before .pre))
+loop-holds c = testing-start _ _ 0 mostOp (omega (arith, c .before .pre))
 
 is-name-requires : tie.Need-is-name-requires Inv-loop μ-loop
 is-name-requires c κs = omega (arith, c .before .loop .inv .place, c .loop-test .taken)

@@ -1,8 +1,8 @@
 -- `list_names::put_fixed_names` meets its contract. The loop's invariant: the names from `op` on, over what is written, are the whole table. Assumes nothing.
-use Prim.Native.Nat.{_-_}
+use Prim.Native.Nat.{_+_, _-_}
 use native.Mathlib.Omega.{arith}
 use Rattle.questions.specs.Bytes.{bytes}
-use Rattle.list_definitions.specs.Names.{fixedNames}
+use Rattle.list_definitions.specs.Names.{fixedNames, mostOp}
 use Rattle.list_names.proofs.Fixed.{Filling, filling-start, filling-more, filling-end}
 use Rattle.list_names.proofs.put_fixed_names.Statement.{statement}
 use Rattle.list_names.proofs.put_fixed_names.Tie as tie
@@ -11,7 +11,7 @@ abbrev Inv-loop : tie.InvT-loop
 Inv-loop table₀ end₀ op₀ table end op = Filling table₀ table end op
 
 abbrev μ-loop : tie.MeasureT-loop
-μ-loop table₀ end₀ op₀ table end op = 17 - op
+μ-loop table₀ end₀ op₀ table end op = mostOp + 1 - op
 
 loop-holds : tie.Need-loop-holds Inv-loop μ-loop
 loop-holds c = filling-start _

@@ -23,8 +23,12 @@ unfolding sortIn
 returns-4 c = latch-tested _ (c .if4 .taken)
 
 returns-5 : tie.Need-returns-5
+unfolding sortIn operandSort ops operand sortOf
+returns-5 c = rw (c .if5 .taken) refl
+
+returns-6 : tie.Need-returns-6
 unfolding sortIn
-returns-5 c = none-tested _ (c .before .before .before .if1 .left) (c .before .before .if2 .left) (c .before .if3 .left) (c .if4 .left)
+returns-6 c = none-tested _ (c .before .before .before .before .if1 .left) (c .before .before .before .if2 .left) (c .before .before .if3 .left) (c .before .if4 .left) (c .if5 .left)
 
 pub operand-sort-spec : {M : Type 1} → statement M
-operand-sort-spec = tie.close (tie.spec returns returns-2 returns-3 returns-4 returns-5)
+operand-sort-spec = tie.close (tie.spec returns returns-2 returns-3 returns-4 returns-5 returns-6)

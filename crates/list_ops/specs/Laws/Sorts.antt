@@ -11,7 +11,7 @@ use borrow.Author.Tests.{le-leb}
 use mir.Facts.{and-yes}
 use Rattle.rungs.specs.Words.{numberOf, operandOf}
 use Rattle.rungs.specs.Laws.Numbers.{Firsts, _then_, past, every}
-use Rattle.list_definitions.specs.Instruction.{Instr, operand, noOp, onlyNot, ops, decodeInstr, OperandSort, tableSort, nothingSort, instructionSort, noSort, sortOf, operandSort}
+use Rattle.list_definitions.specs.Instruction.{Instr, operand, noOp, onlyNot, ops, decodeInstr, OperandSort, tableSort, nothingSort, instructionSort, timerSort, noSort, sortOf, operandSort}
 use Rattle.list_definitions.specs.Questions.{operandInRange, instrInRange, wordInRange}
 use Rattle.list_ops.specs.Sorts.{sortIn}
 use Rattle.list_ops.specs.declared.OperandSort.{OperandSort as OperandSortCase}
@@ -69,14 +69,14 @@ instruction-tested k e = let h = within-bounds 12 14 k e in instruction-sort k (
 pub latch-tested : (k : ℕ) → within 15 16 k ≡ true → tableSort ≡ operandSort k
 latch-tested k e = let h = within-bounds 15 16 k e in latch-sort k (h .0) (h .1)
 
-pub none-tested : (k : ℕ) → within 1 10 k ≡ false → (k ≡ 11 → ⊥) → within 12 14 k ≡ false → within 15 16 k ≡ false → noSort ≡ operandSort k
+pub none-tested : (k : ℕ) → within 1 10 k ≡ false → (k ≡ 11 → ⊥) → within 12 14 k ≡ false → within 15 16 k ≡ false → (k ≡ 17 → ⊥) → noSort ≡ operandSort k
 unfolding ops
-none-tested k a n b c = no-sort k (λ l h. go l h (decLe k 10) (decLe k 14))
+none-tested k a n b c t = no-sort k (λ l h. go l h (decLe k 10) (decLe k 14))
   where
     go : 1 ≤ k → k < length ops → Dec (k ≤ 10) → Dec (k ≤ 14) → ⊥
     go l h (yes p) d = without 1 10 k a l p
     go l h (no p) (yes q) = without 12 14 k b (omega (arith, n)) q
-    go l h (no p) (no q) = without 15 16 k c (omega arith) (omega arith)
+    go l h (no p) (no q) = without 15 16 k c (omega arith) (omega (arith, t))
 
 -- an answer that is known to be one case
 pub sort-told : {r x : OperandSortCase} {s : OperandSort} → sortIn r ≡ s → r ≡ x → sortIn x ≡ s
@@ -89,6 +89,7 @@ unfoldable pub sortInRange : ℕ → ℕ → OperandSort → ℕ → Bool
 sortInRange size n tableSort x = ltb x size
 sortInRange size n nothingSort x = eqb x 0
 sortInRange size n instructionSort x = leb x n
+sortInRange size n timerSort x = true
 sortInRange size n noSort x = false
 
 rangeBy : ℕ → ℕ → Option Instr → Bool
@@ -102,8 +103,8 @@ of-not size n (suc x) = sym (eqb·suc-zero x)
 
 of-op : (size n k x : ℕ) → rangeBy size n (getD ops k noOp x) ≡ sortInRange size n (operandSort k) x
 unfolding rangeBy sortInRange operandSort ops onlyNot operand sortOf operandInRange Firsts past
-of-op size n = every 17 (λ k. (x : ℕ) → rangeBy size n (getD ops k noOp x) ≡ sortInRange size n (operandSort k) x)
-    ((λ x. refl) then (λ x. refl) then (λ x. refl) then (λ x. refl) then (λ x. refl) then (λ x. refl) then (λ x. refl) then (λ x. refl) then (λ x. refl) then (λ x. refl) then (λ x. refl) then of-not size n then (λ x. refl) then (λ x. refl) then (λ x. refl) then (λ x. refl) then (λ x. refl) then tt)
+of-op size n = every 18 (λ k. (x : ℕ) → rangeBy size n (getD ops k noOp x) ≡ sortInRange size n (operandSort k) x)
+    ((λ x. refl) then (λ x. refl) then (λ x. refl) then (λ x. refl) then (λ x. refl) then (λ x. refl) then (λ x. refl) then (λ x. refl) then (λ x. refl) then (λ x. refl) then (λ x. refl) then of-not size n then (λ x. refl) then (λ x. refl) then (λ x. refl) then (λ x. refl) then (λ x. refl) then (λ x. refl) then tt)
     (λ k x. refl)
 
 pub word-by-sort : (size n w : ℕ) → wordInRange size n w ≡ sortInRange size n (operandSort (numberOf w)) (operandOf w)

@@ -3,7 +3,7 @@
 use Prim.Native.Nat.{_-_}
 use native.Mathlib.Omega.{arith}
 use lib.ListN.{length}
-use Rattle.list_definitions.specs.Names.{namesIn}
+use Rattle.list_definitions.specs.Names.{mostOp, namesIn}
 use Rattle.list_definitions.specs.Laws.Names.{name-short}
 use Rattle.list_printing.proofs.Printed.{Listing, listing-start, next-within, next-ready, listing-more, listing-end}
 use Rattle.list_printing.proofs.put_list.Statement.{statement}
@@ -50,7 +50,7 @@ loop-less : tie.Need-loop-less Inv-loop μ-loop
 loop-less c = omega arith
 
 loop-again : tie.Need-loop-again Inv-loop μ-loop
-loop-again c = listing-more (c .before .before .before .before .before .before .before .before .before .before .before .loop .inv) (c .before .before .before .before .before .before .before .before .before .before .loop-test .taken) (c .before .before .before .before .before .before .before .put-label .ensures) (omega (arith, c .before .before .before .before .before .before .before .before .shared-slice-known6 .given (c .before .before .before .before .before .before .before .before .before .before .before .loop .k))) (name-short 16 _) (c .before .before .put-rung .ensures)
+loop-again c = listing-more (c .before .before .before .before .before .before .before .before .before .before .before .loop .inv) (c .before .before .before .before .before .before .before .before .before .before .loop-test .taken) (c .before .before .before .before .before .before .before .put-label .ensures) (omega (arith, c .before .before .before .before .before .before .before .before .shared-slice-known6 .given (c .before .before .before .before .before .before .before .before .before .before .before .loop .k))) (name-short mostOp _) (c .before .before .put-rung .ensures)
 
 same-length : tie.Need-same-length Inv-loop μ-loop
 same-length c = c .before .loop .inv .left .long

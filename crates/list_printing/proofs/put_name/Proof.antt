@@ -3,7 +3,7 @@ use Prim.Native.Nat.{_-_}
 use native.Mathlib.Omega.{arith}
 use mathlib.Core.List.{[]}
 use lib.ListN.{getD}
-use Rattle.list_definitions.specs.Names.{nameOf, namesIn}
+use Rattle.list_definitions.specs.Names.{nameOf, mostOp, namesIn}
 use Rattle.list_definitions.specs.Laws.Names.{name-short}
 use Rattle.list_printing.proofs.Printed.{Naming, naming-start, naming-end, table-stop, table-more}
 use Rattle.list_printing.proofs.put_name.Statement.{statement}
@@ -22,7 +22,7 @@ mul-from : tie.Need-mul-from Inv-loop μ-loop
 mul-from c = omega arith
 
 loop-holds : tie.Need-loop-holds Inv-loop μ-loop
-loop-holds c = naming-start _ _ _ (name-short 16 _ (c .before .before .args .op - 1))
+loop-holds c = naming-start _ _ _ (name-short mostOp _ (c .before .before .args .op - 1))
 
 add-b : tie.Need-add-b Inv-loop μ-loop
 add-b c = omega arith

@@ -2,7 +2,7 @@
 use Rattle.printing.specs.Laws.Puts.{put-none, put-as}
 use Rattle.list_ops.specs.Sorts.{sortIn}
 use Rattle.list_ops.specs.Laws.Sorts.{sort-told}
-use Rattle.list_printing.proofs.Printed.{operand-none, operand-absent, operand-index, operand-variable, operand-scratch}
+use Rattle.list_printing.proofs.Printed.{operand-none, operand-absent, operand-index, operand-timer, operand-variable, operand-scratch}
 use borrow.Author.Needs.{needs}
 use Rattle.list_printing.proofs.put_operand.Statement.{statement}
 use Rattle.list_printing.proofs.put_operand.Tie as tie
@@ -41,6 +41,12 @@ put-index-requires-3 c κs = search needs
 enum-told-4 : tie.Need-enum-told-4
 enum-told-4 c = search needs
 
+put-index-requires-4 : tie.Need-put-index-requires-4
+put-index-requires-4 c κs = search needs
+
+enum-told-5 : tie.Need-enum-told-5
+enum-told-5 c = search needs
+
 same-length-2 : tie.Need-same-length-2
 same-length-2 c = search needs
 
@@ -59,9 +65,16 @@ returns-4 : tie.Need-returns-4
 unfolding sortIn
 returns-4 c = put-as (operand-index _ _ _ (sort-told (c .before .before .before .before .before .before .operand-sort .ensures) (c .before .before .before .before .enum-told3 .given .1))) (c .before .before .put-index3 .ensures)
 
+same-length-4 : tie.Need-same-length-4
+same-length-4 c = search needs
+
 returns-5 : tie.Need-returns-5
 unfolding sortIn
-returns-5 c = put-as (operand-absent _ _ _ (sort-told (c .before .before .operand-sort .ensures) (c .enum-told4 .given .1))) (put-none _ _)
+returns-5 c = put-as (operand-timer _ _ _ (sort-told (c .before .before .before .before .before .before .operand-sort .ensures) (c .before .before .before .before .enum-told4 .given .1))) (c .before .before .put-index4 .ensures)
+
+returns-6 : tie.Need-returns-6
+unfolding sortIn
+returns-6 c = put-as (operand-absent _ _ _ (sort-told (c .before .before .operand-sort .ensures) (c .enum-told5 .given .1))) (put-none _ _)
 
 pub put-operand-spec : {M : Type 1} → statement M
 put-operand-spec =
@@ -78,9 +91,13 @@ put-operand-spec =
     enum-told-3
     put-index-requires-3
     enum-told-4
+    put-index-requires-4
+    enum-told-5
     same-length-2
     returns-2
     returns-3
     same-length-3
     returns-4
-    returns-5)
+    same-length-4
+    returns-5
+    returns-6)

@@ -2,7 +2,7 @@
 -- Assumes nothing.
 use Prim.Native.Nat.{_-_}
 use native.Mathlib.Omega.{arith}
-use Rattle.list_definitions.specs.Names.{namesIn}
+use Rattle.list_definitions.specs.Names.{mostOp, namesIn}
 use Rattle.list_definitions.specs.Laws.Names.{name-short}
 use Rattle.list_printing.proofs.Printed.{Printing, printing-start, printing-more, printing-end}
 use Rattle.list_printing.proofs.put_rung.Statement.{statement}
@@ -33,7 +33,7 @@ loop-less : tie.Need-loop-less Inv-loop μ-loop
 loop-less c = omega arith
 
 loop-again : tie.Need-loop-again Inv-loop μ-loop
-loop-again c = printing-more (c .before .before .before .before .before .before .loop .inv) (name-short 16 _) (c .before .before .before .before .before .before .before .before .before .before .pre .0 .within) (c .before .before .before .before .before .loop-test .taken) (c .before .before .put-instruction .ensures)
+loop-again c = printing-more (c .before .before .before .before .before .before .loop .inv) (name-short mostOp _) (c .before .before .before .before .before .before .before .before .before .before .pre .0 .within) (c .before .before .before .before .before .loop-test .taken) (c .before .before .put-instruction .ensures)
 
 same-length : tie.Need-same-length Inv-loop μ-loop
 same-length c = c .before .loop .inv .left .long

@@ -23,6 +23,9 @@ enum-told-3 c = search needs
 enum-told-4 : tie.Need-enum-told-4
 enum-told-4 c = search needs
 
+enum-told-5 : tie.Need-enum-told-5
+enum-told-5 c = search needs
+
 returns : tie.Need-returns
 unfolding sortIn sortInRange
 returns c = word-told (c .before .before .before .args .size) (c .before .before .before .args .n) (c .before .before .before .args .word) (c .before .before .operand-sort .ensures) (c .enum-told .given .1)
@@ -39,6 +42,10 @@ returns-4 : tie.Need-returns-4
 unfolding sortIn sortInRange
 returns-4 c = word-told (c .before .before .before .args .size) (c .before .before .before .args .n) (c .before .before .before .args .word) (c .before .before .operand-sort .ensures) (c .enum-told4 .given .1)
 
+returns-5 : tie.Need-returns-5
+unfolding sortIn sortInRange
+returns-5 c = word-told (c .before .before .before .args .size) (c .before .before .before .args .n) (c .before .before .before .args .word) (c .before .before .operand-sort .ensures) (c .enum-told5 .given .1)
+
 pub word-in-range-spec : {M : Type 1} → statement M
 word-in-range-spec =
     tie.close
@@ -49,7 +56,9 @@ word-in-range-spec =
     enum-told-2
     enum-told-3
     enum-told-4
+    enum-told-5
     returns
     returns-2
     returns-3
-    returns-4)
+    returns-4
+    returns-5)

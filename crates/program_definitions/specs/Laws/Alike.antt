@@ -11,19 +11,22 @@ use Rattle.questions.specs.Laws.Bytes.{same-refl}
 use Rattle.questions.specs.Bytes.{bytes, decimal}
 use Rattle.questions.specs.Questions.{Refusal}
 use Rattle.table.specs.Halt.{Halt, Ended, Stopped}
+use Rattle.table.specs.Timer.{Timer}
+use Rattle.table.specs.TimerRecords.{timerNumbers, timersIn}
+use Rattle.table.specs.Laws.TimerRecords.{numbers-back}
 use Rattle.table.specs.State.{variables}
 use Rattle.ladder_definitions.specs.Kept.{Kept}
 use Rattle.ladder_definitions.specs.Questions.{mostRungs, mostWords}
 use Rattle.text_definitions.specs.Read.{ReadAnswer, readText, kept, refused as readRefused}
 use Rattle.list_definitions.specs.ListScan.{ListCounts, ListScanAnswer, scanned as listScanned}
-use Rattle.translation_definitions.specs.BothScans.{BothEnds, Lent, BothAnswer, both, pairedScans, refused as scansRefused}
+use Rattle.translation_definitions.specs.BothScans.{BothEnds, Lent, BothAnswer, BothCall, both, pairedScans, refused as scansRefused}
 use Rattle.translation_definitions.specs.BothAgree.{PairedAgree}
-use Rattle.translation_definitions.specs.Laws.Boths.{both-given}
+use Rattle.translation_definitions.specs.Laws.Boths.{both-left, both-given, asked-yes, both-scanned}
 use Rattle.translation_definitions.specs.Theorems.{paired-agree}
 use Rattle.program_definitions.specs.Refusals.{refusalLine}
 use Rattle.program_definitions.specs.Outcome.{outputOf}
 use Rattle.program_definitions.specs.Printout.{blank}
-use Rattle.program_definitions.specs.Scanout.{endWord, scanCountLines, endLines, enteredLine, enteredLines, changedLine, changedLines, Verdict, alike, bothStopped, alikeIf, verdict, verdictLine, reportOf, reportLines, lentFor, keptScanned, textScanned, outcome, output}
+use Rattle.program_definitions.specs.Scanout.{endWord, scanCountLines, endLines, enteredLine, enteredLines, changedLine, changedLines, timerText, timerLine, sameTimer, timerLines, Verdict, alike, bothStopped, alikeIf, verdict, verdictLine, reportOf, reportLines, lentFor, keptScanned, textScanned, restScanned, outcome, output}
 
 -- ---- the verdict
 
@@ -31,28 +34,41 @@ same-scan : {h g : Halt} {c d : ListCounts} → _≡_ {A = ListScanAnswer} (list
 same-scan e = (cc, cc)
 
 -- how both halted, and the verdict
-pub data Verdicts (e : BothEnds) (l t : List ℕ) : Type 0 where
-  bothEnded : e .ladderHalt ≡ Ended → e .listHalt ≡ Ended → verdict e l t ≡ alike → Verdicts e l t
-  stoppedBoth : e .ladderHalt ≡ Stopped → e .listHalt ≡ Stopped → verdict e l t ≡ bothStopped → Verdicts e l t
+pub data Verdicts (e : BothEnds) (l t m u : List ℕ) : Type 0 where
+  bothEnded : e .ladderHalt ≡ Ended → e .listHalt ≡ Ended → verdict e l t m u ≡ alike → Verdicts e l t m u
+  stoppedBoth : e .ladderHalt ≡ Stopped → e .listHalt ≡ Stopped → verdict e l t m u ≡ bothStopped → Verdicts e l t m u
 
-module _ (vars : ℕ) (k : Kept) (table : List ℕ) (n : ℕ) (e : BothEnds) (q : pairedScans vars k table (lentFor table) n .answer ≡ both e) where
-  agree : PairedAgree vars k table (lentFor table .buffers) n (pairedScans vars k table (lentFor table) n .answer) (pairedScans vars k table (lentFor table) n .lent)
-  agree = paired-agree vars k table (lentFor table) n (both-given vars k table (lentFor table) n _ e q .0)
+module _ (vars : ℕ) (k : Kept) (table timers : List ℕ) (now n : ℕ) (e : BothEnds) (q : pairedScans vars k table timers now (lentFor table timers) n .answer ≡ both e) where
+  abbrev after : Lent
+  after = pairedScans vars k table timers now (lentFor table timers) n .lent
+
+  agree : PairedAgree vars k table timers now (lentFor table timers .buffers) n (pairedScans vars k table timers now (lentFor table timers) n .answer) after
+  agree = paired-agree vars k table timers now (lentFor table timers) n (both-given vars k table timers now (lentFor table timers) n _ e q .0)
 
   same-ends : agree .ran .ends ≡ e
   same-ends = let z : both (agree .ran .ends) ≡ both e = sym (agree .ran .answered) ∙ q in cc
 
+  -- the numbers that both scans left are those of the records that they left
+  numbers-left : (after .ladderTimers ≡ timerNumbers (timersIn (after .ladderTimers))) × (after .listTimers ≡ timerNumbers (timersIn (after .listTimers)))
+  unfolding both-left
+  numbers-left =
+      let given = both-given vars k table timers now (lentFor table timers) n _ e q in
+      let left = ap (λ (c : BothCall). c .lent) (both-scanned vars k table timers now (lentFor table timers) n _ (asked-yes vars k table timers now (lentFor table timers) n (given .0) _ (given .1))) in
+      let ladder = ap (λ (x : Lent). x .ladderTimers) left in
+      let list = ap (λ (x : Lent). x .listTimers) left in
+      (ladder ∙ sym (ap timerNumbers (ap timersIn ladder ∙ numbers-back _)), list ∙ sym (ap timerNumbers (ap timersIn list ∙ numbers-back _)))
+
   abbrev l : List ℕ
-  l = take vars (pairedScans vars k table (lentFor table) n .lent .ladderTable)
+  l = take vars (after .ladderTable)
 
   abbrev t : List ℕ
-  t = take vars (pairedScans vars k table (lentFor table) n .lent .listTable)
+  t = take vars (after .listTable)
 
-  pub verdicts : Verdicts e l t
+  pub verdicts : Verdicts e l t (after .ladderTimers) (after .listTimers)
   unfolding verdict alikeIf variables
   verdicts = go (e .ladderHalt) refl
     where
-      go : (h : Halt) → e .ladderHalt ≡ h → Verdicts e l t
+      go : (h : Halt) → e .ladderHalt ≡ h → Verdicts e l t (after .ladderTimers) (after .listTimers)
       go Ended p =
           let x = agree .ended (ap (λ (d : BothEnds). d .ladderHalt) same-ends ∙ p) in
           let y = same-scan (x .ended) in
@@ -62,8 +78,18 @@ module _ (vars : ℕ) (k : Kept) (table : List ℕ) (n : ℕ) (e : BothEnds) (q 
           let z = agree .same-sum (ap (λ (d : BothEnds). d .ladderHalt) same-ends ∙ p) in
           let moved : e .list .moved ≡ e .ladder .moved =
           sym (ap (λ (d : BothEnds). d .list .moved) same-ends) ∙ ap (λ (c : ListCounts). c .moved) (same-scan (z .ended) .1) ∙ z .same ∙ ap (λ (d : BothEnds). d .ladder .moved) same-ends in
+          let records : after .ladderTimers ≡ after .listTimers = numbers-left .0 ∙ ap timerNumbers (x .same .same-timers) ∙ sym (numbers-left .1) in
           bothEnded p halt
-          (rw (p, halt, eq-eqb (e .ladder .rungs) (e .list .rungs) (sym rungs), eq-eqb (e .ladder .moved) (e .list .moved) (sym moved), x .same .same-variables, same-refl t) refl)
+          (rw (
+            p,
+            halt,
+            eq-eqb (e .ladder .rungs) (e .list .rungs) (sym rungs),
+            eq-eqb (e .ladder .moved) (e .list .moved) (sym moved),
+            x .same .same-variables,
+            same-refl t,
+            records,
+            same-refl (after .listTimers),
+          ) refl)
       go Stopped p =
           let x = agree .stopped (ap (λ (d : BothEnds). d .ladderHalt) same-ends ∙ p) in
           let halt : e .listHalt ≡ Stopped = sym (ap (λ (d : BothEnds). d .listHalt) same-ends) ∙ same-scan (x .stopped) .0 in
@@ -113,9 +139,24 @@ lines-end v (b ∷ bs) (l ∷ ls) (t ∷ ts) xs e =
     let line : List ℕ = elim (eqb l b && eqb t b) [ true ↦ [] | false ↦ changedLine v b l t ] in
     rw (← (append-assoc xs line (changedLines (suc v) bs ls ts))) (lines-end (suc v) bs ls ts (xs ++ line) (maybe-ends xs e (changed-ends v b l t) (eqb l b && eqb t b)))
 
+timer-ends : (n : ℕ) (b l t : Timer) → EndsLine (timerLine n b l t)
+unfolding timerLine
+timer-ends n b l t =
+    ends-after (bytes "d") (ends-after (decimal n) (ends-after (bytes " ") (ends-after (timerText b) (ends-after (bytes ">") (ends-after (timerText l)
+    (ends-after (bytes " ") (ends-after (timerText b) (ends-after (bytes ">") (ends-after (timerText t) ends-self)))))))))
+
+timers-end : (n : ℕ) (bs ls ts : List Timer) (xs : List ℕ) → EndsLine xs → EndsLine (xs ++ timerLines n bs ls ts)
+unfolding timerLines
+timers-end n [] ls ts xs e = rw (append-nil xs) e
+timers-end n (b ∷ bs) [] ts xs e = rw (append-nil xs) e
+timers-end n (b ∷ bs) (l ∷ ls) [] xs e = rw (append-nil xs) e
+timers-end n (b ∷ bs) (l ∷ ls) (t ∷ ts) xs e =
+    let line : List ℕ = elim (sameTimer l b && sameTimer t b) [ true ↦ [] | false ↦ timerLine n b l t ] in
+    rw (← (append-assoc xs line (timerLines (suc n) bs ls ts))) (timers-end (suc n) bs ls ts (xs ++ line) (maybe-ends xs e (timer-ends n b l t) (sameTimer l b && sameTimer t b)))
+
 -- ---- the report in literal bytes
 
-module _ (vars : ℕ) (table : List ℕ) (e : BothEnds) (after : Lent) where
+module _ (vars : ℕ) (table before : List ℕ) (e : BothEnds) (after : Lent) where
   abbrev ladderLeft : List ℕ
   ladderLeft = take vars (after .ladderTable)
 
@@ -138,18 +179,22 @@ module _ (vars : ℕ) (table : List ℕ) (e : BothEnds) (after : Lent) where
   abbrev changed : List ℕ
   changed = changedLines 0 (take vars table) ladderLeft listLeft
 
-  lines : EndsLine ((counts ++ entered) ++ changed)
-  lines = lines-end 0 (take vars table) ladderLeft listLeft (counts ++ entered) (entered-end _ _ counts counts-end)
+  abbrev worked : List ℕ
+  worked = timerLines 0 (timersIn before) (timersIn (after .ladderTimers)) (timersIn (after .listTimers))
+
+  lines : EndsLine (((counts ++ entered) ++ changed) ++ worked)
+  lines = timers-end 0 (timersIn before) (timersIn (after .ladderTimers)) (timersIn (after .listTimers)) ((counts ++ entered) ++ changed)
+      (lines-end 0 (take vars table) ladderLeft listLeft (counts ++ entered) (entered-end _ _ counts counts-end))
 
   -- what stands between the line of ends and the verdict
   pub middle : List ℕ
   middle = lines .before
 
-  joined : (head last : List ℕ) → head ++ (counts ++ (entered ++ (changed ++ last))) ≡ head ++ (middle ++ (bytes "\n" ++ last))
+  joined : (head last : List ℕ) → head ++ (counts ++ (entered ++ (changed ++ (worked ++ last)))) ≡ head ++ (middle ++ (bytes "\n" ++ last))
   unfolding middle
   joined head last =
-      ap (λ z. head ++ z) (sym (append-assoc counts entered (changed ++ last)) ∙ sym (append-assoc (counts ++ entered) changed last)
-      ∙ ap (λ z. z ++ last) (lines .is) ∙ append-assoc (lines .before) (bytes "\n") last)
+      ap (λ z. head ++ z) (sym (append-assoc counts entered (changed ++ (worked ++ last))) ∙ sym (append-assoc (counts ++ entered) changed (worked ++ last))
+      ∙ sym (append-assoc ((counts ++ entered) ++ changed) worked last) ∙ ap (λ z. z ++ last) (lines .is) ∙ append-assoc (lines .before) (bytes "\n") last)
 
   ended-lines : e .ladderHalt ≡ Ended → e .listHalt ≡ Ended → endLines e ≡ bytes "scan ladder list\nend Ended Ended\n" ++ counts
   unfolding endLines endWord bytes
@@ -159,20 +204,21 @@ module _ (vars : ℕ) (table : List ℕ) (e : BothEnds) (after : Lent) where
   unfolding endLines endWord bytes
   stopped-lines p q = rw (p, q) refl
 
-  report-is : (head : List ℕ) (x : Verdict) → endLines e ≡ head ++ counts → verdict e ladderLeft listLeft ≡ x
-      → reportLines vars table e after ≡ head ++ (middle ++ (bytes "\n" ++ verdictLine x))
+  report-is : (head : List ℕ) (x : Verdict) → endLines e ≡ head ++ counts → verdict e ladderLeft listLeft (after .ladderTimers) (after .listTimers) ≡ x
+      → reportLines vars table before e after ≡ head ++ (middle ++ (bytes "\n" ++ verdictLine x))
   unfolding reportLines reportOf
   report-is head x p v =
-      ap (λ z. z ++ (entered ++ (changed ++ verdictLine (verdict e ladderLeft listLeft)))) p ∙ ap (λ y. (head ++ counts) ++ (entered ++ (changed ++ verdictLine y))) v
-      ∙ append-assoc head counts (entered ++ (changed ++ verdictLine x)) ∙ joined head (verdictLine x)
+      ap (λ z. z ++ (entered ++ (changed ++ (worked ++ verdictLine (verdict e ladderLeft listLeft (after .ladderTimers) (after .listTimers)))))) p
+      ∙ ap (λ y. (head ++ counts) ++ (entered ++ (changed ++ (worked ++ verdictLine y)))) v
+      ∙ append-assoc head counts (entered ++ (changed ++ (worked ++ verdictLine x))) ∙ joined head (verdictLine x)
 
-  pub ended-report : e .ladderHalt ≡ Ended → e .listHalt ≡ Ended → verdict e ladderLeft listLeft ≡ alike
-      → reportLines vars table e after ≡ bytes "scan ladder list\nend Ended Ended\n" ++ (middle ++ bytes "\nalike\n")
+  pub ended-report : e .ladderHalt ≡ Ended → e .listHalt ≡ Ended → verdict e ladderLeft listLeft (after .ladderTimers) (after .listTimers) ≡ alike
+      → reportLines vars table before e after ≡ bytes "scan ladder list\nend Ended Ended\n" ++ (middle ++ bytes "\nalike\n")
   unfolding verdictLine bytes
   ended-report p q v = report-is (bytes "scan ladder list\nend Ended Ended\n") alike (ended-lines p q) v
 
-  pub stopped-report : e .ladderHalt ≡ Stopped → e .listHalt ≡ Stopped → verdict e ladderLeft listLeft ≡ bothStopped
-      → reportLines vars table e after ≡ bytes "scan ladder list\nend Stopped Stopped\n" ++ (middle ++ bytes "\nboth stopped\n")
+  pub stopped-report : e .ladderHalt ≡ Stopped → e .listHalt ≡ Stopped → verdict e ladderLeft listLeft (after .ladderTimers) (after .listTimers) ≡ bothStopped
+      → reportLines vars table before e after ≡ bytes "scan ladder list\nend Stopped Stopped\n" ++ (middle ++ bytes "\nboth stopped\n")
   unfolding verdictLine bytes
   stopped-report p q v = report-is (bytes "scan ladder list\nend Stopped Stopped\n") bothStopped (stopped-lines p q) v
 
@@ -181,27 +227,27 @@ module _ (vars : ℕ) (table : List ℕ) (e : BothEnds) (after : Lent) where
 module _ (P : List ℕ → Type 0) (refusals : (r : Refusal) → P (refusalLine r))
     (ends : (middle : List ℕ) → P (bytes "scan ladder list\nend Ended Ended\n" ++ (middle ++ bytes "\nalike\n")))
     (stops : (middle : List ℕ) → P (bytes "scan ladder list\nend Stopped Stopped\n" ++ (middle ++ bytes "\nboth stopped\n"))) where
-  report-shown : (vars : ℕ) (table : List ℕ) (e : BothEnds) (after : Lent) → Verdicts e (take vars (after .ladderTable)) (take vars (after .listTable))
-      → P (reportLines vars table e after)
-  report-shown vars table e after (bothEnded p q v) = rw (ended-report vars table e after p q v) (ends (middle vars table e after))
-  report-shown vars table e after (stoppedBoth p q v) = rw (stopped-report vars table e after p q v) (stops (middle vars table e after))
+  report-shown : (vars : ℕ) (table before : List ℕ) (e : BothEnds) (after : Lent)
+      → Verdicts e (take vars (after .ladderTable)) (take vars (after .listTable)) (after .ladderTimers) (after .listTimers) → P (reportLines vars table before e after)
+  report-shown vars table before e after (bothEnded p q v) = rw (ended-report vars table before e after p q v) (ends (middle vars table before e after))
+  report-shown vars table before e after (stoppedBoth p q v) = rw (stopped-report vars table before e after p q v) (stops (middle vars table before e after))
 
-  kept-shown : (vars : ℕ) (k : Kept) (table : List ℕ) (n : ℕ) → P (outputOf (keptScanned vars k table n))
+  kept-shown : (vars : ℕ) (k : Kept) (table timers : List ℕ) (now n : ℕ) → P (outputOf (keptScanned vars k table timers now n))
   unfolding keptScanned outputOf
-  kept-shown vars k table n = go (pairedScans vars k table (lentFor table) n .answer) refl
+  kept-shown vars k table timers now n = go (pairedScans vars k table timers now (lentFor table timers) n .answer) refl
     where
-      go : (a : BothAnswer) → pairedScans vars k table (lentFor table) n .answer ≡ a → P (outputOf (keptScanned vars k table n))
+      go : (a : BothAnswer) → pairedScans vars k table timers now (lentFor table timers) n .answer ≡ a → P (outputOf (keptScanned vars k table timers now n))
       go (scansRefused refusal) e = rw (e, keptScanned) (refusals refusal)
-      go (both ends) e = rw (e, keptScanned) (report-shown vars table ends _ (verdicts vars k table n ends e))
+      go (both ends) e = rw (e, keptScanned) (report-shown vars table timers ends _ (verdicts vars k table timers now n ends e))
 
-  text-shown : (vars n : ℕ) (table text : List ℕ) → P (outputOf (textScanned vars n table text))
+  text-shown : (vars n : ℕ) (table timers : List ℕ) (now : ℕ) (text : List ℕ) → P (outputOf (textScanned vars n table timers now text))
   unfolding textScanned outputOf
-  text-shown vars n table text = go (readText vars text (blank mostWords mostRungs) .answer) refl
+  text-shown vars n table timers now text = go (readText vars text (blank mostWords mostRungs) .answer) refl
     where
-      go : (a : ReadAnswer) → readText vars text (blank mostWords mostRungs) .answer ≡ a → P (outputOf (textScanned vars n table text))
+      go : (a : ReadAnswer) → readText vars text (blank mostWords mostRungs) .answer ≡ a → P (outputOf (textScanned vars n table timers now text))
       go (readRefused refusal) e = rw (e, textScanned) (refusals refusal)
-      go (kept words rungs) e = rw (e, textScanned) (kept-shown vars _ table n)
+      go (kept words rungs) e = rw (e, textScanned) (kept-shown vars _ table timers now n)
 
   pub output-shown : (input : List ℕ) → P (output input)
-  unfolding output outcome
-  output-shown input = text-shown _ _ _ _
+  unfolding output outcome restScanned
+  output-shown input = text-shown _ _ _ _ _ _

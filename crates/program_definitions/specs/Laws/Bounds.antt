@@ -2,20 +2,23 @@
 use Prim.Native.Nat.{ℕ, suc, _+_, _*_, _^_, _≤_, _<_}
 use native.Mathlib.Omega.{arith}
 use mathlib.Core.Path.{_≡_, refl, sym, ap, _∙_}
-use mathlib.Core.Bool.{Bool, true, false, _&&_}
+use mathlib.Core.Bool.{Bool, true, false, cond, _&&_, _||_}
 use mathlib.Core.Option.{none, some}
 use mathlib.Core.List.{List, [], _∷_, _++_}
-use lib.Dec.{T, eqb, leb→le, ltb→lt}
+use lib.Dec.{T, eqb, leb, ltb, leb→le, ltb→lt, lt→ltb}
+use mir.Facts.{and-yes, yes-and}
 use lib.ListN.{length, take, drop, replicate, length-append, length-replicate, length-map, take-append-drop}
 use lib.Seq.{length-take-le}
 use Rattle.questions.specs.Bytes.{bytes, decimal}
-use Rattle.questions.specs.Tests.{all}
+use Rattle.questions.specs.Tests.{all, bit, truth}
 use Rattle.questions.specs.Questions.{Refusal, Answer, firstNo, question1, question12, question13, longEnough, mostRungWatchdog, mostInstructionWatchdog}
 use Rattle.questions.specs.Laws.Answers.{ask-passed, first-yes, later-yes, vars-in-range, watchdog-in-range}
 use Rattle.questions.specs.Laws.Tests.{all-head, all-tail, all-first}
 use Rattle.printing.specs.Laws.Puts.{decimal-long, decimal-most}
 use Rattle.table.specs.Halt.{Halt, Ended, Stopped}
-use Rattle.table.specs.State.{stateOf}
+use Rattle.table.specs.Timer.{Timer, ticks, with, elapsed, started, tested, powered}
+use Rattle.table.specs.TimerRecords.{timerNumbers, timersIn, numberTimers}
+use Rattle.table.specs.Laws.TimerRecords.{numbers-back, asked-whole, whole-timers, asked-few, timers-pass}
 use Rattle.table.specs.Questions.{isBit}
 use Rattle.table.specs.Laws.Alike.{table-room, table-bits}
 use Rattle.rungs.specs.Words.{operands, isOperand}
@@ -31,6 +34,7 @@ use Rattle.ladder_definitions.specs.LadderScan.{LadderCounts}
 use Rattle.ladder_definitions.specs.Laws.Accepting.{accepted, sized}
 use Rattle.ladder_definitions.specs.Laws.Watchdog.{few-rungs}
 use Rattle.ladder_definitions.specs.Laws.Writes.{ladder-legal, ladder-moved}
+use Rattle.ladder_definitions.specs.Laws.Timed.{scan-has}
 use Rattle.text_definitions.specs.Read.{ReadAnswer, readText, kept, writtenKept, refused as readRefused}
 use Rattle.list_definitions.specs.Machine.{scanList}
 use Rattle.list_definitions.specs.ListScan.{listOf, ListCounts}
@@ -39,20 +43,21 @@ use Rattle.list_definitions.specs.Names.{namesIn, fixedTable, question14}
 use Rattle.list_definitions.specs.Listing.{ListingCall, listing, written, refused as listingRefused, listingText}
 use Rattle.list_definitions.specs.Laws.Watchdog.{list-within}
 use Rattle.list_definitions.specs.Laws.Writes.{list-legal, list-moved}
+use Rattle.list_definitions.specs.Laws.Timed.{scan-has as list-has}
 use Rattle.translation_definitions.specs.Translate.{rungCode, listRecords, translate}
 use Rattle.translation_definitions.specs.TranslateKept.{Counts, countsOf, translateKept, TranslateAnswer, translated, refused as translateRefused}
-use Rattle.translation_definitions.specs.BothScans.{BothEnds, Lent, BothAnswer, BothCall, both, pairedScans, pairedWatchdog, refused as scansRefused}
+use Rattle.translation_definitions.specs.BothScans.{BothEnds, Lent, BothAnswer, BothCall, both, begun, pairedScans, pairedWatchdog, refused as scansRefused}
 use Rattle.translation_definitions.specs.BothAgree.{BothGiven}
 use Rattle.translation_definitions.specs.Laws.Answers.{all-yes, counts-are, written-room}
 use Rattle.table.specs.Laws.Legal.{LegalTable}
 use Rattle.translation_definitions.specs.Laws.Legal.{watchdog-in-range as most-in-range}
-use Rattle.translation_definitions.specs.Laws.Calls.{list-times}
+use Rattle.translation_definitions.specs.Laws.Calls.{given-passed, list-times}
 use Rattle.translation_definitions.specs.Laws.Boths.{both-ends, both-left, both-given, asked-yes, both-scanned, paired-legal}
 use Rattle.program_definitions.specs.Refusals.{refusalLine}
 use Rattle.program_definitions.specs.Outcome.{Outcome, printed, refused}
 use Rattle.program_definitions.specs.Printout.{countLine, blank, mostListing, listPrinted, keptPrinted, textPrinted}
 use Rattle.program_definitions.specs.Laws.Labels.{written-labels-fit}
-use Rattle.program_definitions.specs.Scanout.{endWord, scanCountLines, endLines, enteredLine, enteredLines, changedLine, changedLines, Verdict, alike, bothStopped, notAlike, verdict, verdictLine, reportOf, reportLines, lentFor, keptScanned, textScanned}
+use Rattle.program_definitions.specs.Scanout.{endWord, scanCountLines, endLines, enteredLine, enteredLines, changedLine, changedLines, timerText, timerLine, sameTimer, timerLines, Verdict, alike, bothStopped, notAlike, verdict, verdictLine, reportOf, reportLines, lentFor, keptScanned, textScanned}
 
 -- ---- texts one after the other
 
@@ -222,6 +227,69 @@ lines-short v (b ∷ bs) (l ∷ ls) (t ∷ ts) h p q r =
     let x = then (elim (eqb l b && eqb t b) as (λ _. List ℕ) [ true ↦ [] | false ↦ changedLine v b l t ]) (changedLines (suc v) bs ls ts) line rest in
     omega (arith, x)
 
+-- ---- lines of timers
+
+-- start and flags of 32 bits
+abbrev tick : ℕ → Bool
+tick n = ltb n ticks
+
+abbrev narrow : Timer → Bool
+narrow t = tick (t .start) && (tick (t .running) && tick (t .done))
+
+with-narrow : (t : Timer) (start : ℕ) (running done : Bool) → T (tick start) → T (narrow (with t start running done))
+with-narrow t start running done h =
+    yes-and (tick start) (tick (bit running) && tick (bit done)) h (yes-and (tick (bit running)) (tick (bit done)) (flag running) (flag done))
+  where
+    flag : (b : Bool) → T (tick (bit b))
+    flag true = tt
+    flag false = tt
+
+powered-narrow : (now : ℕ) → T (tick now) → (p : Bool) (t : Timer) → T (narrow t) → T (narrow (powered now p t))
+unfolding powered tested started
+powered-narrow now h false t n = with-narrow t (t .start) false false (and-yes (tick (t .start)) (tick (t .running) && tick (t .done)) n .0)
+powered-narrow now h true t n = let u = started now t in with-narrow u (u .start) true (truth (u .done) || leb (u .preset) (elapsed now (u .start))) (go (truth (t .running)))
+  where
+    go : (c : Bool) → T (tick (cond c t (with t now true false) .start))
+    go true = and-yes (tick (t .start)) (tick (t .running) && tick (t .done)) n .0
+    go false = h
+
+text-of-timer : (t : Timer) → T (narrow t) → length (timerText t) ≤ 62
+unfolding timerText bytes
+text-of-timer t h =
+    let x = and-yes (tick (t .start)) (tick (t .running) && tick (t .done)) h in
+    let y = and-yes (tick (t .running)) (tick (t .done)) (x .1) in
+    let a = ltb→lt (t .start) ticks (x .0) in
+    let b = ltb→lt (t .running) ticks (y .0) in
+    let c = ltb→lt (t .done) ticks (y .1) in
+    let s = decimal-most (t .start) (omega arith) in
+    let r = decimal-most (t .running) (omega arith) in
+    let d = decimal-most (t .done) (omega arith) in
+    simp length-append (omega arith)
+
+timer-short : (n : ℕ) (b l t : Timer) → n < 65536 → T (narrow b) → T (narrow l) → T (narrow t) → length (timerLine n b l t) ≤ 260
+unfolding timerLine bytes
+timer-short n b l t h hb hl ht =
+    let a = decimal-long n h in
+    let x = text-of-timer b hb in
+    let y = text-of-timer l hl in
+    let z = text-of-timer t ht in
+    simp length-append (omega arith)
+
+one-timer : (none : Bool) (line : List ℕ) → length line ≤ 260 → length {A = ℕ} (elim none as (λ _. List ℕ) [ true ↦ [] | false ↦ line ]) ≤ 260
+one-timer true line h = omega arith
+one-timer false line h = h
+
+timers-short : (n : ℕ) (bs ls ts : List Timer) → n + length bs ≤ 65536 → T (all narrow bs) → T (all narrow ls) → T (all narrow ts) → length (timerLines n bs ls ts) ≤ 260 * length bs
+unfolding timerLines
+timers-short n [] ls ts h p q r = omega arith
+timers-short n (b ∷ bs) [] ts h p q r = omega arith
+timers-short n (b ∷ bs) (l ∷ ls) [] h p q r = omega arith
+timers-short n (b ∷ bs) (l ∷ ls) (t ∷ ts) h p q r =
+    let line = one-timer (sameTimer l b && sameTimer t b) (timerLine n b l t) (timer-short n b l t (omega arith) (all-head narrow b bs p) (all-head narrow l ls q) (all-head narrow t ts r)) in
+    let rest = timers-short (suc n) bs ls ts (omega arith) (all-tail narrow b bs p) (all-tail narrow l ls q) (all-tail narrow t ts r) in
+    let x = then (elim (sameTimer l b && sameTimer t b) as (λ _. List ℕ) [ true ↦ [] | false ↦ timerLine n b l t ]) (timerLines (suc n) bs ls ts) line rest in
+    omega (arith, x)
+
 pub word-short : (h : Halt) → length (endWord h) ≤ 7
 unfolding endWord bytes
 word-short Ended = omega arith
@@ -262,20 +330,23 @@ verdict-short notAlike = omega arith
 -- the V variables of a legal table
 module _ (vars : ℕ) (table : List ℕ) (legal : LegalTable vars table) where
   bits : T (all isBit (take vars table))
-  bits = all-first isBit (take vars table) (drop vars table) (rw (take-append-drop vars table) (table-bits (stateOf vars table) legal))
+  bits = all-first isBit (take vars table) (drop vars table) (rw (take-append-drop vars table) (table-bits vars table legal))
 
   as-many : length (take vars table) ≡ vars
-  as-many = let m = table-room (stateOf vars table) legal in length-take-le vars table (omega (arith, m))
+  as-many = let m = table-room vars table legal in length-take-le vars table (omega (arith, m))
 
-module _ (vars : ℕ) (k : Kept) (table : List ℕ) (n : ℕ) where
+module _ (vars : ℕ) (k : Kept) (table timers : List ℕ) (now n : ℕ) where
   abbrev w : ℕ
-  w = pairedWatchdog vars k table n
+  w = pairedWatchdog vars k table timers now n
+
+  abbrev lends : Lent
+  lends = lentFor table timers
 
   abbrev e : BothEnds
-  e = both-ends vars k table (lentFor table) n w
+  e = both-ends vars k table timers now lends n w
 
   abbrev left : Lent
-  left = both-left vars k table (lentFor table) n w
+  left = both-left vars k table timers now lends n w
 
   -- the labels of the list's rungs are the ladder's
   labels-left : take (e .counts .rungs) (left .buffers .labels) ≡ labels (ladderOf k)
@@ -284,23 +355,23 @@ module _ (vars : ℕ) (k : Kept) (table : List ℕ) (n : ℕ) where
       let label : Rung → ℕ = λ g. g .label in
       let size : Rung → ℕ = λ g. length (rungCode vars (λ l. 0) g) in
       let rs = lay label size 0 (ladderOf k) in
-      first-written (length rs) (recordLabels rs) (lentFor table .buffers .labels) (length-map rs (λ r. r .label)) ∙ lay-labels label size 0 (ladderOf k)
+      first-written (length rs) (recordLabels rs) (lends .buffers .labels) (length-map rs (λ r. r .label)) ∙ lay-labels label size 0 (ladderOf k)
 
-  module _ (given : BothGiven vars k table (lentFor table) n) where
+  module _ (given : BothGiven vars k table timers lends n) where
     legal : question12 mostInstructionWatchdog w ≡ none
-    legal = paired-legal vars k table n (given .given .accepted) (given .given .watchdog)
+    legal = paired-legal vars k table timers now n (given .given .accepted) (given .given .watchdog)
 
     -- their times add up to the rungs entered
     times-left : sum (take (e .counts .rungs) (left .buffers .times)) ≡ e .list .rungs
     unfolding both-ends both-left countsOf writtenOver asBuffers
     times-left =
-        let h = list-times vars k table n (given .given .accepted) (given .given .legal) (given .given .watchdog) w legal in
-        ap sum (first-written _ _ (lentFor table .buffers .times) (h .0)) ∙ h .1
+        let h = list-times vars k table (numberTimers timers) now n (given-passed vars k (lends .buffers) table (numberTimers timers) n (given .given)) w legal in
+        ap sum (first-written _ _ (lends .buffers .times) (h .0)) ∙ h .1
 
     counts-fit : Fitting (e .ladder) (e .list)
     unfolding both-ends
     counts-fit =
-        let s = stateOf vars table in
+        let s = begun vars table timers now in
         let words = sized (ladderOf k) (accepted vars k (given .given .accepted) .1 .sizes) .words-a-rung in
         let most = watchdog-in-range mostRungWatchdog n (given .given .watchdog) in
         let few = few-rungs (ladderOf k) n s in
@@ -314,48 +385,73 @@ module _ (vars : ℕ) (k : Kept) (table : List ℕ) (n : ℕ) where
           list-moved = omega (arith, list-moved (translate vars (ladderOf k)) w s, c .instructions, top);
         }
 
-    report-short : T (all isOperand (labels (ladderOf k))) → length (reportLines vars table e left) ≤ 98304
-    unfolding reportLines reportOf both-left
-    report-short fit =
-        let s = stateOf vars table in
-        let taken = accepted vars k (given .given .accepted) .1 in
-        let range = vars-in-range vars (taken .range) in
-        let few = sized (ladderOf k) (taken .sizes) .rungs in
-        let many = length-map (ladderOf k) (λ g. g .label) in
-        let l = take vars (scanLadder (ladderOf k) n s .state .bytes) in
-        let t = take vars (scanList (translate vars (ladderOf k)) w s .state .bytes) in
-        let lb = bits vars _ (ladder-legal vars (ladderOf k) n s (given .given .legal)) in
-        let tb = bits vars _ (list-legal vars (translate vars (ladderOf k)) w s (given .given .legal)) in
-        let m = as-many vars table (given .given .legal) in
-        let ns = take (e .counts .rungs) (left .buffers .times) in
-        let entered = rungs-short (labels (ladderOf k)) ns fit (rw times-left (counts-fit .list-rungs)) in
-        let changed = lines-short 0 (take vars table) l t (omega (arith, m, range .1)) (bits vars table (given .given .legal)) lb tb in
-        let lines : List ℕ = changedLines 0 (take vars table) l t in
-        let line : List ℕ = verdictLine (verdict e l t) in
-        let rungs : List ℕ = enteredLines (labels (ladderOf k)) ns in
-        let x = then (endLines e) (rungs ++ (lines ++ line)) (ends-short e counts-fit) (then rungs (lines ++ line) entered (then lines line changed (verdict-short (verdict e l t)))) in
-        rw labels-left (omega (arith, x, m, range .1, few, many))
+    module _ (few-ticks : T (all tick timers)) (tick-now : T (tick now)) where
+      -- the records that the scans begin with, and those that they leave
+      same-records : numberTimers timers ≡ timersIn timers
+      same-records = whole-timers timers (asked-whole vars timers (given .given .timers-legal))
+
+      records-few : length (timersIn timers) ≤ 32
+      records-few = rw same-records at (asked-few vars (numberTimers timers) (given .given .timers-legal))
+
+      narrow-before : T (all narrow (timersIn timers))
+      narrow-before = timers-pass tick timers few-ticks
+
+      narrow-begun : T (all narrow (numberTimers timers))
+      narrow-begun = rw same-records narrow-before
+
+      worked-short : length (timerLines 0 (timersIn timers) (timersIn (left .ladderTimers)) (timersIn (left .listTimers))) ≤ 260 * length (timersIn timers)
+      unfolding both-left
+      worked-short =
+          let s = begun vars table timers now in
+          let ladder : T (all narrow (timersIn (timerNumbers (scanLadder (ladderOf k) n s .state .timers)))) = rw (numbers-back (scanLadder (ladderOf k) n s .state .timers)) (scan-has narrow now (powered-narrow now tick-now) (ladderOf k) n s refl narrow-begun) in
+          let list : T (all narrow (timersIn (timerNumbers (scanList (translate vars (ladderOf k)) w s .state .timers)))) = rw (numbers-back (scanList (translate vars (ladderOf k)) w s .state .timers)) (list-has narrow now (powered-narrow now tick-now) (translate vars (ladderOf k)) w s refl narrow-begun) in
+          timers-short 0 (timersIn timers) _ _ (omega (arith, records-few)) narrow-before ladder list
+
+      report-short : T (all isOperand (labels (ladderOf k))) → length (reportLines vars table timers e left) ≤ 98304
+      unfolding reportLines reportOf both-left
+      report-short fit =
+          let s = begun vars table timers now in
+          let taken = accepted vars k (given .given .accepted) .1 in
+          let range = vars-in-range vars (taken .range) in
+          let few = sized (ladderOf k) (taken .sizes) .rungs in
+          let many = length-map (ladderOf k) (λ g. g .label) in
+          let l = take vars (scanLadder (ladderOf k) n s .state .bytes) in
+          let t = take vars (scanList (translate vars (ladderOf k)) w s .state .bytes) in
+          let lb = bits vars _ (ladder-legal vars (ladderOf k) n s (given .given .legal)) in
+          let tb = bits vars _ (list-legal vars (translate vars (ladderOf k)) w s (given .given .legal)) in
+          let m = as-many vars table (given .given .legal) in
+          let ns = take (e .counts .rungs) (left .buffers .times) in
+          let entered = rungs-short (labels (ladderOf k)) ns fit (rw times-left (counts-fit .list-rungs)) in
+          let changed = lines-short 0 (take vars table) l t (omega (arith, m, range .1)) (bits vars table (given .given .legal)) lb tb in
+          let lines : List ℕ = changedLines 0 (take vars table) l t in
+          let clocks : List ℕ = timerLines 0 (timersIn timers) (timersIn (left .ladderTimers)) (timersIn (left .listTimers)) in
+          let line : List ℕ = verdictLine (verdict e l t (left .ladderTimers) (left .listTimers)) in
+          let rungs : List ℕ = enteredLines (labels (ladderOf k)) ns in
+          let x = then (endLines e) (rungs ++ (lines ++ (clocks ++ line))) (ends-short e counts-fit) (then rungs (lines ++ (clocks ++ line)) entered
+          (then lines (clocks ++ line) changed (then clocks line worked-short (verdict-short (verdict e l t (left .ladderTimers) (left .listTimers)))))) in
+          rw labels-left (omega (arith, x, m, range .1, few, many, records-few))
 
   abbrev scannedBy : BothCall → Outcome
-  scannedBy c = elim (c .answer) [ scansRefused refusal ↦ refused refusal | both ends ↦ printed (reportLines vars table ends (c .lent)) ]
+  scannedBy c = elim (c .answer) [ scansRefused refusal ↦ refused refusal | both ends ↦ printed (reportLines vars table timers ends (c .lent)) ]
 
-  scanned-short : T (all isOperand (labels (ladderOf k))) → (t : List ℕ) → keptScanned vars k table n ≡ printed t → length t ≤ 98304
+  scanned-short : T (all tick timers) → T (tick now) → T (all isOperand (labels (ladderOf k))) → (t : List ℕ) → keptScanned vars k table timers now n ≡ printed t → length t ≤ 98304
   unfolding keptScanned
-  scanned-short fit t q = go (pairedScans vars k table (lentFor table) n .answer) refl
+  scanned-short few-ticks tick-now fit t q = go (pairedScans vars k table timers now lends n .answer) refl
     where
-      go : (a : BothAnswer) → pairedScans vars k table (lentFor table) n .answer ≡ a → length t ≤ 98304
-      go (scansRefused r) a = let z : keptScanned vars k table n ≡ refused r = rw (a, keptScanned) refl in absurd (no-text r t (sym z ∙ q))
+      go : (a : BothAnswer) → pairedScans vars k table timers now lends n .answer ≡ a → length t ≤ 98304
+      go (scansRefused r) a = let z : keptScanned vars k table timers now n ≡ refused r = rw (a, keptScanned) refl in absurd (no-text r t (sym z ∙ q))
       go (both ends) a =
-          let given = both-given vars k table (lentFor table) n w ends a .0 in
-          let is = both-scanned vars k table (lentFor table) n w (asked-yes vars k table (lentFor table) n given w (legal given)) in
-          rw (← (same-text (sym (ap scannedBy is) ∙ q))) (report-short given fit)
+          let given = both-given vars k table timers now lends n w ends a .0 in
+          let is = both-scanned vars k table timers now lends n w (asked-yes vars k table timers now lends n given w (legal given)) in
+          rw (← (same-text (sym (ap scannedBy is) ∙ q))) (report-short given few-ticks tick-now fit)
 
-pub report-text-short : (vars n : ℕ) (table text t : List ℕ) → textScanned vars n table text ≡ printed t → length t ≤ 98304
+pub report-text-short : (vars n : ℕ) (table timers : List ℕ) (now : ℕ) (text t : List ℕ) → T (all tick timers) → T (tick now) → textScanned vars n table timers now text ≡ printed t
+    → length t ≤ 98304
 unfolding textScanned
-report-text-short vars n table text t e = go (readText vars text (blank mostWords mostRungs) .answer) refl
+report-text-short vars n table timers now text t few-ticks tick-now e = go (readText vars text (blank mostWords mostRungs) .answer) refl
   where
     go : (a : ReadAnswer) → readText vars text (blank mostWords mostRungs) .answer ≡ a → length t ≤ 98304
     go (kept words rungs) q =
-        let z : textScanned vars n table text ≡ keptScanned vars (writtenKept (readText vars text (blank mostWords mostRungs) .buffers) words rungs) table n = rw (q, textScanned) refl in
-        scanned-short vars _ table n (written-labels-fit vars text (blank mostWords mostRungs) words rungs q) t (sym z ∙ e)
-    go (readRefused r) q = let z : textScanned vars n table text ≡ refused r = rw (q, textScanned) refl in absurd (no-text r t (sym z ∙ e))
+        let z : textScanned vars n table timers now text ≡ keptScanned vars (writtenKept (readText vars text (blank mostWords mostRungs) .buffers) words rungs) table timers now n = rw (q, textScanned) refl in
+        scanned-short vars _ table timers now n few-ticks tick-now (written-labels-fit vars text (blank mostWords mostRungs) words rungs q) t (sym z ∙ e)
+    go (readRefused r) q = let z : textScanned vars n table timers now text ≡ refused r = rw (q, textScanned) refl in absurd (no-text r t (sym z ∙ e))

@@ -1,4 +1,4 @@
--- `program_ladder_scan::main` is safe and ends: no more of the table and of the text is lent than they hold. Assumes nothing.
+-- `program_ladder_scan::main` is safe and ends: no more of the table and of the rest is lent than they hold. Assumes nothing.
 use mathlib.Core.Path.{sym}
 use native.Mathlib.Omega.{arith}
 use lib.Seq.{length-take-le}
@@ -71,11 +71,15 @@ slice-aggregate-print c =
     let b = c .before .before .before .before .before .before .before .before .before .before in
     sym (length-take-le _ _ (omega (arith, bytes-room _ _ _ (b .table-bytes .ensures), b .before .table2 .given)))
 
-array-share-prefix-text : tie.Need-array-share-prefix-text
-array-share-prefix-text c = search needs
+array-share-prefix-after : tie.Need-array-share-prefix-after
+array-share-prefix-after c =
+    let b = c .before .before .before .before .before .before in
+    omega (arith, b .before .keep-text .ensures, c .before .before .before .before .before .after2 .given)
 
 slice-aggregate-print-2 : tie.Need-slice-aggregate-print-2
-slice-aggregate-print-2 c = sym (length-take-le _ _ (search needs))
+slice-aggregate-print-2 c =
+    let b = c .before .before .before .before .before .before .before in
+    sym (length-take-le _ _ (omega (arith, b .before .keep-text .ensures, c .before .before .before .before .before .before .after2 .given)))
 
 print-requires : tie.Need-print-requires
 print-requires c κs = search needs
@@ -107,7 +111,7 @@ main-spec =
     watchdog-requires
     array-share-prefix-table
     slice-aggregate-print
-    array-share-prefix-text
+    array-share-prefix-after
     slice-aggregate-print-2
     print-requires
     returns-2)

@@ -4,21 +4,19 @@ use native.Mathlib.Omega.{arith}
 use mathlib.Core.Path.{sym}
 use lib.Seq.{length-take-le}
 use Rattle.program_definitions.specs.Scanout.{mostReport}
-use Rattle.program_definitions.specs.Theorems.{scan-output-short}
-use Rattle.program_definitions.specs.Laws.Outcomes.{placed-within}
 use borrow.Author.Needs.{needs}
 use Rattle.program_ladder_scan.proofs.print.Statement.{statement}
 use Rattle.program_ladder_scan.proofs.print.Tie as tie
 
--- the output fits the buffer: a theorem of its definition
+-- the output fits the buffer: report_rest promises it
 within : (c : tie.After-finish) → c .finish .result ≤ mostReport
-within c = c .finish .ensures .1 mostReport (omega arith) (placed-within _ mostReport (scan-output-short _ _ _ _) _ _ _ (c .before .before .before .report .ensures))
+within c = c .finish .ensures .1 mostReport (omega arith) (c .before .before .before .report-rest .ensures .1)
 
-slice-aggregate-report : tie.Need-slice-aggregate-report
-slice-aggregate-report c = search needs
+slice-aggregate-report-rest : tie.Need-slice-aggregate-report-rest
+slice-aggregate-report-rest c = search needs
 
-report-requires : tie.Need-report-requires
-report-requires c κs = search needs
+report-rest-requires : tie.Need-report-rest-requires
+report-rest-requires c κs = search needs
 
 slice-aggregate-finish : tie.Need-slice-aggregate-finish
 slice-aggregate-finish c = search needs
@@ -54,8 +52,8 @@ pub print-spec : {M : Type 1} → statement M
 print-spec =
     tie.close
     (tie.spec
-    slice-aggregate-report
-    report-requires
+    slice-aggregate-report-rest
+    report-rest-requires
     slice-aggregate-finish
     finish-requires
     array-share-prefix-out

@@ -145,6 +145,24 @@ slice-aggregate-put-text-11 c = search needs
 put-text-requires-11 : tie.Need-put-text-requires-11
 put-text-requires-11 c κs = search needs
 
+enum-told-12 : tie.Need-enum-told-12
+enum-told-12 c = search needs
+
+slice-aggregate-put-text-12 : tie.Need-slice-aggregate-put-text-12
+slice-aggregate-put-text-12 c = search needs
+
+put-text-requires-12 : tie.Need-put-text-requires-12
+put-text-requires-12 c κs = search needs
+
+enum-told-13 : tie.Need-enum-told-13
+enum-told-13 c = search needs
+
+slice-aggregate-put-text-13 : tie.Need-slice-aggregate-put-text-13
+slice-aggregate-put-text-13 c = search needs
+
+put-text-requires-13 : tie.Need-put-text-requires-13
+put-text-requires-13 c κs = search needs
+
 same-length : tie.Need-same-length
 same-length c = search needs
 
@@ -250,6 +268,20 @@ returns-15 : tie.Need-returns-15
 unfolding refusalOf explanation explanations bytes
 returns-15 c = explanation-put _ (c .before .before .before .before .before .enum-told11 .given .1) (c .before .before .put-text11 .ensures)
 
+same-length-16 : tie.Need-same-length-16
+same-length-16 c = search needs
+
+returns-16 : tie.Need-returns-16
+unfolding refusalOf explanation explanations bytes
+returns-16 c = explanation-put _ (c .before .before .before .before .before .enum-told12 .given .1) (c .before .before .put-text12 .ensures)
+
+same-length-17 : tie.Need-same-length-17
+same-length-17 c = search needs
+
+returns-17 : tie.Need-returns-17
+unfolding refusalOf explanation explanations bytes
+returns-17 c = explanation-put _ (c .before .before .before .before .before .enum-told13 .given .1) (c .before .before .put-text13 .ensures)
+
 pub put-explanation-spec : {M : Type 1} → statement M
 put-explanation-spec =
     tie.close
@@ -300,6 +332,12 @@ put-explanation-spec =
     enum-told-11
     slice-aggregate-put-text-11
     put-text-requires-11
+    enum-told-12
+    slice-aggregate-put-text-12
+    put-text-requires-12
+    enum-told-13
+    slice-aggregate-put-text-13
+    put-text-requires-13
     same-length
     returns
     same-length-2
@@ -329,4 +367,8 @@ put-explanation-spec =
     same-length-14
     returns-14
     same-length-15
-    returns-15)
+    returns-15
+    same-length-16
+    returns-16
+    same-length-17
+    returns-17)

@@ -1,4 +1,4 @@
--- `program_scan_output::run` meets its contract: the three lines, the kept text, and what `report` does. Assumes nothing.
+-- `program_scan_output::run` meets its contract: the three lines, the kept rest, and what `report_rest` does. Assumes nothing.
 use mathlib.Core.Path.{refl, sym}
 use native.Mathlib.Omega.{arith}
 use lib.Seq.{length-take-le}
@@ -27,8 +27,8 @@ take-variables-requires c κs = search needs
 table-bytes-requires : tie.Need-table-bytes-requires
 table-bytes-requires c κs = search needs
 
-kept-end-requires : tie.Need-kept-end-requires
-kept-end-requires c κs = search needs
+rest-end-requires : tie.Need-rest-end-requires
+rest-end-requires c κs = search needs
 
 watchdog-requires : tie.Need-watchdog-requires
 watchdog-requires c κs = search needs
@@ -36,38 +36,43 @@ watchdog-requires c κs = search needs
 array-share-prefix-table : tie.Need-array-share-prefix-table
 array-share-prefix-table c = omega (arith, bytes-room _ _ _ (c .before .before .table-bytes .ensures), c .before .before .before .table2 .given)
 
-slice-aggregate-report : tie.Need-slice-aggregate-report
-slice-aggregate-report c =
-    sym (length-take-le _ _ (omega (arith, bytes-room _ _ _ (c .before .before .before .table-bytes .ensures), c .before .before .before .before .table2 .given)))
+slice-aggregate-report-rest : tie.Need-slice-aggregate-report-rest
+slice-aggregate-report-rest c =
+    let c2 = c .before .before .before in
+    let c1 = c2 .before in
+    sym (length-take-le _ _ (omega (arith, bytes-room _ _ _ (c2 .table-bytes .ensures), c1 .table2 .given)))
 
-sub-report : tie.Need-sub-report
-sub-report c = search needs
+sub-report-rest : tie.Need-sub-report-rest
+sub-report-rest c = search needs
 
-part-report-start : tie.Need-part-report-start
-part-report-start c = search needs
+part-report-rest-start : tie.Need-part-report-rest-start
+part-report-rest-start c = search needs
 
-part-report-end : tie.Need-part-report-end
-part-report-end c =
-    let u = c .before .before in
-    let v = u .before .before .before in
-    let first = v .before .before .before .before .take-number .ensures .within (omega arith) in
-    let third = v .take-variables .ensures .within (v .before .before .take-number2 .ensures .within first) in
-    omega (arith, u .kept-end .ensures, third)
+part-report-rest-end : tie.Need-part-report-rest-end
+part-report-rest-end c =
+    let v = c .before .before .before .before .before in
+    let first = c .before .before .before .before .before .before .before .before .before .take-number .ensures .within (omega arith) in
+    let third = v .take-variables .ensures .within (c .before .before .before .before .before .before .before .take-number2 .ensures .within first) in
+    omega (arith, c .before .before .rest-end .ensures, third)
 
-report-requires : tie.Need-report-requires
-report-requires c κs = search needs
+report-rest-requires : tie.Need-report-rest-requires
+report-rest-requires c κs = search needs
 
 same-length : tie.Need-same-length
 same-length c = search needs
 
 returns : tie.Need-returns
 returns c =
-    let u = c .before .before .before .before .before .before in
-    let v = u .before .before .before .before in
-    let w = v .before .before in
-    same-done _ _ _ (run-same _ _ _ _ _ _ _ _ _ _ (w .before .before .take-number .ensures) (w .before .variables .ensures) (w .take-number2 .ensures)
-    (u .watchdog .ensures) (v .take-variables .ensures) refl (u .before .before .table-bytes .ensures) (u .before .kept-end .ensures))
-    (c .before .before .report .ensures)
+    let c7 = c .before .before .before .before .before .before in
+    let c6 = c7 .before in
+    let c5 = c6 .before in
+    let c4 = c5 .before .before in
+    let c3 = c4 .before .before in
+    let c2 = c3 .before in
+    let c1 = c2 .before in
+    same-done _ _ _ (run-same _ _ _ _ _ _ _ _ _ _ (c1 .take-number .ensures) (c2 .variables .ensures) (c3 .take-number2 .ensures)
+    (c7 .watchdog .ensures) (c4 .take-variables .ensures) refl (c5 .table-bytes .ensures) (c6 .rest-end .ensures))
+    (c .before .before .report-rest .ensures .0)
 
 pub run-spec : {M : Type 1} → statement M
 run-spec =
@@ -79,13 +84,13 @@ run-spec =
     slice-aggregate-take-variables
     take-variables-requires
     table-bytes-requires
-    kept-end-requires
+    rest-end-requires
     watchdog-requires
     array-share-prefix-table
-    slice-aggregate-report
-    sub-report
-    part-report-start
-    part-report-end
-    report-requires
+    slice-aggregate-report-rest
+    sub-report-rest
+    part-report-rest-start
+    part-report-rest-end
+    report-rest-requires
     same-length
     returns)

@@ -1,4 +1,5 @@
--- `program_scan_report::put_report` meets its contract: the ends, the rungs that were entered, the variables that changed, and the verdict. Assumes nothing.
+-- `program_scan_report::put_report` meets its contract: the ends, the rungs that were entered, the variables and the timers that changed, and the verdict.
+-- Assumes nothing.
 use Prim.Native.Nat.{_≤_}
 use native.Mathlib.Omega.{arith}
 use Rattle.list_definitions.specs.ListScan.{countsIn}
@@ -15,7 +16,7 @@ use Rattle.program_scan_report.proofs.put_report.Tie as tie
 head : (c : tie.After-put-ends) → c .put-ends .result ≤ 1000
 unfolding endsIn countsIn
 head c =
-    let s = c .before .before .before .before .before .before .before .before in
+    let s = c .before .before .before .before .before .before .before .before .before .before .before in
     let ladder = s .good .1 .1 .0 .1 .1 .1 .1 .0 in
     let list = s .good .1 .1 .0 .1 .1 .1 .1 .1 .1 .0 in
     ends-reach (endsIn (s .args .ends)) (c .put-ends .ensures) (record {
@@ -29,37 +30,52 @@ head c =
 -- where the rungs' lines end
 rungs-end : (c : tie.After-put-rungs) → c .put-rungs .result ≤ 10000
 rungs-end c =
-    let b = c .before .before .before .before in
-    let s = b .before .before .before .before .before .before .before .before in
-    rungs-reach (s .args .labels .now) (s .args .times .now) (c .put-rungs .ensures) (s .pre .1) (head b)
-    (λ k. omega (arith, b .before .before .before .shared-slice-known4 .given k))
-    (λ k. omega (arith, b .before .before .shared-slice-known5 .given k))
+    let s = c .before .before .before .before .before .before .before .before .before .before .before .before .before .before .before in
+    rungs-reach (s .args .labels .now) (s .args .times .now) (c .put-rungs .ensures) (s .pre .1 .0) (head (c .before .before .before .before))
+    (λ k. omega (arith, c .before .before .before .before .before .before .before .shared-slice-known7 .given k))
+    (λ k. omega (arith, c .before .before .before .before .before .before .shared-slice-known8 .given k))
+
+-- where the variables' lines end
+changed-end : (c : tie.After-put-variables) → c .put-variables .result ≤ 100000
+changed-end c =
+    let c5 = c .before .before .before .before in
+    let c4 = c5 .before .before .before .before .before .before .before .before .before .before in
+    let c3 = c4 .before in
+    let c2 = c3 .before .before in
+    let c1 = c2 .before .before in
+    let s = c1 in
+    let g = s .args in
+    changed-reach (g .vars) (g .before .now) (g .ladder-left .now) (g .list-left .now) (c .put-variables .ensures) (s .pre .0) (rungs-end c5)
+    (λ k. omega (arith, c2 .shared-slice-known .given k))
+    (λ k. omega (arith, c3 .shared-slice-known3 .given k))
+    (λ k. omega (arith, c4 .shared-slice-known4 .given k))
 
 put-ends-requires : tie.Need-put-ends-requires
 put-ends-requires c κs = search needs
 
 put-rungs-requires : tie.Need-put-rungs-requires
-put-rungs-requires c κs = let d = c .before .before .before in (head d, d .before .before .before .before .before .before .before .before .pre .1)
+put-rungs-requires c κs =
+    let c2 = c .before .before .before in
+    let c1 = c2 .before .before .before .before .before .before .before .before .before .before .before in
+    (head c2, c1 .pre .1 .0)
 
 put-variables-requires : tie.Need-put-variables-requires
 put-variables-requires c κs =
-    let d = c .before .before .before in
-    (rungs-end d, d .before .before .before .before .before .before .before .before .before .before .before .before .pre .0)
+    let c2 = c .before .before .before in
+    let c1 = c2 .before .before .before .before .before .before .before .before .before .before .before .before .before .before .before in
+    (rungs-end c2, c1 .pre .0)
+
+put-timers-requires : tie.Need-put-timers-requires
+put-timers-requires c κs =
+    let c2 = c .before .before .before in
+    let c1 = c2 .before .before .before .before .before .before .before .before .before .before .before .before .before .before .before .before .before .before .before in
+    (changed-end c2, c1 .pre .1 .1)
 
 verdict-of-requires : tie.Need-verdict-of-requires
 verdict-of-requires c κs = search needs
 
 put-verdict-requires : tie.Need-put-verdict-requires
-put-verdict-requires c κs =
-    let d = c .before .before .before .before in
-    let r = d .before .before .before .before in
-    let b = r .before .before .before .before in
-    let s = b .before .before .before .before .before .before .before .before in
-    let g = s .args in
-    changed-reach (g .vars) (g .before .now) (g .ladder-left .now) (g .list-left .now) (d .put-variables .ensures) (s .pre .0) (rungs-end r)
-    (λ k. omega (arith, b .before .before .before .before .before .before .shared-slice-known .given k))
-    (λ k. omega (arith, b .before .before .before .before .before .shared-slice-known2 .given k))
-    (λ k. omega (arith, b .before .before .before .before .shared-slice-known3 .given k))
+put-verdict-requires c κs = omega (arith, c .before .before .before .before .put-timers .ensures .1)
 
 same-length : tie.Need-same-length
 same-length c = search needs
@@ -67,11 +83,14 @@ same-length c = search needs
 returns : tie.Need-returns
 unfolding reportOf
 returns c =
-    let e = c .before .before in
-    let d = e .before .before .before .before .before in
-    let r = d .before .before .before .before in
-    put-then (r .before .before .before .before .put-ends .ensures) (put-then (r .put-rungs .ensures) (put-then (d .put-variables .ensures)
-    (verdict-put _ _ (e .before .verdict-of .ensures) (e .put-verdict .ensures))))
+    let c5 = c .before .before .before .before in
+    let c4 = c5 .before .before .before in
+    let c3 = c4 .before .before .before .before in
+    let c2 = c3 .before .before .before .before in
+    let c1 = c2 .before .before .before .before in
+    put-then (c1 .put-ends .ensures) (put-then (c2 .put-rungs .ensures)
+    (put-then (c3 .put-variables .ensures) (put-then (c4 .put-timers .ensures .0)
+    (verdict-put _ _ (c5 .verdict-of .ensures) (c .before .before .put-verdict .ensures)))))
 
 pub put-report-spec : {M : Type 1} → statement M
 put-report-spec =
@@ -80,6 +99,7 @@ put-report-spec =
     put-ends-requires
     put-rungs-requires
     put-variables-requires
+    put-timers-requires
     verdict-of-requires
     put-verdict-requires
     same-length

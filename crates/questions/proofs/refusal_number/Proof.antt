@@ -50,6 +50,12 @@ enum-told-14 c = search needs
 enum-told-15 : tie.Need-enum-told-15
 enum-told-15 c = search needs
 
+enum-told-16 : tie.Need-enum-told-16
+enum-told-16 c = search needs
+
+enum-told-17 : tie.Need-enum-told-17
+enum-told-17 c = search needs
+
 returns : tie.Need-returns
 unfolding refusalOf
 returns c = ap (λ q. refusalOf q .number) (sym (c .enum-told .given .1))
@@ -110,6 +116,14 @@ returns-15 : tie.Need-returns-15
 unfolding refusalOf
 returns-15 c = ap (λ q. refusalOf q .number) (sym (c .enum-told15 .given .1))
 
+returns-16 : tie.Need-returns-16
+unfolding refusalOf
+returns-16 c = ap (λ q. refusalOf q .number) (sym (c .enum-told16 .given .1))
+
+returns-17 : tie.Need-returns-17
+unfolding refusalOf
+returns-17 c = ap (λ q. refusalOf q .number) (sym (c .enum-told17 .given .1))
+
 pub refusal-number-spec : {M : Type 1} → statement M
 refusal-number-spec =
     tie.close
@@ -129,6 +143,8 @@ refusal-number-spec =
     enum-told-13
     enum-told-14
     enum-told-15
+    enum-told-16
+    enum-told-17
     returns
     returns-2
     returns-3
@@ -143,4 +159,6 @@ refusal-number-spec =
     returns-12
     returns-13
     returns-14
-    returns-15)
+    returns-15
+    returns-16
+    returns-17)

@@ -236,7 +236,7 @@ print-again table vars text lent c out h room =
     let rs = l .records in
     let few = vars-in-range vars (y .vars-accepted) .1 in
     let form = read-form table vars text (y .vars-accepted) (y .form-accepted) in
-    let same : listOf words rs ≡ l = list-of-words l (code-fits vars few (rungsOf table vars text) (text-ranged form .1)) in
+    let same : listOf words rs ≡ l = list-of-words l (code-fits vars (rungsOf table vars text) (text-ranged few form .1)) in
     let printed : listingText (namesIn table) vars (listOf words rs) ≡ text = ap (listingText (namesIn table) vars) same ∙ prints-again (namesIn table) vars text (rungsOf table vars text) form in
     let done = listing-yes table vars words rs out (y .table-accepted) (y .vars-accepted) (y .list-accepted) (rw printed room) in
     rw (y .wrote, y .counts, words-out l lent, records-out l lent) (done ∙ rw printed refl)

@@ -17,9 +17,9 @@ use Rattle.text_grammar.specs.Grammar.{IsNumber}
 use Rattle.text_grammar.specs.Reader.{pick, read, mapP, bind, followed, digitOf, numeralOf}
 use Rattle.text_grammar.specs.Laws.Spans.{Span, inside, span-cut, span-head, span-tail, digit-of}
 use Rattle.text_grammar.specs.Laws.Complete.{number-read, past}
-use Rattle.list_definitions.specs.Instruction.{Instr, Operand, tableIndex, noOperand, instructionIndex, operand, opOf, instrFits}
+use Rattle.list_definitions.specs.Instruction.{Instr, Operand, tableIndex, noOperand, instructionIndex, timerNumber, operand, opOf, instrFits}
 use Rattle.list_definitions.specs.Names.{Names, nameOf, nameBytes, isCapital}
-use Rattle.reader_definitions.specs.Form.{ListRung, IsOperand, vNumber, tNumber, atNumber, nameOnly, IsInstruction, instructionLine, IsLabel, labelLine, IsCode, noLine, moreLine, IsRung, rungLines, IsListText, oneRung, moreRungs}
+use Rattle.reader_definitions.specs.Form.{ListRung, IsOperand, vNumber, tNumber, atNumber, dNumber, nameOnly, IsInstruction, instructionLine, IsLabel, labelLine, IsCode, noLine, moreLine, IsRung, rungLines, IsListText, oneRung, moreRungs}
 use Rattle.reader_definitions.specs.Reader.{lettersFrom, between, given, lettered, operandFrom, instrNamed, instructionFrom, opensLabel, labelFrom, codeFrom, listRung, rungFrom, rungsFrom, listTextOf}
 use Rattle.reader_definitions.specs.Laws.Numbers.{number-opens}
 use Rattle.reader_definitions.specs.Laws.Search.{Good}
@@ -83,6 +83,7 @@ module _ (s : List ℕ) where
     operand-read (vNumber {s = w} {x = x} y h) at m z e = lettered-read at m x 118 w (tableIndex x) y (rw (lt-ltb x vars h) refl) z e
     operand-read (tNumber {s = w} {x = x} y h) at m z e = lettered-read at m x 116 w (tableIndex (vars + x)) y (rw (lt-ltb x scratchBytes h) refl) z e
     operand-read (atNumber {s = w} {j = j} y) at m z e = lettered-read at m j 64 w (instructionIndex j) y refl z e
+    operand-read (dNumber {s = w} {n = n} y) at m z e = lettered-read at m n 100 w (timerNumber n) y refl z e
     operand-read nameOnly at m z e = no-operand at m z e
 
     -- what follows a name is a space or LF
@@ -90,6 +91,7 @@ module _ (s : List ℕ) where
     operand-low (vNumber y h) at m z e = rw (span-head z) (omega arith)
     operand-low (tNumber y h) at m z e = rw (span-head z) (omega arith)
     operand-low (atNumber y) at m z e = rw (span-head z) (omega arith)
+    operand-low (dNumber y) at m z e = rw (span-head z) (omega arith)
     operand-low nameOnly at m z e = let q : m ≡ at = omega (arith, z .long) in rw (← q, e) (omega arith)
 
     -- no name is followed by a digit

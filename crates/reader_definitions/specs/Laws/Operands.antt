@@ -9,10 +9,10 @@ use borrow.Author.Tests.{eqb-true, eq-eqb}
 use lib.Dec.{T, eqb, lt→ltb}
 use Rattle.questions.specs.Laws.Tests.{none-some}
 use Rattle.rungs.specs.Words.{operands, word}
-use Rattle.list_definitions.specs.Instruction.{Instr, LD, LDN, ST, STN, AND, ANDN, OR, ORN, XOR, XORN, NOT, JMP, JMPC, JMPCN, S, R, Operand, tableIndex, noOperand, instructionIndex, operand, opOf, operandNumber, instrWord, ops, onlyNot, decodeInstr, operandFits, instrFits, sortOf, operandSort, sortNumber, sameSort}
+use Rattle.list_definitions.specs.Instruction.{Instr, LD, LDN, ST, STN, AND, ANDN, OR, ORN, XOR, XORN, NOT, JMP, JMPC, JMPCN, S, R, TON, Operand, tableIndex, noOperand, instructionIndex, timerNumber, operand, opOf, operandNumber, instrWord, ops, onlyNot, decodeInstr, operandFits, instrFits, sortOf, operandSort, sortNumber, sameSort}
 use Rattle.list_definitions.specs.Names.{Names, nameOf}
 use Rattle.list_definitions.specs.Laws.Decoding.{number-small, decode-instr, instr-decoded}
-use Rattle.reader_definitions.specs.Form.{IsOperand, vNumber, tNumber, atNumber, nameOnly}
+use Rattle.reader_definitions.specs.Form.{IsOperand, vNumber, tNumber, atNumber, dNumber, nameOnly}
 use Rattle.reader_definitions.specs.Reader.{opNamed, instrWith, instrNamed}
 use Rattle.reader_definitions.specs.Laws.Numbers.{number-most}
 use Rattle.reader_definitions.specs.Laws.Search.{Good, found-name}
@@ -23,19 +23,22 @@ unfolding operandFits
 operand-small h (vNumber {x = x} y l) = lt→ltb x operands (omega arith)
 operand-small {vars} h (tNumber {x = x} y l) = lt→ltb (vars + x) operands (omega arith)
 operand-small h (atNumber {j = j} y) = lt→ltb j operands (let m = number-most y in omega arith)
+operand-small h (dNumber {n = n} y) = lt→ltb n operands (let m = number-most y in omega arith)
 operand-small h nameOnly = tt
 
 -- sort and number tell an operand
 made : ℕ → ℕ → Operand
 made zero x = tableIndex x
 made (suc zero) x = noOperand
-made (suc (suc k)) x = instructionIndex x
+made (suc (suc zero)) x = instructionIndex x
+made (suc (suc (suc k))) x = timerNumber x
 
 made-back : (o : Operand) → made (sortNumber (sortOf o)) (operandNumber o) ≡ o
 unfolding made sortNumber sortOf operandNumber
 made-back (tableIndex x) = refl
 made-back noOperand = refl
 made-back (instructionIndex j) = refl
+made-back (timerNumber n) = refl
 
 sort-number : (a b : Operand) → sortNumber (sortOf a) ≡ sortNumber (sortOf b) → operandNumber a ≡ operandNumber b → a ≡ b
 sort-number a b s n = sym (made-back a) ∙ (rw (s, n) (made-back b))
@@ -59,6 +62,7 @@ sort-taken (JMPC j) = refl
 sort-taken (JMPCN j) = refl
 sort-taken (S x) = refl
 sort-taken (R x) = refl
+sort-taken (TON n) = refl
 
 -- the instruction of an op and an operand has that op and that operand
 pub with-sound : (o : Operand) (k : ℕ) (i : Instr) → T (operandFits o) → instrWith o k ≡ some i → (opOf i ≡ k) × (operand i ≡ o)

@@ -10,12 +10,12 @@ use mir.Facts.{and-yes}
 use lib.Dec.{T, T-not, eqb, eqb→eq}
 use lib.ListN.{length, getD}
 use Rattle.questions.specs.Bytes.{sameBytes}
-use Rattle.questions.specs.Tests.{all}
+use Rattle.questions.specs.Tests.{all, different}
 use Rattle.questions.specs.Laws.Tests.{none-some, all-head, all-tail, all-getD}
 use Rattle.questions.specs.Laws.Answers.{ask-passed}
 use Rattle.questions.specs.Laws.Bytes.{same-refl, same-equal}
 use Rattle.list_definitions.specs.Instruction.{Instr, opOf}
-use Rattle.list_definitions.specs.Names.{Names, trimmed, nameOf, mostOp, nameBytes, namesIn, isCapital, isName, different, isNameTable, question14}
+use Rattle.list_definitions.specs.Names.{Names, trimmed, nameOf, mostOp, nameBytes, namesIn, isCapital, isName, isNameTable, question14}
 use Rattle.list_definitions.specs.Laws.Names.{true→T, IsNamed, named, trimmed-long, same-letters, names-many, name-long, op-in-table}
 use Rattle.reader_definitions.specs.Reader.{opNamed}
 
@@ -42,13 +42,13 @@ found-name k (name ∷ names) w m e = go (sameBytes (trimmed name) w) refl (foun
         (omega arith, omega arith, rw y (r .2))
 
 -- each of some different names is found
-find-name : (k : ℕ) (names : Names) (n : ℕ) → ((p : ℕ) → p < length names → length (getD names p []) ≡ n) → T (all isName names) → T (different names)
+find-name : (k : ℕ) (names : Names) (n : ℕ) → ((p : ℕ) → p < length names → length (getD names p []) ≡ n) → T (all isName names) → T (different sameBytes names)
     → (p : ℕ) → p < length names → opNamed k names (trimmed (getD names p [])) ≡ some (k + p)
 unfolding opNamed different
 find-name k [] n long each diff p l = absurd (omega arith)
 find-name k (name ∷ names) n long each diff zero l = rw (same-refl (trimmed name), opNamed, add-zero) refl
 find-name k (name ∷ names) n long each diff (suc p) l =
-    let d = and-yes (all (λ other. not (sameBytes other name)) names) (different names) diff in
+    let d = and-yes (all (λ other. not (sameBytes other name)) names) (different sameBytes names) diff in
     let i : p < length names = omega arith in
     let other = getD names p [] in
     let apart : T (not (sameBytes other name)) = all-getD (λ other. not (sameBytes other name)) names p [] i (d .0) in
@@ -78,8 +78,8 @@ pub good-table : (table : List ℕ) → question14 table ≡ none → Good (name
 unfolding question14 isNameTable nameOf
 good-table table e =
     let names = namesIn table in
-    let x = and-yes (eqb (length table) (nameBytes * mostOp)) (all isName names && different names) (ask-passed 14 _ e) in
-    let y = and-yes (all isName names) (different names) (x .1) in
+    let x = and-yes (eqb (length table) (nameBytes * mostOp)) (all isName names && different sameBytes names) (ask-passed 14 _ e) in
+    let y = and-yes (all isName names) (different sameBytes names) (x .1) in
     let long = name-long mostOp table (eqb→eq _ _ (x .0)) in
     let many = names-many mostOp table in
     let place : (i : Instr) → opOf i - 1 < mostOp = λ i. let r = op-in-table i in omega arith in

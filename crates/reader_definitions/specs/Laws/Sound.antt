@@ -15,9 +15,9 @@ use Rattle.text_grammar.specs.Grammar.{IsNumber}
 use Rattle.text_grammar.specs.Reader.{pick, Parse, read, stuck, mapP, bind, followed, numeralOf}
 use Rattle.text_grammar.specs.Laws.Spans.{Span, span-none, span-byte, span-join, span-snoc}
 use Rattle.text_grammar.specs.Laws.Fits.{Fits, fits, begins, cases, number-fits}
-use Rattle.list_definitions.specs.Instruction.{Instr, Operand, tableIndex, noOperand, instructionIndex}
+use Rattle.list_definitions.specs.Instruction.{Instr, Operand, tableIndex, noOperand, instructionIndex, timerNumber}
 use Rattle.list_definitions.specs.Names.{Names, nameBytes, isCapital}
-use Rattle.reader_definitions.specs.Form.{ListRung, IsOperand, vNumber, tNumber, atNumber, nameOnly, IsInstruction, instructionLine, IsLabel, labelLine, IsCode, noLine, moreLine, IsRung, rungLines, IsListText, oneRung, moreRungs}
+use Rattle.reader_definitions.specs.Form.{ListRung, IsOperand, vNumber, tNumber, atNumber, dNumber, nameOnly, IsInstruction, instructionLine, IsLabel, labelLine, IsCode, noLine, moreLine, IsRung, rungLines, IsListText, oneRung, moreRungs}
 use Rattle.reader_definitions.specs.Reader.{lettersFrom, between, given, below, lettered, operandFrom, instrNamed, instructionFrom, opensLabel, labelFrom, codeFrom, listRung, rungFrom, rungsFrom, listTextOf}
 use Rattle.reader_definitions.specs.Laws.Operands.{operand-small, named-sound}
 
@@ -94,7 +94,8 @@ module _ (s : List ℕ) where
         (λ t. cases P (ltb x vars) (some (tableIndex x)) none (λ u. one 118 (omega arith) t (tableIndex x) (vNumber y (ltb-true x vars u))) (λ u. halts)) (λ t.
         cases P (eqb c 116) (below x scratchBytes (tableIndex (vars + x))) _
         (λ t. cases P (ltb x scratchBytes) (some (tableIndex (vars + x))) none (λ u. one 116 (omega arith) t (tableIndex (vars + x)) (tNumber y (ltb-true x scratchBytes u))) (λ u. halts)) (λ t.
-        cases P (eqb c 64) (some (instructionIndex x)) none (λ t. one 64 (omega arith) t (instructionIndex x) (atNumber y)) (λ t. halts)))
+        cases P (eqb c 64) (some (instructionIndex x)) _ (λ t. one 64 (omega arith) t (instructionIndex x) (atNumber y)) (λ t.
+        cases P (eqb c 100) (some (timerNumber x)) none (λ t. one 100 (omega arith) t (timerNumber x) (dNumber y)) (λ t. halts))))
 
     numbered-reads : (at : ℕ) → getD s at 0 ≡ 32 → (p : Parse ℕ) → Reads IsNumber s (at + 2) p
         → Reads (IsOperand vars) s at (bind p (λ n x. given n (lettered vars (getD s (at + 1) 0) x)))

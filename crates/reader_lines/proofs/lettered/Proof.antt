@@ -1,6 +1,6 @@
 -- `reader_lines::lettered` meets its contract: a law for each letter, in range and out of it. Assumes nothing.
 use borrow.Author.Needs.{needs}
-use Rattle.reader_lines.proofs.Operands.{v-number, v-large, t-number, t-large, at-number, other-letter}
+use Rattle.reader_lines.proofs.Operands.{v-number, v-large, t-number, t-large, at-number, d-number, other-letter}
 use Rattle.reader_lines.proofs.lettered.Statement.{statement}
 use Rattle.reader_lines.proofs.lettered.Tie as tie
 
@@ -23,8 +23,11 @@ returns-5 : tie.Need-returns-5
 returns-5 c = at-number _ _ _ _ (c .if5 .taken) (c .before .before .before .pre .1)
 
 returns-6 : tie.Need-returns-6
-returns-6 c = other-letter _ _ _ _ (c .before .before .if1 .left) (c .before .if3 .left) (c .if5 .left)
+returns-6 c = d-number _ _ _ _ (c .if6 .taken) (c .before .before .before .before .pre .1)
+
+returns-7 : tie.Need-returns-7
+returns-7 c = other-letter _ _ _ _ (c .before .before .before .if1 .left) (c .before .before .if3 .left) (c .before .if5 .left) (c .if6 .left)
 
 pub lettered-spec : {M : Type 1} → statement M
 lettered-spec =
-    tie.close (tie.spec returns returns-2 add-t8 returns-3 returns-4 returns-5 returns-6)
+    tie.close (tie.spec returns returns-2 add-t8 returns-3 returns-4 returns-5 returns-6 returns-7)

@@ -22,6 +22,9 @@ enum-told-3 c = search needs
 enum-told-4 : tie.Need-enum-told-4
 enum-told-4 c = search needs
 
+enum-told-5 : tie.Need-enum-told-5
+enum-told-5 c = search needs
+
 returns : tie.Need-returns
 unfolding sortIn sortNumber
 returns c = ap sortNumber (sort-told (c .before .before .operand-sort .ensures) (c .enum-told .given .1))
@@ -38,6 +41,10 @@ returns-4 : tie.Need-returns-4
 unfolding sortIn sortNumber
 returns-4 c = ap sortNumber (sort-told (c .before .before .operand-sort .ensures) (c .enum-told4 .given .1))
 
+returns-5 : tie.Need-returns-5
+unfolding sortIn sortNumber
+returns-5 c = ap sortNumber (sort-told (c .before .before .operand-sort .ensures) (c .enum-told5 .given .1))
+
 pub sort-of-spec : {M : Type 1} → statement M
 sort-of-spec =
     tie.close
@@ -47,7 +54,9 @@ sort-of-spec =
     enum-told-2
     enum-told-3
     enum-told-4
+    enum-told-5
     returns
     returns-2
     returns-3
-    returns-4)
+    returns-4
+    returns-5)

@@ -29,21 +29,21 @@ same-length c = search needs
 
 returns : tie.Need-returns
 unfolding write writtenAt
-returns c = rw (c .before .before .turned .ensures, c .if2 .taken) refl
+returns c = record { same = λ timers now. rw (c .before .before .turned .ensures, c .if2 .taken) refl }
 
 same-length-2 : tie.Need-same-length-2
 same-length-2 c = search needs
 
 returns-2 : tie.Need-returns-2
 unfolding write writtenAt
-returns-2 c = rw (c .before .before .turned .ensures, c .if2 .left) refl
+returns-2 c = record { same = λ timers now. rw (c .before .before .turned .ensures, c .if2 .left) refl }
 
 same-length-3 : tie.Need-same-length-3
 same-length-3 c = search needs
 
 returns-3 : tie.Need-returns-3
 unfolding write writtenAt
-returns-3 c = rw (c .before .turned .ensures, set-out _ _ _ (c .if1 .left)) refl
+returns-3 c = record { same = λ timers now. rw (c .before .turned .ensures, set-out _ _ _ (c .if1 .left)) refl }
 
 pub write-spec : {M : Type 1} → statement M
 write-spec =

@@ -13,11 +13,11 @@ same-length c = search needs
 
 returns : tie.Need-returns
 unfolding writeIf
-returns c = c .before .before .write .ensures ∙ rw (c .before .before .before .before .if1 .taken) refl
+returns c = record { same = λ timers now. c .before .before .write .ensures .same timers now ∙ rw (c .before .before .before .before .if1 .taken) refl }
 
 returns-2 : tie.Need-returns-2
 unfolding writeIf
-returns-2 c = rw (c .if1 .left) refl
+returns-2 c = record { same = λ timers now. rw (c .if1 .left) refl }
 
 pub write-if-spec : {M : Type 1} → statement M
 write-if-spec = tie.close (tie.spec write-requires same-length returns returns-2)

@@ -9,15 +9,16 @@ use lib.Dec.{T, eqb, ltb, leb→le}
 use lib.ListN.{length, getD}
 use lib.Seq.{getD-set-same}
 use borrow.Author.Tests.{ltb-true}
-use Rattle.questions.specs.Tests.{all, bit}
+use Rattle.questions.specs.Tests.{all, bit, truth}
 use Rattle.questions.specs.Laws.Tests.{all-head, all-tail}
-use Rattle.table.specs.State.{State, stateOf, truth, valueAt, writtenAt, turns, write}
+use Rattle.table.specs.Timer.{Timer}
+use Rattle.table.specs.State.{State, stateOf, valueAt, writtenAt, turns, write}
 use Rattle.table.specs.Questions.{isBit}
 use Rattle.table.specs.Writes.{Write, wrote, made, changesByte, changesVariable, changes, WritesTell}
 use Rattle.table.specs.Laws.Alike.{table-room, table-bits}
 use Rattle.table.specs.Laws.Legal.{LegalTable, written-legal}
 use Rattle.table.specs.Laws.Moved.{write-few}
-use Rattle.table.specs.Laws.Replaying.{makes, makes-bytes}
+use Rattle.table.specs.Laws.Replaying.{untimed, makes, makes-bytes}
 
 bit-at : (xs : List ℕ) (i : ℕ) → T (all isBit xs) → getD xs i 0 ≤ 1
 bit-at [] i h = omega arith
@@ -40,9 +41,9 @@ turns-changes vars bytes i b legal = go (ltb i vars) refl
     go : (c : Bool) → ltb i vars ≡ c → turns vars bytes i b ≡ changesVariable vars (wrote i b) bytes
     go false e = rw e
     go true e =
-        let room = table-room (stateOf vars bytes) legal in
+        let room = table-room vars bytes legal in
         let below = ltb-true i vars e in
-        let bits = table-bits (stateOf vars bytes) legal in
+        let bits = table-bits vars bytes legal in
         rw (e, getD-set-same bytes i (bit b) 0 (omega arith)) (byte-changes (getD bytes i 0) b (bit-at bytes i bits))
 
 -- the sum after some writes
@@ -63,9 +64,9 @@ makes-few [] s = omega arith
 makes-few (w ∷ later) s = let first = write-few s (w .index) (w .value) in let rest = makes-few later (write s (w .index) (w .value)) in omega arith
 
 -- a state that begins with nothing turned over, and one that the writes leave
-pub makes-tell : (vars : ℕ) (ws : List Write) (table : List ℕ) (s : State) → LegalTable vars table → s ≡ makes ws (stateOf vars table)
-    → WritesTell vars ws table (s .moved) (s .bytes)
-makes-tell vars ws table s h e = record {
-  replayed = ap (λ t. t .bytes) e ∙ makes-bytes ws (stateOf vars table);
-  sum = ap (λ t. t .moved) e ∙ makes-moved ws (stateOf vars table) h ∙ omega arith;
+pub makes-tell : (vars : ℕ) (ws : List Write) (table : List ℕ) (timers : List Timer) (now : ℕ) (s : State) → LegalTable vars table
+    → untimed s ≡ makes ws (untimed (stateOf vars table timers now)) → WritesTell vars ws table (s .moved) (s .bytes)
+makes-tell vars ws table timers now s h e = record {
+  replayed = ap (λ t. t .bytes) e ∙ makes-bytes ws (untimed (stateOf vars table timers now));
+  sum = ap (λ t. t .moved) e ∙ makes-moved ws (untimed (stateOf vars table timers now)) h ∙ omega arith;
 }

@@ -10,12 +10,12 @@ use mir.Facts.{and-yes, yes-and}
 use Rattle.questions.specs.Tests.{all, bit}
 use Rattle.questions.specs.Laws.Tests.{all-head, all-tail, all-cons}
 use Rattle.questions.specs.Laws.Answers.{ask-passed, passed-ask}
-use Rattle.table.specs.State.{State, stateOf, tableSize, writtenAt}
+use Rattle.table.specs.State.{State, tableSize, writtenAt}
 use Rattle.table.specs.Questions.{isBit, tableInRange, question11, Legal}
 
 -- a table that question 11 takes
 abbrev pub LegalTable : ℕ → List ℕ → Type 0
-LegalTable vars table = question11 (stateOf vars table) ≡ none
+LegalTable vars table = question11 vars table ≡ none
 
 pub legal-table : (s : State) → Legal s → LegalTable (s .vars) (s .bytes)
 unfolding question11 tableInRange

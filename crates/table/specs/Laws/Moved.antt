@@ -3,11 +3,12 @@ use Prim.Native.Nat.{ℕ, _+_, _≤_, _<_}
 use native.Mathlib.Omega.{arith}
 use mathlib.Core.Path.{_≡_, ap}
 use mathlib.Core.Bool.{Bool, true, false, xor}
-use mathlib.Core.List.{List}
+use mathlib.Core.List.{List, []}
 use borrow.Author.Tests.{lt-ltb, le-ltb}
 use Rattle.questions.specs.Tests.{bit}
 use Rattle.questions.specs.Laws.Tests.{bit-few}
 use Rattle.table.specs.State.{State, stateWith, valueAt, turns, write, writeIf}
+use Rattle.table.specs.Parts.{TableChanged}
 
 module _ (vars : ℕ) (bytes : List ℕ) (i : ℕ) (b : Bool) where
   -- a variable of the other value
@@ -36,8 +37,8 @@ write-if-few false s i b = omega arith
 
 -- the same of the sum that a write gives, where it leaves the bytes u
 module _ (vars : ℕ) (t u : List ℕ) (moved sum i : ℕ) (b : Bool) where
-  pub sum-few : stateWith vars u sum ≡ write (stateWith vars t moved) i b → sum ≤ moved + 1
-  sum-few e = let few = write-few (stateWith vars t moved) i b in let is = ap (λ s. s .moved) e in omega arith
+  pub sum-few : TableChanged vars t moved (λ s. write s i b) sum u → sum ≤ moved + 1
+  sum-few h = let few = write-few (stateWith vars t [] 0 moved) i b in let is = ap (λ s. s .moved) (h .same [] 0) in omega arith
 
-  pub sum-if-few : (q : Bool) → stateWith vars u sum ≡ writeIf q (stateWith vars t moved) i b → sum ≤ moved + 1
-  sum-if-few q e = let few = write-if-few q (stateWith vars t moved) i b in let is = ap (λ s. s .moved) e in omega arith
+  pub sum-if-few : (q : Bool) → TableChanged vars t moved (λ s. writeIf q s i b) sum u → sum ≤ moved + 1
+  sum-if-few q h = let few = write-if-few q (stateWith vars t [] 0 moved) i b in let is = ap (λ s. s .moved) (h .same [] 0) in omega arith

@@ -17,7 +17,7 @@ use Rattle.ladder_definitions.specs.Questions.{question5, question6, question7,
 use Rattle.ladder_definitions.specs.Laws.Accepting.{ladder-is, accepting}
 use Rattle.text_grammar.specs.Grammar.{IsText}
 use Rattle.text_grammar.specs.Questions.{question3}
-use Rattle.text_grammar.specs.Theorems.{read-exactly, yes-exactly, scratch-always, some-rung, decoded-always}
+use Rattle.text_grammar.specs.Theorems.{read-exactly, yes-exactly, scratch-always, some-rung, operands-fit, decoded-always}
 use Rattle.text_definitions.specs.Read.{textLadder, keptBuffers, kept, refused, ReadCall, readText, writtenKept}
 
 -- ---- what was written, taken out again
@@ -157,6 +157,7 @@ module _ (vars : ℕ) (text : List ℕ) (lent : Buffers) where
         record {
           range = first-yes (question1 vars) _ yes-before;
           some-rung = some-rung in-grammar;
+          fits = operands-fit in-grammar;
           sizes = first-yes (question5 gs) _ e5;
           variables = first-yes (question6 vars gs) _ e6;
           differ = first-yes (question7 gs) _ e7;

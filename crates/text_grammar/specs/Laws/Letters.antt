@@ -8,7 +8,7 @@ use lib.Dec.{eqb}
 use borrow.Author.Tests.{eqb-true}
 use Rattle.ladder_definitions.specs.Tree.{Output, outputNames, number}
 use Rattle.ladder_definitions.specs.Kept.{outputKind}
-use Rattle.text_grammar.specs.Grammar.{IsOutput, oLetter, qLetter, jLetter, kLetter, sLetter, rLetter}
+use Rattle.text_grammar.specs.Grammar.{IsOutput, oLetter, qLetter, jLetter, kLetter, sLetter, rLetter, tLetter}
 use Rattle.text_grammar.specs.Reader.{pick, opensFactor, outputAt}
 
 -- the reader knows the letter, which begins no factor; what it makes of a number names that number, and has one kind
@@ -27,6 +27,7 @@ letter jLetter = record { known = refl; positive = omega arith; noFactor = refl;
 letter kLetter = record { known = refl; positive = omega arith; noFactor = refl; names = λ v. refl; kind = λ v. refl }
 letter sLetter = record { known = refl; positive = omega arith; noFactor = refl; names = λ v. refl; kind = λ v. refl }
 letter rLetter = record { known = refl; positive = omega arith; noFactor = refl; names = λ v. refl; kind = λ v. refl }
+letter tLetter = record { known = refl; positive = omega arith; noFactor = refl; names = λ v. refl; kind = λ v. refl }
 
 -- and the reader knows no other
 pub known-letter : (b : ℕ) (make : ℕ → Output) → outputAt b ≡ some make → IsOutput b make
@@ -37,7 +38,8 @@ known-letter b make =
     (either jLetter
     (either kLetter
     (either sLetter
-    (either rLetter (λ e. let z : _≡_ {A = ℕ} 0 1 = cc in absurd (omega arith)))))))
+    (either rLetter
+    (either tLetter (λ e. let z : _≡_ {A = ℕ} 0 1 = cc in absurd (omega arith))))))))
   where
     either : {c : ℕ} {found : ℕ → Output} {rest : Option (ℕ → Output)} → IsOutput c found → (rest ≡ some make → IsOutput b make)
         → pick (eqb b c) (some found) rest ≡ some make → IsOutput b make

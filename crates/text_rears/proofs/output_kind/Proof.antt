@@ -32,9 +32,13 @@ unfolding letterKind outputAt outputKind
 returns-6 c = rw (c .match .keys6) refl
 
 returns-7 : tie.Need-returns-7
+unfolding letterKind outputAt outputKind
+returns-7 c = rw (c .match .keys7) refl
+
+returns-8 : tie.Need-returns-8
 unfolding letterKind outputAt
-returns-7 c =
-    rw (ne-eqb _ _ (c .match .rest .0 .0 .0 .0 .0 .1), ne-eqb _ _ (c .match .rest .0 .0 .0 .0 .1), ne-eqb _ _ (c .match .rest .0 .0 .0 .1), ne-eqb _ _ (c .match .rest .0 .0 .1), ne-eqb _ _ (c .match .rest .0 .1), ne-eqb _ _ (c .match .rest .1), letterKind) refl
+returns-8 c =
+    rw (ne-eqb _ _ (c .match .rest .0 .0 .0 .0 .0 .0 .1), ne-eqb _ _ (c .match .rest .0 .0 .0 .0 .0 .1), ne-eqb _ _ (c .match .rest .0 .0 .0 .0 .1), ne-eqb _ _ (c .match .rest .0 .0 .0 .1), ne-eqb _ _ (c .match .rest .0 .0 .1), ne-eqb _ _ (c .match .rest .0 .1), ne-eqb _ _ (c .match .rest .1), letterKind) refl
 
 pub output-kind-spec : {M : Type 1} → statement M
-output-kind-spec = tie.close (tie.spec returns returns-2 returns-3 returns-4 returns-5 returns-6 returns-7)
+output-kind-spec = tie.close (tie.spec returns returns-2 returns-3 returns-4 returns-5 returns-6 returns-7 returns-8)

@@ -12,7 +12,7 @@ use Rattle.questions.specs.Tests.{bit}
 use Rattle.table.specs.State.{State}
 use Rattle.rungs.specs.Records.{isStart, enter}
 use Rattle.ladder_definitions.specs.Meaning.{Run, onward, jumped, left}
-use Rattle.list_definitions.specs.Instruction.{Instr, LD, LDN, ST, STN, AND, ANDN, OR, ORN, XOR, XORN, NOT, JMP, JMPC, JMPCN, S, R}
+use Rattle.list_definitions.specs.Instruction.{Instr, LD, LDN, ST, STN, AND, ANDN, OR, ORN, XOR, XORN, NOT, JMP, JMPC, JMPCN, S, R, TON}
 use Rattle.list_definitions.specs.Machine.{InstructionList, Counts, Machine, ListResult, does, count, step, scanMachine}
 use Rattle.list_definitions.specs.Laws.Times.{enter-length, enter-none}
 use Rattle.list_definitions.specs.Laws.Watchdog.{scan-step}
@@ -48,6 +48,7 @@ leaves (JMPC j) v = cond v (some j) none
 leaves (JMPCN j) v = cond v none (some j)
 leaves (S x) v = none
 leaves (R x) v = none
+leaves (TON n) v = none
 
 unfoldable pub exec : List Instr → Bool → State → Out
 exec [] v t = record { count = 0; accumulator = v; run = onward t }
@@ -90,6 +91,7 @@ does-at (JMPCN j) true t pc = refl
 does-at (JMPCN j) false t pc = refl
 does-at (S x) v t pc = refl
 does-at (R x) v t pc = refl
+does-at (TON n) v t pc = refl
 
 -- the index after n instructions from pc on
 unfoldable pub landing : ℕ → Run → ℕ → ℕ

@@ -14,20 +14,20 @@ use Rattle.questions.specs.Laws.Tests.{all-head, all-tail, all-cons, all-at}
 use Rattle.questions.specs.Questions.{question12, mostRungWatchdog, mostInstructionWatchdog}
 use Rattle.questions.specs.Laws.Answers.{passed-ask, vars-in-range, in-range-watchdog}
 use Rattle.table.specs.State.{tableSize}
-use Rattle.rungs.specs.Words.{operands}
+use Rattle.rungs.specs.Words.{operands, isOperand}
 use Rattle.rungs.specs.Records.{RungRecord, laid, lay, longest, mostRecords}
 use Rattle.rungs.specs.Laws.Layout.{sizes, lay-length, lay-laid, longest-most, pieces-length}
-use Rattle.ladder_definitions.specs.Tree.{contact, contactn, Front, input, frontAnd, frontOr, Output, coil, coiln, jump, jumpn, setCoil, resetCoil, Rear, output, rearAnd, rearOr, Rung, Ladder, outputNames}
-use Rattle.ladder_definitions.specs.Kept.{frontWords, rearWords, rungWords}
+use Rattle.ladder_definitions.specs.Tree.{contact, contactn, Front, input, frontAnd, frontOr, Output, coil, coiln, jump, jumpn, setCoil, resetCoil, timer, Rear, output, rearAnd, rearOr, Rung, Ladder, rungAll, outputNames, number}
+use Rattle.ladder_definitions.specs.Kept.{frontWords, rearWords, rungWords, inputFits, outputFits}
 use Rattle.ladder_definitions.specs.Questions.{namedBelow, outputBelow, rungBelow, mostRungs, mostRungWords, Accepted}
 use Rattle.ladder_definitions.specs.Laws.Accepting.{sized}
-use Rattle.list_definitions.specs.Instruction.{Instr, ST, AND, ANDN, OR, ORN, Operand, tableIndex, noOperand, instructionIndex, operand, operandFits, instrFits, instrWord, decodeCode}
+use Rattle.list_definitions.specs.Instruction.{Instr, ST, AND, ANDN, OR, ORN, Operand, tableIndex, noOperand, instructionIndex, timerNumber, operand, operandFits, instrFits, instrWord, decodeCode}
 use Rattle.list_definitions.specs.Questions.{operandInRange, instrInRange, wordInRange, mostInstructions, recordsLaid, listInRange, question10}
 use Rattle.list_definitions.specs.Laws.Decoding.{decode-instr, decode-code}
 use Rattle.translation_definitions.specs.Translate.{F, R, join, outputCode, rungCode, translate, codeBound}
 use Rattle.translation_definitions.specs.Laws.Places.{labelOf, sizeBy, listOf}
 use Rattle.translation_definitions.specs.Laws.Parts.{rung-long}
-use Rattle.translation_definitions.specs.Laws.Operands.{scratchFits, codes-pass, rungs-any}
+use Rattle.translation_definitions.specs.Laws.Operands.{scratchFits, codes-pass, rungs-outputs, rungs-any}
 use Rattle.translation_definitions.specs.Laws.Lists.{below-all, scratch-all, start, code, translate-is, start-near}
 
 -- code whose operands question 10 takes, in a list of n instructions over a table of this size
@@ -51,9 +51,31 @@ module _ (vars n : ℕ) (start : ℕ → ℕ) (near : (l : ℕ) → start l ≤ 
   output-in-range (jumpn l) b f = le→leb (start l) n (near l)
   output-in-range (setCoil v) b f = let l = ltb→lt v vars b in in-table v (omega arith)
   output-in-range (resetCoil v) b f = let l = ltb→lt v vars b in in-table v (omega arith)
+  output-in-range (timer k) b f = tt
 
   pub codes-in-range : (gs : Ladder) → T (all (rungBelow vars) gs) → T (all scratchFits gs) → InRange (tableSize vars) n (flatMap (rungCode vars start) gs)
   codes-in-range gs b h = codes-pass vars start (operandInRange size n) (λ o. true) (λ v l. in-table v (omega arith)) (λ d l. in-table (vars + d) (omega arith)) output-in-range gs b (rungs-any gs) h
+
+  -- and operands of 16 bits, where V and the list's length allow no other, and the ladder's timer numbers have 16 bits
+  module _ (table-few : size ≤ operands) (list-few : n < operands) where
+    short : (x : ℕ) → x < operands → T (isOperand x)
+    short x h = lt→ltb x operands h
+
+    output-fits : (o : Output) → T (outputBelow vars o) → T (outputFits o) → T (operandFits (operand (outputCode start o)))
+    unfolding outputCode outputBelow outputFits namedBelow outputNames number operand operandFits
+    output-fits (coil v) b f = f
+    output-fits (coiln v) b f = f
+    output-fits (jump l) b f = let h = near l in short (start l) (omega arith)
+    output-fits (jumpn l) b f = let h = near l in short (start l) (omega arith)
+    output-fits (setCoil v) b f = f
+    output-fits (resetCoil v) b f = f
+    output-fits (timer k) b f = f
+
+    pub codes-fit : (gs : Ladder) → T (all (rungBelow vars) gs) → T (all (rungAll inputFits outputFits) gs) → T (all scratchFits gs)
+        → T (all instrFits (flatMap (rungCode vars start) gs))
+    unfolding instrFits operandFits
+    codes-fit gs b f h = codes-pass vars start operandFits outputFits (λ v l. short v (omega arith)) (λ d l. short (vars + d) (omega arith)) output-fits gs b
+        (rungs-outputs inputFits outputFits gs f) h
 
 -- ---- a rung has at most two instructions for a word
 
@@ -104,34 +126,16 @@ module _ (vars : ℕ) where
 
 -- ---- questions 10 and 12
 
--- an instruction in range has an operand of 16 bits, where V and the list's length allow no other
-range-fits : (size n : ℕ) → size ≤ operands → n < operands → (i : Instr) → T (instrInRange size n i) → T (instrFits i)
-unfolding instrFits operandInRange operandFits
-range-fits size n hv hn i h = go (operand i) h
-  where
-    go : (o : Operand) → T (operandInRange size n o) → T (operandFits o)
-    go (tableIndex x) k = let l = ltb→lt x size k in lt→ltb x operands (omega arith)
-    go noOperand k = tt
-    go (instructionIndex j) k = let l = leb→le j n k in lt→ltb j operands (omega arith)
-
-all-fit : (size n : ℕ) → size ≤ operands → n < operands → (is : List Instr) → InRange size n is → T (all instrFits is)
-unfolding all
-all-fit size n hv hn [] h = tt
-all-fit size n hv hn (i ∷ is) h = all-cons instrFits i is (range-fits size n hv hn i (all-head (instrInRange size n) i is h)) (all-fit size n hv hn is (all-tail (instrInRange size n) i is h))
-
 in-word : (size n : ℕ) (i : Instr) → T (instrFits i) → T (instrInRange size n i) → T (wordInRange size n (instrWord i))
 unfolding wordInRange
 in-word size n i f k = rw (decode-instr i f, wordInRange) k
 
-words-in-range : (size n : ℕ) → size ≤ operands → n < operands → (is : List Instr) → InRange size n is → T (all (wordInRange size n) (map instrWord is))
+words-in-range : (size n : ℕ) (is : List Instr) → T (all instrFits is) → InRange size n is → T (all (wordInRange size n) (map instrWord is))
 unfolding all
-words-in-range size n hv hn [] h = tt
-words-in-range size n hv hn (i ∷ is) h =
-    let here = all-head (instrInRange size n) i is h in
-    all-cons (wordInRange size n) (instrWord i) (map instrWord is) (one here) (words-in-range size n hv hn is (all-tail (instrInRange size n) i is h))
-  where
-    one : T (instrInRange size n i) → T (wordInRange size n (instrWord i))
-    one k = in-word size n i (range-fits size n hv hn i k) k
+words-in-range size n [] f h = tt
+words-in-range size n (i ∷ is) f h =
+    all-cons (wordInRange size n) (instrWord i) (map instrWord is) (in-word size n i (all-head instrFits i is f) (all-head (instrInRange size n) i is h))
+    (words-in-range size n is (all-tail instrFits i is f) (all-tail (instrInRange size n) i is h))
 
 module _ (vars : ℕ) (gs : Ladder) (a : Accepted vars gs) where
   abbrev translated : List Instr
@@ -170,6 +174,12 @@ module _ (vars : ℕ) (gs : Ladder) (a : Accepted vars gs) where
   in-range : InRange (tableSize vars) (length translated) translated
   in-range = codes-in-range vars (length translated) (start vars gs) (start-near vars gs) gs (below-all vars gs a) (scratch-all vars gs a)
 
+  fits : T (all instrFits translated)
+  fits =
+      let k = limits in
+      let most = k .code-most in
+      codes-fit vars (length translated) (start vars gs) (start-near vars gs) (k .range) (omega arith) gs (below-all vars gs a) (a .fits) (scratch-all vars gs a)
+
   abbrev laidRecords : List RungRecord
   laidRecords = lay labelOf (sizeBy (code vars gs)) 0 gs
 
@@ -198,14 +208,11 @@ module _ (vars : ℕ) (gs : Ladder) (a : Accepted vars gs) where
       rw (translate-is vars gs, length-map translated instrWord, lay-length labelOf (sizeBy (code vars gs)) 0 gs) (passed-ask 10 _
       (yes-and (leb 1 n && leb n mostInstructions) _ (yes-and (leb 1 n) (leb n mostInstructions) (le→leb 1 n least) (le→leb n mostInstructions most))
       (yes-and (leb 1 m && leb m mostRecords) (recordsLaid n laidRecords && words) (yes-and (leb 1 m) (leb m mostRecords) (le→leb 1 m some) (le→leb m mostRecords rungs))
-      (yes-and (recordsLaid n laidRecords) words records-laid (words-in-range (tableSize vars) n (k .range) (omega arith) translated in-range)))))
+      (yes-and (recordsLaid n laidRecords) words records-laid (words-in-range (tableSize vars) n translated fits in-range)))))
 
   pub list-decodes : decodeCode (map instrWord (translate vars gs .code)) ≡ some (translate vars gs .code)
   unfolding listOf
-  list-decodes =
-      let k = limits in
-      let most = k .code-most in
-      rw (translate-is vars gs) (decode-code translated (all-fit (tableSize vars) (length translated) (k .range) (omega arith) translated in-range))
+  list-decodes = rw (translate-is vars gs) (decode-code translated fits)
 
   longest-in-range : longest (translate vars gs .records) ≤ codeBound mostRungWords
   unfolding listOf

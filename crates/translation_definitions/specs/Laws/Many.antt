@@ -4,29 +4,25 @@ use Prim.Native.Nat.{ℕ, zero, suc}
 use mathlib.Core.Path.{_≡_, refl, sym, ap, _∙_}
 use mathlib.Core.Option.{none, some}
 use mathlib.Core.List.{List, [], _∷_, map}
-use lib.ListN.{set, take}
+use lib.ListN.{length, set, take}
 use Rattle.questions.specs.Tests.{bit}
-use Rattle.questions.specs.Questions.{Answer, firstNo, question1, question12, mostRungWatchdog, mostInstructionWatchdog}
-use Rattle.table.specs.State.{State, stateOf, variables, writtenAt, SameButScratch}
+use Rattle.questions.specs.Questions.{Answer, question12, mostRungWatchdog}
+use Rattle.table.specs.Timer.{Timer}
+use Rattle.table.specs.State.{stateOf, variables, writtenAt, SameButScratch}
 use Rattle.table.specs.Halt.{Ended}
-use Rattle.table.specs.Laws.Alike.{same-both, same-tables}
+use Rattle.table.specs.Questions.{question11, question16}
+use Rattle.table.specs.Laws.Alike.{same-both}
 use Rattle.table.specs.Laws.Legal.{LegalTable, written-legal}
-use Rattle.table.specs.Questions.{question11}
 use Rattle.rungs.specs.Records.{RungRecord}
 use Rattle.ladder_definitions.specs.Kept.{Kept}
-use Rattle.ladder_definitions.specs.Questions.{ladderOf, ladderAnswer}
-use Rattle.ladder_definitions.specs.LadderScan.{LadderScanCall, callLadderScan, scanned, scanEnds}
-use Rattle.ladder_definitions.specs.Laws.Accepting.{accepted}
-use Rattle.ladder_definitions.specs.Laws.Answers.{Asked, asked}
-use Rattle.ladder_definitions.specs.Laws.Scratch.{scan-stays}
-use Rattle.ladder_definitions.specs.Theorems.{scratch-not-read}
+use Rattle.ladder_definitions.specs.Questions.{ladderOf, question17}
+use Rattle.ladder_definitions.specs.Laws.Answers.{asked}
+use Rattle.ladder_definitions.specs.Theorems.{call-reads-no-scratch}
 use Rattle.list_definitions.specs.Instruction.{instrWord}
-use Rattle.list_definitions.specs.Questions.{question10}
 use Rattle.list_definitions.specs.ListScan.{listOf, callListScan, scanEnds as listEnds, scanQuestions}
 use Rattle.list_definitions.specs.Laws.Writes.{list-legal}
 use Rattle.translation_definitions.specs.Calls.{CallsAlike, CallsSums, ScansAgree}
 use Rattle.translation_definitions.specs.ManyScans.{InputValue, inputPhase, Scan, listFor, longestFor, ladderWith, listWith, LadderEnds, LaddersEnd, ManyGiven, BothEnd, ManyAgree}
-use Rattle.translation_definitions.specs.Laws.Lists.{below-all}
 
 -- ---- the input phase and a list scan leave a legal table legal
 
@@ -37,18 +33,13 @@ module _ (vars : ℕ) where
   input-legal (x ∷ later) table h = input-legal later (writtenAt table (x .variable) (x .value)) (written-legal vars table (x .variable) (x .value) h)
 
   -- List scan leaves a legal table legal, refused or not
-  call-legal : (words : List ℕ) (rs : List RungRecord) (table : List ℕ) (w : ℕ) → LegalTable vars table → LegalTable vars (callListScan vars words rs table w .table)
-  unfolding callListScan scanQuestions listEnds
-  call-legal words rs table w h = go answers refl
+  call-legal : (words : List ℕ) (rs : List RungRecord) (table : List ℕ) (timers : List Timer) (now w : ℕ) → LegalTable vars table
+      → LegalTable vars (callListScan vars words rs table timers now w .table)
+  unfolding callListScan listEnds
+  call-legal words rs table timers now w h = go (scanQuestions vars words rs table timers w) refl
     where
-      s : State
-      s = stateOf vars table
-
-      answers : Answer
-      answers = firstNo (question1 vars ∷ question10 vars words rs ∷ question11 s ∷ question12 mostInstructionWatchdog w ∷ [])
-
-      go : (a : Answer) → answers ≡ a → LegalTable vars (callListScan vars words rs table w .table)
-      go none q = rw (q, callListScan) (list-legal vars (listOf words rs) w s h)
+      go : (a : Answer) → scanQuestions vars words rs table timers w ≡ a → LegalTable vars (callListScan vars words rs table timers now w .table)
+      go none q = rw (q, callListScan) (list-legal vars (listOf words rs) w (stateOf vars table timers now) h)
       go (some refusal) q = rw (q, callListScan) h
 
 -- ---- the input phase gives the same variables from the same variables
@@ -67,54 +58,38 @@ input-taken vars (x ∷ later) t u e =
     let b = bit (x .value) in
     input-taken vars later (set t v b) (set u v b) (taken-set vars t v b ∙ ap (λ r. set r v b) e ∙ sym (taken-set vars u v b))
 
-input-same : (vars : ℕ) (inputs : List InputValue) (t u : List ℕ) → SameButScratch (stateOf vars t) (stateOf vars u)
-    → SameButScratch (stateOf vars (inputPhase inputs t)) (stateOf vars (inputPhase inputs u))
-unfolding variables
-input-same vars inputs t u e = record { same-vars = refl; same-variables = input-taken vars inputs t u (e .same-variables) }
-
--- ---- a ladder scan that is not refused does the same on two tables with the same variables
-
-module _ (vars : ℕ) (kept : Kept) where
-  -- two ladder scans with the same answer and the same variables
-  record Same (x y : LadderScanCall) : Type 0 where
-    answer : x .answer ≡ y .answer
-    same : SameButScratch (stateOf vars (x .table)) (stateOf vars (y .table))
-
-  ladder-same : ladderAnswer vars kept ≡ none → (t u : List ℕ) (n : ℕ) → SameButScratch (stateOf vars t) (stateOf vars u) → Asked vars kept t n → Asked vars kept u n
-      → Same (callLadderScan vars kept t n) (callLadderScan vars kept u n)
-  unfolding variables scanEnds
-  ladder-same ok t u n e a b =
-      let gs = ladderOf kept in
-      let taken = accepted vars kept ok .1 in
-      let s : State = stateOf vars t in
-      let s′ : State = stateOf vars u in
-      let x = scratch-not-read gs n s s′ (taken .variables) (record { table = a .legal }) (record { table = b .legal }) e refl in
-      let p = scan-stays gs n s (below-all vars gs taken) .same-vars in
-      let q = scan-stays gs n s′ (below-all vars gs taken) .same-vars in
-      rw (a .call, b .call) (record {
-        answer = λ i. scanned (x .halt i) (record { rungs = x .rungs i; moved = x .moved i });
-        same = same-tables vars p q (x .same);
-      })
-
 -- ---- scan by scan
 
--- demand 3's record for one scan of this ladder, on every legal table
-abbrev pub OneScan : ℕ → Kept → Type 0
-OneScan vars kept = (table : List ℕ) (n : ℕ) → question11 (stateOf vars table) ≡ none → question12 mostRungWatchdog n ≡ none
-    → ScansAgree vars kept (map instrWord (listFor vars kept .code)) (listFor vars kept .records) (longestFor vars kept) table n
+module _ (vars : ℕ) (kept : Kept) where
+  -- demand 3's record for one scan of this ladder, on every legal table and with all timer records that 16 and 17 take
+  abbrev pub OneScan : Type 0
+  OneScan = (table : List ℕ) (timers : List Timer) (now n : ℕ) → question11 vars table ≡ none → question16 vars timers ≡ none → question17 (length timers) (ladderOf kept) ≡ none
+      → question12 mostRungWatchdog n ≡ none
+      → ScansAgree vars kept (map instrWord (listFor vars kept .code)) (listFor vars kept .records) (longestFor vars kept) table timers now n
 
-module _ (vars : ℕ) (kept : Kept) (demand3 : OneScan vars kept) (ok : ladderAnswer vars kept ≡ none) where
-  scan-alike : (scan : Scan) (t u : List ℕ) → LegalTable vars u → SameButScratch (stateOf vars t) (stateOf vars u) → LadderEnds vars kept scan (ladderWith vars kept scan t)
-      → BothEnd vars kept (ladderWith vars kept scan t) (listWith vars kept scan u)
+module _ (vars : ℕ) (kept : Kept) (demand3 : OneScan vars kept) where
+  same-tables : (t u : List ℕ) (timers : List Timer) (now : ℕ) → take vars t ≡ take vars u → SameButScratch (stateOf vars t timers now) (stateOf vars u timers now)
+  unfolding variables
+  same-tables t u timers now e = record { same-vars = refl; same-variables = e; same-timers = refl }
+
+  same-variables : (t u : List ℕ) (ts us : List Timer) (now : ℕ) → SameButScratch (stateOf vars t ts now) (stateOf vars u us now) → take vars t ≡ take vars u
+  unfolding variables
+  same-variables t u ts us now e = e .same-variables
+
+  -- one scan, from tables with the same variables and equal timer records
+  scan-alike : (scan : Scan) (t u : List ℕ) (timers : List Timer) → LegalTable vars u → take vars t ≡ take vars u → LadderEnds vars kept scan (ladderWith vars kept scan t timers)
+      → BothEnd vars kept (scan .tick) (ladderWith vars kept scan t timers) (listWith vars kept scan u timers)
   unfolding ladderWith listWith CallsAlike CallsSums
-  scan-alike scan t u legal same h =
+  scan-alike scan t u timers legal same h =
       let n = scan .rungWatchdog in
+      let now = scan .tick in
       let t′ = inputPhase (scan .inputs) t in
       let u′ = inputPhase (scan .inputs) u in
-      let a = asked vars kept t′ n Ended (h .counts) (h .ended) in
-      let one = demand3 u′ n (input-legal vars (scan .inputs) u legal) (a .watchdog) in
-      let b = asked vars kept u′ n (one .halt) (one .counts) (one .scanned) in
-      let s = ladder-same vars kept ok t′ u′ n (input-same vars (scan .inputs) t u same) a b in
+      let a = asked vars kept t′ timers now n Ended (h .counts) (h .ended) in
+      let p = a .passed in
+      let legal′ = input-legal vars (scan .inputs) u legal in
+      let one = demand3 u′ timers now n legal′ (p .legal-timers) (p .known-timers) (p .watchdog) in
+      let s = call-reads-no-scratch vars kept n timers now t′ u′ (p .legal-table) legal′ (same-tables t′ u′ timers now (input-taken vars (scan .inputs) t u same)) in
       let w = scan .instructionWatchdog in
       let ended = sym (s .answer) ∙ h .ended in
       let x = one .alike w .ended (h .counts) ended (h .watchdog) (h .enough) in
@@ -132,14 +107,15 @@ module _ (vars : ℕ) (kept : Kept) (demand3 : OneScan vars kept) (ok : ladderAn
         same-sum = one .sums w .ended (h .counts) ended (h .watchdog) (h .enough);
       }
 
-  scans-alike : (scans : List Scan) (t u : List ℕ) → LegalTable vars u → SameButScratch (stateOf vars t) (stateOf vars u) → LaddersEnd vars kept scans t
-      → ManyAgree vars kept scans t u
+  scans-alike : (scans : List Scan) (t u : List ℕ) (ts us : List Timer) → LegalTable vars u → take vars t ≡ take vars u → ts ≡ us → LaddersEnd vars kept scans t ts
+      → ManyAgree vars kept scans t ts u us
   unfolding LaddersEnd ManyAgree listWith
-  scans-alike [] t u legal same h = tt
-  scans-alike (scan ∷ later) t u legal same h =
-      let b = scan-alike scan t u legal same (h .0) in
-      let left = call-legal vars _ _ (inputPhase (scan .inputs) u) (scan .instructionWatchdog) (input-legal vars (scan .inputs) u legal) in
-      (b, scans-alike later (ladderWith vars kept scan t .table) (listWith vars kept scan u .table) left (b .list-ended .same) (h .1))
+  scans-alike [] t u ts us legal same e h = tt
+  scans-alike (scan ∷ later) t u ts us legal same e h =
+      let b = rw e at (scan-alike scan t u ts legal same (h .0)) in
+      let left = call-legal vars _ _ (inputPhase (scan .inputs) u) us (scan .tick) (scan .instructionWatchdog) (input-legal vars (scan .inputs) u legal) in
+      rw e (b, scans-alike later _ _ _ _ left (same-variables _ _ _ _ (scan .tick) (b .list-ended .same)) (b .list-ended .same .same-timers) (rw e at (h .1)))
 
-pub many-alike : (vars : ℕ) (kept : Kept) → OneScan vars kept → (scans : List Scan) (t u : List ℕ) → ManyGiven vars kept scans t u → ManyAgree vars kept scans t u
-many-alike vars kept demand3 scans t u g = scans-alike vars kept demand3 (g .accepted) scans t u (g .list-legal) (g .same) (g .ladders-end)
+pub many-alike : (vars : ℕ) (kept : Kept) → OneScan vars kept → (scans : List Scan) (t u : List ℕ) (timers : List Timer) → ManyGiven vars kept scans t u timers
+    → ManyAgree vars kept scans t timers u timers
+many-alike vars kept demand3 scans t u timers g = scans-alike vars kept demand3 scans t u timers timers (g .list-legal) (g .same) refl (g .ladders-end)

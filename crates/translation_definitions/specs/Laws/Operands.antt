@@ -8,7 +8,7 @@ use mir.Facts.{and-yes, yes-and}
 use Rattle.questions.specs.Tests.{all}
 use Rattle.questions.specs.Laws.Tests.{all-head, all-tail, all-cons, all-one, all-append}
 use Rattle.table.specs.State.{scratchBytes}
-use Rattle.ladder_definitions.specs.Tree.{contact, contactn, Front, input, frontAnd, frontOr, Output, Rear, output, rearAnd, rearOr, Rung, Ladder, frontAll, rearAll, rungAll, inputVariable}
+use Rattle.ladder_definitions.specs.Tree.{Input, contact, contactn, Front, input, frontAnd, frontOr, Output, Rear, output, rearAnd, rearOr, Rung, Ladder, frontAll, rearAll, rungAll, inputVariable}
 use Rattle.ladder_definitions.specs.Questions.{inputBelow, outputBelow, rungBelow, joinScratch, frontScratch, rearScratch, rungScratch}
 use Rattle.list_definitions.specs.Instruction.{Instr, LD, LDN, ST, AND, ANDN, OR, ORN, Operand, tableIndex, operand}
 use Rattle.translation_definitions.specs.Translate.{F, R, join, outputCode, rungCode}
@@ -109,11 +109,29 @@ module _ (vars : ℕ) (start : ℕ → ℕ) (ok : Operand → Bool) (passes : Ou
       (rung-ok g (all-head (rungBelow vars) g gs b) (all-head (rungAll (λ i. true) passes) g gs k) (leb→le (rungScratch g) scratchBytes (all-head scratchFits g gs h)))
       (codes-pass gs (all-tail (rungBelow vars) g gs b) (all-tail (rungAll (λ i. true) passes) g gs k) (all-tail scratchFits g gs h))
 
-front-any : (f : Front) → T (frontAll (λ i. true) f)
+pub front-any : (f : Front) → T (frontAll (λ i. true) f)
 unfolding frontAll
 front-any (input i) = tt
 front-any (frontAnd f g) = yes-and (frontAll (λ i. true) f) (frontAll (λ i. true) g) (front-any f) (front-any g)
 front-any (frontOr f g) = yes-and (frontAll (λ i. true) f) (frontAll (λ i. true) g) (front-any f) (front-any g)
+
+-- outputs that pass a test, from rungs whose inputs pass one too
+rear-outputs : (inputs : Input → Bool) (passes : Output → Bool) (r : Rear) → T (rearAll inputs passes r) → T (rearAll (λ i. true) passes r)
+unfolding rearAll
+rear-outputs inputs passes (output o) h = h
+rear-outputs inputs passes (rearAnd f r) h =
+    yes-and (frontAll (λ i. true) f) (rearAll (λ i. true) passes r) (front-any f) (rear-outputs inputs passes r (and-yes (frontAll inputs f) (rearAll inputs passes r) h .1))
+rear-outputs inputs passes (rearOr a b) h =
+    let hh = and-yes (rearAll inputs passes a) (rearAll inputs passes b) h in
+    yes-and (rearAll (λ i. true) passes a) (rearAll (λ i. true) passes b) (rear-outputs inputs passes a (hh .0)) (rear-outputs inputs passes b (hh .1))
+
+pub rungs-outputs : (inputs : Input → Bool) (passes : Output → Bool) (gs : Ladder) → T (all (rungAll inputs passes) gs) → T (all (rungAll (λ i. true) passes) gs)
+unfolding all rungAll
+rungs-outputs inputs passes [] h = tt
+rungs-outputs inputs passes (g ∷ gs) h = all-cons (rungAll (λ i. true) passes) g gs
+    (yes-and (frontAll (λ i. true) (g .front)) (rearAll (λ i. true) passes (g .rear)) (front-any (g .front))
+    (rear-outputs inputs passes (g .rear) (and-yes (frontAll inputs (g .front)) (rearAll inputs passes (g .rear)) (all-head (rungAll inputs passes) g gs h) .1)))
+    (rungs-outputs inputs passes gs (all-tail (rungAll inputs passes) g gs h))
 
 rear-any : (r : Rear) → T (rearAll (λ i. true) (λ o. true) r)
 unfolding rearAll

@@ -10,9 +10,9 @@ use lib.Dec.{T, ltb→lt}
 use lib.ListN.{length, length-append}
 use mir.Facts.{and-yes}
 use Rattle.table.specs.State.{State, scratchBytes, value, write}
-use Rattle.table.specs.Laws.Alike.{Alike, Keeps, value-alike, write-both, write-if-both, write-scratch, value-written, keeps-all, keeps-variable, keeps-if, keeps-scratch, value-kept, keeps-less, keeps-both}
+use Rattle.table.specs.Laws.Alike.{Alike, Keeps, value-alike, write-both, write-if-both, timer-both, write-scratch, value-written, keeps-all, keeps-variable, keeps-if, keeps-timer, keeps-scratch, value-kept, keeps-less, keeps-both}
 use Rattle.rungs.specs.Records.{present}
-use Rattle.ladder_definitions.specs.Tree.{contact, contactn, Front, input, frontAnd, frontOr, Output, coil, coiln, jump, jumpn, setCoil, resetCoil, Rear, output, rearAnd, rearOr, Rung, Ladder, frontAll, rearAll, rungAll, inputVariable, outputNames}
+use Rattle.ladder_definitions.specs.Tree.{contact, contactn, Front, input, frontAnd, frontOr, Output, coil, coiln, jump, jumpn, setCoil, resetCoil, timer, Rear, output, rearAnd, rearOr, Rung, Ladder, frontAll, rearAll, rungAll, inputVariable, outputNames}
 use Rattle.ladder_definitions.specs.Meaning.{workInput, workFront, Run, onward, jumped, left, jumpIf, unlessJumped, runOutput, runRear, runRung}
 use Rattle.ladder_definitions.specs.Questions.{inputBelow, namedBelow, outputBelow, rungBelow, namedLeads, outputLeads, rungLeads, joinScratch, frontScratch, rearScratch, rungScratch}
 use Rattle.list_definitions.specs.Instruction.{Instr, LD, ST, AND, ANDN, OR, ORN}
@@ -192,6 +192,7 @@ module _ (vars : ℕ) where
     output-runs (jumpn l) d s t false b h p = takes d s t false _ l h refl refl refl p
     output-runs (setCoil x) d s t v b h p = let k = ltb→lt x vars b in fell (single refl refl refl (write-if-both p v x true k) (keeps-if vars d x t v true k))
     output-runs (resetCoil x) d s t v b h p = let k = ltb→lt x vars b in fell (single refl refl refl (write-if-both p v x false k) (keeps-if vars d x t v false k))
+    output-runs (timer n) d s t v b h p = fell (single refl refl refl (timer-both p n v) (keeps-timer vars d n t v (p .timed)))
 
     R-runs : (r : Rear) (d : ℕ) (s t : State) (v : Bool) → T (rearBelow vars r) → T (rearLeads ls r) → d + rearScratch r ≤ scratchBytes → Alike vars s t
         → Ran vars ls start d (R vars start r d) v t (runRear r v s)

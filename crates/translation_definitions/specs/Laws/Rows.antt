@@ -10,6 +10,7 @@ use Rattle.rungs.specs.Buffers.{Buffers, asBuffers, writtenWords, writtenRecord
 use Rattle.rungs.specs.Laws.Rows.{row-back, row-fields}
 use Rattle.rows.specs.declared.Rung.{Rung}
 use Rattle.rows.specs.Rows.{recordOf, recordsOf, timesOf}
+use Rattle.table.specs.Timer.{Timer}
 use Rattle.ladder_definitions.specs.Kept.{Kept}
 use Rattle.translation_definitions.specs.declared.Translated.{Translated}
 use Rattle.translation_definitions.specs.declared.Translated.the-variants.{Written, Refused}
@@ -31,15 +32,15 @@ records-first words rs ts m e =
     ∙ row-fields _ _ _ (take m ts) (length-map (take m rs) (λ r. r .label) ∙ length-take m rs ∙ ap (λ n. min m n) e ∙ sym (length-take m ts))
     ∙ row-back (take m rs)
 
-module _ (vars : ℕ) (kept : Kept) (lent : Buffers) (table : List ℕ) (n : ℕ) (given : Given vars kept lent table n) (code : List ℕ) (row : List Rung) where
-  agree : CallsAgree vars kept lent table n
-  agree = calls-alike vars kept lent table n given
+module _ (vars : ℕ) (kept : Kept) (lent : Buffers) (table : List ℕ) (timers : List Timer) (now n : ℕ) (given : Given vars kept lent table timers n) (code : List ℕ) (row : List Rung) where
+  agree : CallsAgree vars kept lent table timers now n
+  agree = calls-alike vars kept lent table timers now n given
 
   abbrev c : Counts
   c = agree .counts
 
   left-agree : asBuffers code (recordsOf row) (timesOf row) ≡ translateKept vars kept lent .buffers
-      → ScansAgree vars kept (take (c .instructions) code) (recordsOf (take (c .rungs) row)) (c .longest) table n
+      → ScansAgree vars kept (take (c .instructions) code) (recordsOf (take (c .rungs) row)) (c .longest) table timers now n
   left-agree e = rw (
     ← (words-first code (recordsOf row) (timesOf row) (c .instructions)),
     ← (take-map recordOf (c .rungs) row),
@@ -48,7 +49,7 @@ module _ (vars : ℕ) (kept : Kept) (lent : Buffers) (table : List ℕ) (n : ℕ
   ) (agree .scans)
 
   pub rows-alike : (answer : Translated) → TranslateDone (translateKept vars kept lent) answer (asBuffers code (recordsOf row) (timesOf row))
-      → RowsAgree vars kept answer code row table n
+      → RowsAgree vars kept answer code row table timers now n
   unfolding translatedAnswer
   rows-alike (Written d) done =
       let e : c ≡ countsIn d = same-counts (sym (agree .translated) ∙ sym (done .answer)) in

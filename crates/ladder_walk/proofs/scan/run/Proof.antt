@@ -2,37 +2,47 @@
 -- Each rung adds to the sum as many as there are words, at most, and so it stays below 2^32. Assumes nothing.
 use Prim.Native.Nat.{_-_}
 use native.Mathlib.Omega.{arith}
-use mathlib.Core.Path.{refl}
+use mathlib.Core.Path.{_≡_, refl, _∙_}
+use lib.ListN.{length}
 use borrow.Author.Needs.{needs}
 use Rattle.table.specs.State.{stateWith, stateOf}
+use Rattle.table.specs.TimerRecords.{timersIn}
 use Rattle.rungs.specs.Laws.Search.{ends-at}
 use Rattle.ladder_walk.specs.Laws.Scanning.{Scanning, scanning-first, scan-ended, scan-stopped, scan-onward, scan-jumped}
 use Rattle.ladder_walk.proofs.scan.run.Statement.{statement}
 use Rattle.ladder_walk.proofs.scan.run.Tie as tie
 
 abbrev Inv-loop : tie.InvT-loop
-Inv-loop vars words labels offsets table₀ watchdog entered₀ moved₀ rung₀ table entered moved rung = Scanning words labels offsets (stateOf vars table₀) watchdog (stateWith vars table moved) entered rung
+Inv-loop vars words labels offsets table₀ timers₀ tick watchdog entered₀ moved₀ rung₀ table timers entered moved rung =
+    Scanning words labels offsets (stateOf vars table₀ (timersIn timers₀) tick) watchdog (stateWith vars table (timersIn timers) tick moved) entered rung
+    × (length timers ≡ length timers₀)
 
 abbrev μ-loop : tie.MeasureT-loop
-μ-loop vars words labels offsets table₀ watchdog entered₀ moved₀ rung₀ table entered moved rung = watchdog - entered
+μ-loop vars words labels offsets table₀ timers₀ tick watchdog entered₀ moved₀ rung₀ table timers entered moved rung = watchdog - entered
 
 loop-holds : tie.Need-loop-holds Inv-loop μ-loop
-loop-holds c = scanning-first _ _ _ _ _ refl
+loop-holds c = (scanning-first _ _ _ _ _ refl, refl)
 
 same-length : tie.Need-same-length Inv-loop μ-loop
-same-length c = c .before .loop .inv .long
-
-returns : tie.Need-returns Inv-loop μ-loop
-returns c = scan-ended _ _ _ _ _ _ _ _ (c .before .loop .inv) (c .if1 .taken)
+same-length c = c .before .loop .inv .0 .long
 
 same-length-2 : tie.Need-same-length-2 Inv-loop μ-loop
-same-length-2 c = c .before .before .loop .inv .long
+same-length-2 c = c .before .loop .inv .1
+
+returns : tie.Need-returns Inv-loop μ-loop
+returns c = scan-ended _ _ _ _ _ _ _ _ (c .before .loop .inv .0) (c .if1 .taken)
+
+same-length-3 : tie.Need-same-length-3 Inv-loop μ-loop
+same-length-3 c = c .before .before .loop .inv .0 .long
+
+same-length-4 : tie.Need-same-length-4 Inv-loop μ-loop
+same-length-4 c = c .before .before .loop .inv .1
 
 returns-2 : tie.Need-returns-2 Inv-loop μ-loop
-returns-2 c = scan-stopped _ _ _ _ _ _ _ _ (c .before .before .loop .inv) (c .before .if1 .left) (c .if2 .taken)
+returns-2 c = scan-stopped _ _ _ _ _ _ _ _ (c .before .before .loop .inv .0) (c .before .if1 .left) (c .if2 .taken)
 
 add-entered : tie.Need-add-entered Inv-loop μ-loop
-add-entered c = omega (arith, c .before .before .loop .inv .within)
+add-entered c = omega (arith, c .before .before .loop .inv .0 .within)
 
 word-at-requires : tie.Need-word-at-requires Inv-loop μ-loop
 word-at-requires c κs = search needs
@@ -41,7 +51,7 @@ cast-start : tie.Need-cast-start Inv-loop μ-loop
 cast-start c = search needs
 
 run-rung-requires : tie.Need-run-rung-requires Inv-loop μ-loop
-run-rung-requires c κs = omega (arith, c .before .before .before .before .loop .inv .within, c .before .before .before .before .loop .inv .few, c .before .before .if2 .left, c .before .before .before .before .before .before .before .before .before .pre .words, c .before .before .before .before .before .before .before .before .before .pre .rungs)
+run-rung-requires c κs = omega (arith, c .before .before .before .before .before .loop .inv .0 .within, c .before .before .before .before .before .loop .inv .0 .few, c .before .before .before .if2 .left, c .before .before .before .before .before .before .before .before .before .before .before .pre .words, c .before .before .before .before .before .before .before .before .before .before .before .pre .rungs)
 
 enum-known-past-rung : tie.Need-enum-known-past-rung Inv-loop μ-loop
 enum-known-past-rung c = search needs
@@ -50,10 +60,10 @@ add-rung : tie.Need-add-rung Inv-loop μ-loop
 add-rung c = omega arith
 
 loop-less : tie.Need-loop-less Inv-loop μ-loop
-loop-less c = omega (arith, c .before .before .before .before .before .before .before .before .before .before .loop .inv .within)
+loop-less c = omega (arith, c .before .before .before .before .before .before .before .before .before .before .before .before .before .loop .inv .0 .within)
 
 loop-again : tie.Need-loop-again Inv-loop μ-loop
-loop-again c = scan-onward _ _ _ _ _ _ _ _ (c .before .before .before .before .before .before .before .before .before .before .loop .inv) (c .before .before .before .before .before .before .before .before .before .before .before .before .before .before .before .pre .words) (c .before .before .before .before .before .before .before .before .before .if1 .left) (c .before .before .before .before .before .before .before .before .if2 .left) _ (c .before .before .before .before .before .before .before .word-at .ensures) _ _ (c .before .before .before .before .before .run-rung .ensures) _ _ (c .before .past-rung .given .1) refl (c .before .before .before .before .before .run-rung .kept .1 .1 .1 .0)
+loop-again c = (scan-onward _ _ _ _ _ _ _ _ (c .before .before .before .before .before .before .before .before .before .before .before .before .before .loop .inv .0) (c .before .before .before .before .before .before .before .before .before .before .before .before .before .before .before .before .before .before .before .pre .words) (c .before .before .before .before .before .before .before .before .before .before .before .before .if1 .left) (c .before .before .before .before .before .before .before .before .before .before .before .if2 .left) _ (c .before .before .before .before .before .before .before .before .before .before .word-at .ensures) _ _ (c .before .before .before .before .before .before .before .run-rung .ensures) _ _ (c .before .past-rung .given .1) refl (c .before .before .before .before .before .before .before .run-rung .kept .1 .1 .1 .0), c .before .before .before .before .before .before .before .run-rung .kept .1 .1 .1 .1 .0 ∙ c .before .before .before .before .before .before .before .before .before .before .before .before .before .loop .inv .1)
 
 enum-known-label : tie.Need-enum-known-label Inv-loop μ-loop
 enum-known-label c = search needs
@@ -65,10 +75,10 @@ place-of-requires : tie.Need-place-of-requires Inv-loop μ-loop
 place-of-requires c κs = search needs
 
 loop-less-2 : tie.Need-loop-less-2 Inv-loop μ-loop
-loop-less-2 c = omega (arith, c .before .before .before .before .before .before .before .before .before .before .before .before .loop .inv .within)
+loop-less-2 c = omega (arith, c .before .before .before .before .before .before .before .before .before .before .before .before .before .before .before .loop .inv .0 .within)
 
 loop-again-2 : tie.Need-loop-again-2 Inv-loop μ-loop
-loop-again-2 c = scan-jumped _ _ _ _ _ _ _ _ (c .before .before .before .before .before .before .before .before .before .before .before .before .loop .inv) (c .before .before .before .before .before .before .before .before .before .before .before .before .before .before .before .before .before .pre .words) (c .before .before .before .before .before .before .before .before .before .before .before .if1 .left) (c .before .before .before .before .before .before .before .before .before .before .if2 .left) _ (c .before .before .before .before .before .before .before .before .before .word-at .ensures) _ _ (c .before .before .before .before .before .before .before .run-rung .ensures) _ _ _ (c .before .before .before .label .given .1) refl (c .before .before .before .before .before .before .before .run-rung .kept .1 .1 .1 .0) (ends-at _ _ _ _ (c .before .search-label .ensures) (c .place-of .ensures))
+loop-again-2 c = (scan-jumped _ _ _ _ _ _ _ _ (c .before .before .before .before .before .before .before .before .before .before .before .before .before .before .before .loop .inv .0) (c .before .before .before .before .before .before .before .before .before .before .before .before .before .before .before .before .before .before .before .before .before .pre .words) (c .before .before .before .before .before .before .before .before .before .before .before .before .before .before .if1 .left) (c .before .before .before .before .before .before .before .before .before .before .before .before .before .if2 .left) _ (c .before .before .before .before .before .before .before .before .before .before .before .before .word-at .ensures) _ _ (c .before .before .before .before .before .before .before .before .before .run-rung .ensures) _ _ _ (c .before .before .before .label .given .1) refl (c .before .before .before .before .before .before .before .before .before .run-rung .kept .1 .1 .1 .0) (ends-at _ _ _ _ (c .before .search-label .ensures) (c .place-of .ensures)), c .before .before .before .before .before .before .before .before .before .run-rung .kept .1 .1 .1 .1 .0 ∙ c .before .before .before .before .before .before .before .before .before .before .before .before .before .before .before .loop .inv .1)
 
 pub run-spec : {M : Type 1} → statement M
 run-spec =
@@ -78,8 +88,10 @@ run-spec =
     μ-loop
     loop-holds
     same-length
-    returns
     same-length-2
+    returns
+    same-length-3
+    same-length-4
     returns-2
     add-entered
     word-at-requires
