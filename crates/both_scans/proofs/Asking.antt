@@ -1,19 +1,12 @@
--- Laws of the questions in order, and of the watchdog that they are put to. Assumes nothing.
+-- Laws of every question in order, 13 last, and of the watchdog that they are put to. Assumes nothing.
 use Prim.Native.Nat.{ℕ}
 use native.Mathlib.Omega.{arith}
 use mathlib.Core.Path.{_≡_, refl, sym, ap, _∙_}
-use mathlib.Core.Bool.{true, false}
 use mathlib.Core.Option.{none, some}
 use mathlib.Core.List.{List, [], _∷_, _++_}
-use lib.Dec.{leb}
 use lib.ListN.{length}
-use borrow.Author.Tests.{eq-eqb, ne-eqb}
-use Rattle.questions.specs.Questions.{Answer, ask, firstNo, question12, question13, mostInstructionWatchdog}
-use Rattle.questions.specs.Refusals.{refusalOf, verdictAnswer}
+use Rattle.questions.specs.Questions.{Answer, firstNo, question12, question13, mostInstructionWatchdog}
 use Rattle.questions.specs.Laws.Answers.{first-yes, first-append, in-range-watchdog}
-use Rattle.questions.specs.declared.Refusal.{Refusal as RefusalCase}
-use Rattle.questions.specs.declared.Refusal.the-variants.{Table, Watchdog, Timers}
-use Rattle.questions.specs.declared.Verdict.the-variants.{Accepted, Refused}
 use Rattle.table.specs.TimerRecords.{numberTimers}
 use Rattle.rungs.specs.Buffers.{needs}
 use Rattle.ladder_definitions.specs.Kept.{Kept}
@@ -22,73 +15,12 @@ use Rattle.ladder_definitions.specs.LadderScan.{scanQuestions}
 use Rattle.ladder_definitions.specs.Laws.Accepting.{scan-passed}
 use Rattle.translation_definitions.specs.Translate.{translate}
 use Rattle.translation_definitions.specs.TranslateKept.{listBuffers}
-use Rattle.translation_definitions.specs.BothScans.{Lent, copyQuestion, copyQuestions, bothQuestions, pairedWatchdog}
+use Rattle.translation_definitions.specs.BothScans.{Lent, copyQuestions, bothQuestions, pairedWatchdog}
 use Rattle.translation_definitions.specs.Laws.Boths.{paired-legal}
-use Rattle.both_scans.specs.Parts.{Lengths, copyLengths, bothAsked, askedWatchdog, chosenWatchdog}
-use Rattle.both_scans.specs.declared.ListWatchdog.{ListWatchdog}
-use Rattle.both_scans.specs.declared.ListWatchdog.the-variants.{Given, Paired}
-
--- ---- the first "no"
-
-module _ (vars : ℕ) (k : Kept) (table timers : List ℕ) (m : Lengths) (n w : ℕ) where
-  pub asked-refused : (x : RefusalCase) → scanQuestions vars k table (numberTimers timers) n ≡ some (refusalOf x) → verdictAnswer (Refused x) ≡ bothAsked vars k table timers m n w
-  unfolding bothAsked firstNo verdictAnswer
-  asked-refused x e = rw e refl
-
-  module _ (ok : scanQuestions vars k table (numberTimers timers) n ≡ none) where
-    pub asked-ladder-timers : (m .ladderNumbers ≡ length timers → ⊥) → verdictAnswer (Refused Timers) ≡ bothAsked vars k table timers m n w
-    unfolding bothAsked firstNo verdictAnswer copyQuestion ask refusalOf
-    asked-ladder-timers h = rw (ok, ne-eqb (m .ladderNumbers) (length timers) h) refl
-
-    module _ (first : m .ladderNumbers ≡ length timers) where
-      pub asked-list-timers : (m .listNumbers ≡ length timers → ⊥) → verdictAnswer (Refused Timers) ≡ bothAsked vars k table timers m n w
-      unfolding bothAsked firstNo verdictAnswer copyQuestion ask refusalOf
-      asked-list-timers h = rw (ok, eq-eqb (m .ladderNumbers) (length timers) first, ne-eqb (m .listNumbers) (length timers) h) refl
-
-      module _ (second : m .listNumbers ≡ length timers) where
-        pub asked-ladder-copy : (m .ladderBytes ≡ length table → ⊥) → verdictAnswer (Refused Table) ≡ bothAsked vars k table timers m n w
-        unfolding bothAsked firstNo verdictAnswer copyQuestion ask refusalOf
-        asked-ladder-copy h =
-            rw (ok, eq-eqb (m .ladderNumbers) (length timers) first, eq-eqb (m .listNumbers) (length timers) second, ne-eqb (m .ladderBytes) (length table) h) refl
-
-        module _ (third : m .ladderBytes ≡ length table) where
-          pub asked-list-copy : (m .listBytes ≡ length table → ⊥) → verdictAnswer (Refused Table) ≡ bothAsked vars k table timers m n w
-          unfolding bothAsked firstNo verdictAnswer copyQuestion ask refusalOf
-          asked-list-copy h =
-              rw (
-                ok,
-                eq-eqb (m .ladderNumbers) (length timers) first,
-                eq-eqb (m .listNumbers) (length timers) second,
-                eq-eqb (m .ladderBytes) (length table) third,
-                ne-eqb (m .listBytes) (length table) h,
-              ) refl
-
-          module _ (fourth : m .listBytes ≡ length table) where
-            pub asked-instructions : leb w mostInstructionWatchdog ≡ false → verdictAnswer (Refused Watchdog) ≡ bothAsked vars k table timers m n w
-            unfolding bothAsked firstNo verdictAnswer copyQuestion question12 ask refusalOf
-            asked-instructions g =
-                rw (
-                  ok,
-                  eq-eqb (m .ladderNumbers) (length timers) first,
-                  eq-eqb (m .listNumbers) (length timers) second,
-                  eq-eqb (m .ladderBytes) (length table) third,
-                  eq-eqb (m .listBytes) (length table) fourth,
-                  g,
-                ) refl
-
-            pub asked-accepted : leb w mostInstructionWatchdog ≡ true → verdictAnswer Accepted ≡ bothAsked vars k table timers m n w
-            unfolding bothAsked firstNo verdictAnswer copyQuestion question12 ask
-            asked-accepted g =
-                rw (
-                  ok,
-                  eq-eqb (m .ladderNumbers) (length timers) first,
-                  eq-eqb (m .listNumbers) (length timers) second,
-                  eq-eqb (m .ladderBytes) (length table) third,
-                  eq-eqb (m .listBytes) (length table) fourth,
-                  g,
-                ) refl
-
--- ---- every question in order, 13 last
+use Rattle.both_parts.specs.Parts.{Lengths, copyLengths, bothAsked, askedWatchdog}
+use Rattle.both_scans.specs.Parts.{chosenWatchdog}
+use Rattle.both_parts.specs.declared.ListWatchdog.{ListWatchdog}
+use Rattle.both_parts.specs.declared.ListWatchdog.the-variants.{Given, Paired}
 
 -- a later question may be another, if both get a "yes" once those before did
 exchanged : (before : Answer) (a b : Answer) (later : List Answer) → a ≡ none → (before ≡ none → b ≡ none) → firstNo (before ∷ b ∷ later) ≡ firstNo (before ∷ a ∷ later)

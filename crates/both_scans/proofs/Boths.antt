@@ -48,11 +48,12 @@ use Rattle.translation_definitions.specs.declared.Translated.{Translated}
 use Rattle.translation_definitions.specs.declared.Translated.the-variants.{Written as WrittenCase, Refused as RefusedCase}
 use Rattle.translation_definitions.specs.declared.BothScanned.{BothScanned}
 use Rattle.translation_definitions.specs.declared.BothScanned.the-variants.{Scanned as BothCase, Refused as BothRefused}
-use Rattle.both_scans.specs.Parts.{copied, Lengths, bothAsked, askedWatchdog, watchdogBy, chosenWatchdog, ladderEnd, listEnd, Memory, memory, ScansRun}
-use Rattle.both_scans.specs.declared.ListWatchdog.{ListWatchdog}
-use Rattle.both_scans.specs.declared.ListWatchdog.the-variants.{Given, Paired}
-use Rattle.both_scans.specs.declared.LadderEnd.{LadderEnd}
-use Rattle.both_scans.specs.declared.ListEnd.{ListEnd}
+use Rattle.both_parts.specs.Parts.{copied, Lengths, bothAsked, askedWatchdog, watchdogBy, ladderEnd, listEnd}
+use Rattle.both_scans.specs.Parts.{chosenWatchdog, Memory, memory, ScansRun}
+use Rattle.both_parts.specs.declared.ListWatchdog.{ListWatchdog}
+use Rattle.both_parts.specs.declared.ListWatchdog.the-variants.{Given, Paired}
+use Rattle.both_parts.specs.declared.LadderEnd.{LadderEnd}
+use Rattle.both_parts.specs.declared.ListEnd.{ListEnd}
 use Rattle.both_scans.proofs.Asking.{lent-lengths, room, asked-all}
 
 -- ---- how a scan ended, from its answer

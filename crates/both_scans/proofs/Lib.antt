@@ -1,4 +1,3 @@
 -- Laws that the proofs of functions cite.
 pub mod Asking
 pub mod Boths
-pub mod Tables

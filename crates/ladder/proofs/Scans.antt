@@ -32,8 +32,8 @@ use Rattle.ladder_definitions.specs.Laws.Held.{three-fields, even}
 use Rattle.ladder_definitions.specs.Laws.Accepting.{scan-passed}
 use Rattle.ladder_definitions.specs.declared.LadderScanned.{LadderScanned}
 use Rattle.ladder_definitions.specs.declared.LadderScanned.the-variants.{Refused as RefusedCase}
-use Rattle.ladder_walk.specs.Scanned.{Scanned}
-use Rattle.ladder_walk.specs.Laws.Scans.{scan-taken, scan-refuses, scan-scans}
+use Rattle.ladder_scanning.specs.Scanned.{Scanned}
+use Rattle.ladder_scanning.specs.Laws.Scans.{scan-taken, scan-refuses, scan-scans}
 
 -- the promises of the scans over numbers and over five slices
 abbrev ScansNumbers : ℕ → Kept → List ℕ → List ℕ → ℕ → ℕ → LadderScanned → List ℕ → List ℕ → Type 0

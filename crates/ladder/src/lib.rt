@@ -144,7 +144,7 @@ pub fn ladder_scan_packed(
         watchdog,
     ) {
         Verdict::Refused(refusal) => LadderScanned::Refused(refusal),
-        Verdict::Accepted => ladder_walk::scan::run(
+        Verdict::Accepted => ladder_scanning::run(
             vars,
             words,
             labels,

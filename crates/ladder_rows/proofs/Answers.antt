@@ -22,7 +22,7 @@ use Rattle.rows.specs.Laws.Gathered.{gathered-whole}
 use Rattle.rows.specs.declared.Rows.{Rows}
 use Rattle.ladder_definitions.specs.Kept.{Kept}
 use Rattle.ladder_definitions.specs.LadderScan.{scanQuestions, callLadderScan, LadderScanNumbers}
-use Rattle.ladder_walk.specs.Laws.Scans.{scan-fits, scan-scans}
+use Rattle.ladder_scanning.specs.Laws.Scans.{scan-fits, scan-scans}
 use Rattle.ladder.proofs.Scans.{passed-whole, numbers-refused, numbers-scanned}
 use Rattle.ladder_definitions.specs.declared.LadderScanned.{LadderScanned}
 use Rattle.ladder_rows.specs.Parts.{longHolds, LongScanRefused, RowAsked, RowReady, RowScanned}

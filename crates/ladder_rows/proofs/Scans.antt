@@ -17,8 +17,8 @@ use Rattle.rungs.specs.Parts.{placeOf}
 use Rattle.rungs.specs.Laws.Search.{place-of}
 use Rattle.rows.specs.Rows.{noRecord, recordAt}
 use Rattle.ladder_walk.specs.Walking.{RungRun}
-use Rattle.ladder_walk.specs.Scanned.{Scanned}
-use Rattle.ladder_walk.specs.Laws.Scanning.{Scanning, scanning-first, scan-ended, scan-stopped, scan-onward, scan-jumped}
+use Rattle.ladder_scanning.specs.Scanned.{Scanned}
+use Rattle.ladder_scanning.specs.Laws.Scanning.{Scanning, scanning-first, scan-ended, scan-stopped, scan-onward, scan-jumped}
 use Rattle.ladder_definitions.specs.declared.LadderScanned.the-variants.{Ended as EndedCase, Stopped as StoppedCase, Refused as RefusedScan}
 use Rattle.ladder_walk.specs.declared.Ran.{Ran}
 use Rattle.ladder_walk.specs.declared.Ran.the-variants.{Onward, Jumped}

@@ -21,7 +21,7 @@ use Rattle.ladder_definitions.specs.Questions.{holdsLadder, formQuestions, ladd
 use Rattle.ladder_definitions.specs.LadderScan.{scanQuestions}
 use Rattle.ladder_kept.specs.Pending.{completes}
 use Rattle.ladder_walk.specs.Walking.{RungRun}
-use Rattle.ladder_walk.specs.Scanned.{WithinLimits, Scanned}
+use Rattle.ladder_scanning.specs.Scanned.{WithinLimits, Scanned}
 use Rattle.ladder_definitions.specs.declared.LadderScanned.{LadderScanned}
 use Rattle.ladder_definitions.specs.declared.LadderScanned.the-variants.{Ended as EndedCase, Stopped as StoppedCase, Refused as RefusedScan}
 use Rattle.ladder_walk.specs.declared.Ran.{Ran}

@@ -1,4 +1,2 @@
--- A rung worked along its kept words, and the scan. What their functions promise each other: Walking, Scanned. Laws, which no contract cites: Laws.
-pub mod Scanned
+-- A rung worked along its kept words. What its functions promise each other: Walking.
 pub mod Walking
-pub mod Laws

@@ -7,8 +7,6 @@ ghost use Rattle.table.specs.TimerRecords.{timersIn};
 ghost use Rattle.ladder_walk.specs.Walking.{ContactWorked, PartsJoined, RootsPassed, FrontWorked, OutputRun, RearRun, RungRun};
 use ladder_kinds::KindSort;
 
-pub mod scan;
-
 // A front's value, and the position after its words.
 pub struct Worked {
     pub value: bool,

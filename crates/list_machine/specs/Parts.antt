@@ -12,21 +12,13 @@ use Rattle.table.specs.Timer.{Timer}
 use Rattle.table.specs.State.{State}
 use Rattle.rungs.specs.Records.{RungRecord, offsets, isStart, enter}
 use Rattle.list_definitions.specs.Instruction.{Instr, decodeInstr, decodeCode}
-use Rattle.list_definitions.specs.Machine.{InstructionList, Counts, Machine, does, step, scanList}
+use Rattle.list_definitions.specs.Machine.{InstructionList, Counts, Machine, step, scanList}
 use Rattle.list_definitions.specs.ListScan.{scanEnds, ListScanDone}
 use Rattle.list_definitions.specs.declared.Counts.{Counts as CountsStruct}
 use Rattle.list_definitions.specs.declared.ListScanned.{ListScanned}
 use Rattle.list_machine.specs.declared.Machine.{Machine as MachineStruct}
 use Rattle.list_definitions.specs.declared.ListScanned.the-variants.{Ended as EndedCase, Stopped as StoppedCase}
 use Rattle.list_machine.specs.declared.Place.{Place}
-use Rattle.list_machine.specs.declared.Effect.{Effect}
-
--- a word that holds an instruction does what the instruction does, from accumulator v; any word turns over one variable at most; u is the state that was left,
--- by how many times variables have been turned over
-pub record Did (word : ℕ) (v : Bool) (straight : ℕ) (s : State) (r : Effect) (u : ℕ → State) : Type 0 where
-  pub same : (i : Instr) → decodeInstr word ≡ some i → (pc : ℕ) → straight ≡ pc + 1
-      → does i v s pc ≡ record { accumulator = r .accumulator; state = u (r .moved); index = r .index }
-  pub few : r .moved ≤ s .moved + 1
 
 -- "both counts" of a machine, and the times entered, which stand beside it
 unfoldable pub machineCounts : CountsStruct → List ℕ → Counts
@@ -35,7 +27,8 @@ machineCounts c times = record { instructions = c .instructions; rungs = c .rung
 unfoldable pub machineOf : MachineStruct → List ℕ → Machine
 machineOf m times = record { accumulator = m .accumulator; index = m .index; counts = machineCounts (m .counts) times }
 
--- the same of a machine: at and u are the states before and after the instruction, by how many times variables have been turned over
+-- a word that holds an instruction does to a machine what the instruction does; any word turns over one variable at most. at and u are the states before and
+-- after it, by how many times variables have been turned over
 pub record Stepped (word entered : ℕ) (m : MachineStruct) (at : ℕ → State) (r : MachineStruct) (u : ℕ → State) : Type 0 where
   pub same : (i : Instr) → decodeInstr word ≡ some i → (rs : List RungRecord) → entered ≡ bit (isStart rs (m .index)) → (times : List ℕ)
       → step rs i (machineOf m times) (at (m .counts .moved)) ≡ (machineOf r (enter rs (m .index) times), u (r .counts .moved))

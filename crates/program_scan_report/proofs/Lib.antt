@@ -1,5 +1,3 @@
 -- Laws that the proofs of functions cite.
 pub mod Printing
 pub mod Rungs
-pub mod Timers
-pub mod Verdicts

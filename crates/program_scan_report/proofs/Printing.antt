@@ -15,8 +15,6 @@ use Rattle.printing.specs.Laws.Puts.{put-then, Left, all-left, left-none, left-
 use Rattle.translation_definitions.specs.BothScans.{BothEnds, haltOf}
 use Rattle.program_definitions.specs.Laws.Bounds.{Fitting, ends-short}
 use Rattle.program_definitions.specs.Scanout.{endWord, scanCountLines, endLines, changedLine, changedLines, Verdict, verdictLine}
-use Rattle.program_scan_report.specs.Parts.{verdictIn}
-use Rattle.program_scan_report.specs.declared.Verdict.{Verdict as VerdictCase}
 
 module _ {l : List ℕ} {i : ℕ} {r : ℕ} {x : List ℕ} where
   -- ---- how each scan ended
@@ -212,8 +210,5 @@ ends-reach e p f = omega (arith, p .end, ends-short e f)
 -- ---- the verdict
 
 module _ {l : List ℕ} {i : ℕ} {r : ℕ} {x : List ℕ} where
-  pub case-put : (v : VerdictCase) {w : VerdictCase} → v ≡ w → Put l i (verdictLine (verdictIn w)) r x → Put l i (verdictLine (verdictIn v)) r x
-  case-put v e p = rw e p
-
   pub verdict-put : (v w : Verdict) → v ≡ w → Put l i (verdictLine v) r x → Put l i (verdictLine w) r x
   verdict-put v w e p = rw (← e) p

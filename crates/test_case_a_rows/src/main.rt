@@ -7,16 +7,15 @@ use ladder_definitions::LadderScanned;
 use libc::STDOUT_FILENO;
 use list_definitions::ListScanned;
 use list_definitions::Listed;
-use questions::Refusal;
 use rows::Rung;
 use rungs::Search;
 use test_requests::output;
+use test_row_output::Times;
+use test_row_output::VARS;
 use text_definitions::TextRead;
 use translation_definitions::Translated;
 
 // "A* `10:c0|c1&n2>o1|c3&j20` `20:n3>o4`, V 5, only v0 true": it has as many kept words as instructions, and so have the other ladders.
-const VARS: u32 = 5;
-
 const WORDS: usize = 12;
 
 const RUNGS: usize = 2;
@@ -82,12 +81,6 @@ struct LongAnswers {
     list: ListScanned,
     listed: Listed,
     row: [Rung; LONG_RUNGS],
-}
-
-// The times entered of a row's first and last record.
-struct Times {
-    first: u32,
-    last: u32,
 }
 
 fn no_words() -> [u32; WORDS] {
@@ -249,88 +242,6 @@ fn search_long(row: [Rung; LONG_RUNGS], label: u32) -> Search {
     rows::look_up(&row, label)
 }
 
-// A text and a number after it.
-fn put_count(room: &mut [u8], placed: usize, text: &[u8], value: u64) -> usize {
-    let end = output::put_text(room, placed, text);
-    output::put_next(room, end, value)
-}
-
-fn put_refusal(room: &mut [u8], placed: usize, refusal: Refusal) -> usize {
-    let head = output::refused_head(refusal);
-    let number = put_count(room, placed, b" refused", head.first);
-    put_count(room, number, b" place", head.second)
-}
-
-fn put_read(room: &mut [u8], placed: usize, answer: TextRead) -> usize {
-    let name = output::put_text(room, placed, b"read");
-    match answer {
-        TextRead::Kept(counts) => {
-            let words = put_count(room, name, b" words", counts.words as u64);
-            put_count(room, words, b" rungs", counts.rungs as u64)
-        }
-        TextRead::Refused(refusal) => put_refusal(room, name, refusal),
-    }
-}
-
-fn put_translated(room: &mut [u8], placed: usize, answer: Translated) -> usize {
-    let name = output::put_text(room, placed, b"\ntranslate");
-    match answer {
-        Translated::Written(counts) => {
-            let instructions = put_count(room, name, b" instructions", counts.instructions as u64);
-            let rungs = put_count(room, instructions, b" rungs", counts.rungs as u64);
-            put_count(room, rungs, b" longest", counts.longest as u64)
-        }
-        Translated::Refused(refusal) => put_refusal(room, name, refusal),
-    }
-}
-
-// The counts that both scans answer.
-fn put_counts(room: &mut [u8], placed: usize, rungs: u32, moved: u32) -> usize {
-    let after_rungs = put_count(room, placed, b" rungs", rungs as u64);
-    put_count(room, after_rungs, b" moved", moved as u64)
-}
-
-fn put_ladder(room: &mut [u8], placed: usize, answer: LadderScanned) -> usize {
-    let name = output::put_text(room, placed, b"\nladder scan");
-    match answer {
-        LadderScanned::Ended(counts) => {
-            let ended = output::put_text(room, name, b" ended,");
-            put_counts(room, ended, counts.rungs, counts.moved)
-        }
-        LadderScanned::Stopped(counts) => {
-            let stopped = output::put_text(room, name, b" stopped,");
-            put_counts(room, stopped, counts.rungs, counts.moved)
-        }
-        LadderScanned::Refused(refusal) => put_refusal(room, name, refusal),
-    }
-}
-
-fn put_list_counts(room: &mut [u8], placed: usize, counts: list_definitions::Counts) -> usize {
-    let shared = put_counts(room, placed, counts.rungs, counts.moved);
-    put_count(room, shared, b" instructions", counts.instructions as u64)
-}
-
-fn put_list(room: &mut [u8], placed: usize, answer: ListScanned) -> usize {
-    let name = output::put_text(room, placed, b"\nlist scan");
-    match answer {
-        ListScanned::Ended(counts) => {
-            let ended = output::put_text(room, name, b" ended,");
-            put_list_counts(room, ended, counts)
-        }
-        ListScanned::Stopped(counts) => {
-            let stopped = output::put_text(room, name, b" stopped,");
-            put_list_counts(room, stopped, counts)
-        }
-        ListScanned::Refused(refusal) => put_refusal(room, name, refusal),
-    }
-}
-
-// The variables of a table.
-fn put_variables(room: &mut [u8], placed: usize, table: &[u8]) -> usize {
-    let name = output::put_text(room, placed, b"\nvariables");
-    output::put_bytes(room, name, table, VARS as usize)
-}
-
 fn times_of(row: [Rung; RUNGS]) -> Times {
     Times {
         first: row[0].times,
@@ -343,64 +254,6 @@ fn long_times_of(row: [Rung; LONG_RUNGS]) -> Times {
         first: row[0].times,
         last: row[LONG_RUNGS - 1].times,
     }
-}
-
-fn put_times(room: &mut [u8], placed: usize, times: Times) -> usize {
-    let first = put_count(room, placed, b"\ntimes", times.first as u64);
-    output::put_next(room, first, times.last as u64)
-}
-
-// The numbers of timer records.
-fn put_timers(room: &mut [u8], placed: usize, timers: &[u32]) -> usize {
-    let name = output::put_text(room, placed, b"\ntimers");
-    output::put_items(room, name, timers, TIMER_NUMBERS)
-}
-
-// The first `bytes` bytes of the listing.
-fn put_lines(room: &mut [u8], placed: usize, listing: &[u8], bytes: usize) -> usize {
-    if bytes <= listing.len() {
-        return output::put_text(room, placed, &listing[..bytes]);
-    }
-    placed
-}
-
-fn put_listed(room: &mut [u8], placed: usize, answer: Listed, listing: &[u8]) -> usize {
-    let name = output::put_text(room, placed, b"\nlisting");
-    match answer {
-        Listed::Written(bytes) => {
-            let counted = put_count(room, name, b" bytes", bytes as u64);
-            let line = output::put_byte(room, counted, b'\n');
-            put_lines(room, line, listing, bytes)
-        }
-        Listed::Refused(refusal) => {
-            let refused = put_refusal(room, name, refusal);
-            output::put_byte(room, refused, b'\n')
-        }
-    }
-}
-
-// What Ladder scan answered and left.
-fn put_ladder_scan(room: &mut [u8], placed: usize, answer: LadderScanned, table: &[u8]) -> usize {
-    let answered = put_ladder(room, placed, answer);
-    put_variables(room, answered, table)
-}
-
-// What List scan answered and left.
-fn put_list_scan(room: &mut [u8], placed: usize, answer: ListScanned, table: &[u8]) -> usize {
-    let answered = put_list(room, placed, answer);
-    put_variables(room, answered, table)
-}
-
-// What Read and Translate answered.
-fn put_made(room: &mut [u8], placed: usize, read: TextRead, translated: Translated) -> usize {
-    let after_read = put_read(room, placed, read);
-    put_translated(room, after_read, translated)
-}
-
-// The times entered of a row and the numbers of timer records that a scan left.
-fn put_left(room: &mut [u8], placed: usize, times: Times, timers: &[u32]) -> usize {
-    let after_times = put_times(room, placed, times);
-    put_timers(room, after_times, timers)
 }
 
 // What the five calls answered and left. The ladder's row has Read's times, which no scan has changed.
@@ -421,12 +274,17 @@ fn put_answers(
     let listed = answers.listed;
     let row = answers.row;
     let code_row = answers.code_row;
-    let after_made = put_made(room, placed, read, translated);
-    let after_ladder = put_ladder_scan(room, after_made, ladder, ladder_table);
-    let after_row = put_left(room, after_ladder, times_of(row), ladder_timers);
-    let after_list = put_list_scan(room, after_row, list, list_table);
-    let after_code_row = put_left(room, after_list, times_of(code_row), list_timers);
-    put_listed(room, after_code_row, listed, lines)
+    let after_made = test_row_output::put_made(room, placed, read, translated);
+    let after_ladder = test_row_output::put_ladder_scan(room, after_made, ladder, ladder_table);
+    let after_row = test_row_output::put_left(room, after_ladder, times_of(row), ladder_timers);
+    let after_list = test_row_output::put_list_scan(room, after_row, list, list_table);
+    let after_code_row = test_row_output::put_left(
+        room,
+        after_list,
+        times_of(code_row),
+        list_timers,
+    );
+    test_row_output::put_listed(room, after_code_row, listed, lines)
 }
 
 // Runs the five calls on a text, with only v0 true, and puts what they answered.
@@ -473,11 +331,16 @@ fn put_long_answers(
     let list = answers.list;
     let listed = answers.listed;
     let row = answers.row;
-    let after_translated = put_translated(room, placed, translated);
-    let after_ladder = put_ladder_scan(room, after_translated, ladder, ladder_table);
-    let after_list = put_list_scan(room, after_ladder, list, list_table);
-    let after_row = put_times(room, after_list, long_times_of(row));
-    put_listed(room, after_row, listed, lines)
+    let after_translated = test_row_output::put_translated(room, placed, translated);
+    let after_ladder = test_row_output::put_ladder_scan(
+        room,
+        after_translated,
+        ladder,
+        ladder_table,
+    );
+    let after_list = test_row_output::put_list_scan(room, after_ladder, list, list_table);
+    let after_row = test_row_output::put_times(room, after_list, long_times_of(row));
+    test_row_output::put_listed(room, after_row, listed, lines)
 }
 
 // Runs the four calls over a row of 300 records, and puts what they answered.
@@ -507,30 +370,19 @@ fn put_long(
         &mut list_table,
         &mut lines,
     );
-    let rungs = put_count(
+    let rungs = test_row_output::put_count(
         room,
         placed,
         b"300 records, the last of length",
         last as u64,
     );
-    let head = put_count(room, rungs, b", timers", ladder_timers.len() as u64 / 5);
+    let head = test_row_output::put_count(room, rungs, b", timers", ladder_timers.len() as u64 / 5);
     put_long_answers(room, head, answers, &ladder_table, &list_table, &lines)
-}
-
-fn put_search(room: &mut [u8], placed: usize, label: u32, answer: Search) -> usize {
-    let name = put_count(room, placed, b"search", label as u64);
-    match answer {
-        Search::Found { place, looked } => {
-            let found = put_count(room, name, b" place", place as u64);
-            put_count(room, found, b" looked", looked as u64)
-        }
-        Search::Missing { looked } => put_count(room, name, b" none looked", looked as u64),
-    }
 }
 
 // Searches a row of 300 records, and puts what was told.
 fn put_long_search(room: &mut [u8], placed: usize, label: u32) -> usize {
-    let told = put_search(room, placed, label, search_long(twice_row(), label));
+    let told = test_row_output::put_search(room, placed, label, search_long(twice_row(), label));
     output::put_byte(room, told, b'\n')
 }
 

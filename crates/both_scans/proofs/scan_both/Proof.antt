@@ -8,8 +8,8 @@ use Rattle.both_scans.proofs.Boths.{early-refused, written-fits, longes
 use borrow.Author.Needs.{needs}
 use Rattle.both_scans.proofs.scan_both.Statement.{statement}
 use Rattle.both_scans.proofs.scan_both.Tie as tie
-use Rattle.both_scans.proofs.asked_watchdog.Reads as asked-watchdog-reads
-use Rattle.both_scans.proofs.both_answer.Reads as both-answer-reads
+use Rattle.both_parts.proofs.asked_watchdog.Reads as asked-watchdog-reads
+use Rattle.both_parts.proofs.both_answer.Reads as both-answer-reads
 use Rattle.both_scans.proofs.scan_written.Reads as scan-written-reads
 use Rattle.translation.proofs.translate.Reads as translate-reads
 

@@ -4,11 +4,11 @@ use Rattle.both_scans.proofs.Boths.{end-few, scans-ran}
 use borrow.Author.Needs.{needs}
 use Rattle.both_scans.proofs.scan_written.Statement.{statement}
 use Rattle.both_scans.proofs.scan_written.Tie as tie
-use Rattle.both_scans.proofs.copy_numbers.Reads as copy-numbers-reads
-use Rattle.both_scans.proofs.copy_table.Reads as copy-table-reads
-use Rattle.both_scans.proofs.ladder_end.Reads as ladder-end-reads
-use Rattle.both_scans.proofs.list_end.Reads as list-end-reads
-use Rattle.both_scans.proofs.list_watchdog.Reads as list-watchdog-reads
+use Rattle.both_parts.proofs.copy_numbers.Reads as copy-numbers-reads
+use Rattle.both_parts.proofs.copy_table.Reads as copy-table-reads
+use Rattle.both_parts.proofs.ladder_end.Reads as ladder-end-reads
+use Rattle.both_parts.proofs.list_end.Reads as list-end-reads
+use Rattle.both_parts.proofs.list_watchdog.Reads as list-watchdog-reads
 use Rattle.ladder.proofs.ladder_scan_packed.Reads as ladder-scan-packed-reads
 use Rattle.list.proofs.list_scan_packed.Reads as list-scan-packed-reads
 

@@ -1,6 +1,6 @@
 -- `ladder::ladder_scan_packed` meets its contract: the questions' answer, and then the scan, which leaves as many numbers. Assumes nothing.
 use Rattle.questions.specs.Laws.Answers.{verdict-refused, verdict-accepted}
-use Rattle.ladder_walk.specs.Laws.Scans.{scan-fits}
+use Rattle.ladder_scanning.specs.Laws.Scans.{scan-fits}
 use Rattle.ladder.proofs.Scans.{numbers-refused, scan-done}
 use borrow.Author.Needs.{needs}
 use Rattle.ladder.proofs.ladder_scan_packed.Statement.{statement}

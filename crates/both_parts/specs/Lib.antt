@@ -1,0 +1,2 @@
+-- What goes before and after both scans. What its functions promise: Parts.
+pub mod Parts

@@ -1,0 +1,2 @@
+-- Laws that the proof of carry_out cites.
+pub mod Arms

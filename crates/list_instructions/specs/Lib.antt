@@ -1,0 +1,2 @@
+-- What an instruction does. What its functions promise: Parts.
+pub mod Parts

@@ -1,2 +1,0 @@
--- The report of ladder-scan. What functions inside promise each other: Parts.
-pub mod Parts
