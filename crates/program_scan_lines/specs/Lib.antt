@@ -1,4 +1,2 @@
--- The lines before the text in ladder-scan's input. What the functions promise: Parts, of the variables line; Fields, of numbers between spaces; Timers.
-pub mod Fields
+-- The watchdog and the variables line of ladder-scan's input. What the functions promise: Parts.
 pub mod Parts
-pub mod Timers

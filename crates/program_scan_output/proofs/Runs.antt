@@ -16,10 +16,10 @@ use Rattle.program_numbers.specs.Parts.{numberBy, NumberTaken}
 use Rattle.program_numbers.specs.declared.Lined.{Lined}
 use Rattle.program_numbers.proofs.Lines.{line-value, kept-text}
 use Rattle.program_scan_lines.specs.Parts.{tableBytes, TableTaken}
-use Rattle.program_scan_lines.specs.Timers.{NowRead, TimersRead}
+use Rattle.program_timer_lines.specs.Timers.{NowRead, TimersRead}
 use Rattle.program_scan_lines.specs.declared.VariablesTaken.{VariablesTaken}
-use Rattle.program_scan_lines.specs.declared.NowTaken.{NowTaken}
-use Rattle.program_scan_lines.specs.declared.TimersTaken.{TimersTaken}
+use Rattle.program_timer_lines.specs.declared.NowTaken.{NowTaken}
+use Rattle.program_timer_lines.specs.declared.TimersTaken.{TimersTaken}
 
 -- ---- the bytes after the variables line
 

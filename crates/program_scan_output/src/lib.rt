@@ -12,9 +12,9 @@ use ladder_kinds::MOST_WORDS;
 use list_ops::MOST_INSTRUCTIONS;
 use program_definitions::Printed;
 use program_numbers::take_number;
-use program_scan_lines::HELD_NUMBERS;
 use program_scan_lines::MOST_TABLE;
 use program_scan_report::put_report;
+use program_timer_lines::HELD_NUMBERS;
 use questions::MOST_VARIABLES;
 use rungs::MOST_RECORDS;
 use text_definitions::TextRead;
@@ -170,8 +170,8 @@ pub fn report_rest(vars: u32, watchdog: u32, table: &[u8], rest: &[u8], out: &mu
         (now (out .entry)) r (now (out .exit)) × PlacedWithin mostReport r ⌝ }
 {
     let mut numbers = [0u32; HELD_NUMBERS];
-    let clock = program_scan_lines::take_now(rest, 0);
-    let records = program_scan_lines::take_timers(rest, clock.at, &mut numbers);
+    let clock = program_timer_lines::take_now(rest, 0);
+    let records = program_timer_lines::take_timers(rest, clock.at, &mut numbers);
     let count = records.count;
     let from = records.at;
     let to = program_numbers::kept_end(rest.len(), from);

@@ -14,11 +14,11 @@ use Rattle.questions.specs.Tests.{all}
 use Rattle.table.specs.Timer.{Timer}
 use Rattle.program_definitions.specs.Lines.{firstLine, textAfter}
 use Rattle.program_definitions.specs.TimerLines.{beforeSpace, afterSpace, isDigit, numberIn, isNumber, nowOf, timerOf, nowTaken}
-use Rattle.program_scan_lines.specs.Fields.{hasSpace, FieldTaken, BreakTaken}
-use Rattle.program_scan_lines.specs.Timers.{NowRead, TimerRead}
-use Rattle.program_scan_lines.specs.declared.Field.{Field}
-use Rattle.program_scan_lines.specs.declared.TimerLine.{TimerLine}
-use Rattle.program_scan_lines.proofs.Words.{false-true, and-first, and-second, standsAt, inLine, Leads, leads}
+use Rattle.program_timer_lines.specs.Fields.{hasSpace, FieldTaken, BreakTaken}
+use Rattle.program_timer_lines.specs.Timers.{NowRead, TimerRead}
+use Rattle.program_timer_lines.specs.declared.Field.{Field}
+use Rattle.program_timer_lines.specs.declared.TimerLine.{TimerLine}
+use Rattle.program_timer_lines.proofs.Words.{false-true, and-first, and-second, standsAt, inLine, Leads, leads}
 
 -- ---- a line's last field is all that is left of the line
 

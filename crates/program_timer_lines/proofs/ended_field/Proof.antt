@@ -1,4 +1,4 @@
--- `program_scan_lines::ended_field` meets its contract: an arm for a number, and one for all else. Assumes nothing.
+-- `program_timer_lines::ended_field` meets its contract: an arm for a number, and one for all else. Assumes nothing.
 use Prim.Native.Nat.{ℕ}
 use mathlib.Core.Path.{_≡_, refl, ap, sym, _∙_}
 use mathlib.Core.Bool.{Bool, true, false}
@@ -7,14 +7,14 @@ use mathlib.Core.Logic.{inl, inr}
 use native.Mathlib.Omega.{arith}
 use types.Run.{OneOf}
 use denote.Enum.Declared as Declared
-use Rattle.program_scan_lines.proofs.Digits as the-digits
-use Rattle.program_scan_lines.specs.declared.Digits.{Digits}
-use Rattle.program_scan_lines.specs.declared.Digits.the-variants.{Empty, Value, Wrong}
-use Rattle.program_scan_lines.specs.declared.Field.{Field}
-use Rattle.program_scan_lines.specs.Fields.{fieldOf}
+use Rattle.program_timer_lines.proofs.Digits as the-digits
+use Rattle.program_timer_lines.specs.declared.Digits.{Digits}
+use Rattle.program_timer_lines.specs.declared.Digits.the-variants.{Empty, Value, Wrong}
+use Rattle.program_timer_lines.specs.declared.Field.{Field}
+use Rattle.program_timer_lines.specs.Fields.{fieldOf}
 use borrow.Author.Needs.{needs}
-use Rattle.program_scan_lines.proofs.ended_field.Statement.{statement}
-use Rattle.program_scan_lines.proofs.ended_field.Tie as tie
+use Rattle.program_timer_lines.proofs.ended_field.Statement.{statement}
+use Rattle.program_timer_lines.proofs.ended_field.Tie as tie
 
 of-value : (v : ℕ) (spaced : Bool) (at : ℕ) → _≡_ {A = Field} (record { legal = true; value = v; spaced = spaced; at = at }) (fieldOf (Value v) spaced at)
 unfolding fieldOf

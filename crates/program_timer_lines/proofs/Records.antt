@@ -16,8 +16,8 @@ use Rattle.table.specs.TimerRecords.{numbersOf, timerNumbers}
 use Rattle.program_definitions.specs.Lines.{firstLine, textAfter}
 use Rattle.program_definitions.specs.TimerLines.{timerOf, TimersTaken as Taken, timersFrom, timersTaken}
 use Rattle.program_numbers.proofs.Lines.{rest-break, rest-other}
-use Rattle.program_scan_lines.specs.Timers.{timerIn, TimerRead, Held, TimersRead}
-use Rattle.program_scan_lines.specs.declared.TimerLine.{TimerLine}
+use Rattle.program_timer_lines.specs.Timers.{timerIn, TimerRead, Held, TimersRead}
+use Rattle.program_timer_lines.specs.declared.TimerLine.{TimerLine}
 
 -- ---- one record more
 

@@ -15,10 +15,10 @@ use Rattle.text_grammar.specs.Reader.{pick, digitOf}
 use Rattle.program_definitions.specs.Lines.{firstLine, textAfter}
 use Rattle.program_definitions.specs.TimerLines.{beforeSpace, afterSpace, isDigit, digitsAfter, numberIn, isNumber}
 use Rattle.program_numbers.proofs.Lines.{at-break, rest-break, at-other, rest-other, line-none-left, rest-none-left}
-use Rattle.program_scan_lines.specs.Fields.{nextDigit, nextByte, fieldOf, hasSpace, FieldTaken, BreakTaken}
-use Rattle.program_scan_lines.specs.declared.Digits.{Digits}
-use Rattle.program_scan_lines.specs.declared.Digits.the-variants.{Empty, Value, Wrong}
-use Rattle.program_scan_lines.specs.declared.Field.{Field}
+use Rattle.program_timer_lines.specs.Fields.{nextDigit, nextByte, fieldOf, hasSpace, FieldTaken, BreakTaken}
+use Rattle.program_timer_lines.specs.declared.Digits.{Digits}
+use Rattle.program_timer_lines.specs.declared.Digits.the-variants.{Empty, Value, Wrong}
+use Rattle.program_timer_lines.specs.declared.Field.{Field}
 
 -- ---- one byte
 

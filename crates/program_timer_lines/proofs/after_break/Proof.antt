@@ -1,8 +1,8 @@
--- `program_scan_lines::after_break` meets its contract. Assumes nothing.
-use Rattle.program_scan_lines.proofs.Fields.{break-end, break-taken, break-none}
+-- `program_timer_lines::after_break` meets its contract. Assumes nothing.
+use Rattle.program_timer_lines.proofs.Fields.{break-end, break-taken, break-none}
 use borrow.Author.Needs.{needs}
-use Rattle.program_scan_lines.proofs.after_break.Statement.{statement}
-use Rattle.program_scan_lines.proofs.after_break.Tie as tie
+use Rattle.program_timer_lines.proofs.after_break.Statement.{statement}
+use Rattle.program_timer_lines.proofs.after_break.Tie as tie
 
 returns : tie.Need-returns
 returns c = break-end _ _ (c .if1 .taken)

@@ -9,9 +9,9 @@ use Rattle.questions.specs.Bytes.{byte}
 use Rattle.text_grammar.specs.Reader.{pick, digitOf}
 use Rattle.program_definitions.specs.Lines.{firstLine, textAfter}
 use Rattle.program_definitions.specs.TimerLines.{beforeSpace, afterSpace, isNumber, numberIn}
-use Rattle.program_scan_lines.specs.declared.Digits.{Digits}
-use Rattle.program_scan_lines.specs.declared.Digits.the-variants.{Empty, Value, Wrong}
-use Rattle.program_scan_lines.specs.declared.Field.{Field}
+use Rattle.program_timer_lines.specs.declared.Digits.{Digits}
+use Rattle.program_timer_lines.specs.declared.Digits.the-variants.{Empty, Value, Wrong}
+use Rattle.program_timer_lines.specs.declared.Field.{Field}
 
 -- a byte after digits of the value v
 unfoldable pub nextDigit : ℕ → ℕ → ℕ → Digits

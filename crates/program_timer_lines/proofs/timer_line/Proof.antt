@@ -1,12 +1,12 @@
--- `program_scan_lines::timer_line` meets its contract. Assumes nothing.
+-- `program_timer_lines::timer_line` meets its contract. Assumes nothing.
 use mathlib.Core.Path.{refl}
 use native.Mathlib.Omega.{arith}
 use Rattle.questions.specs.Bytes.{bytes}
-use Rattle.program_scan_lines.proofs.Words.{stands, stands-not}
-use Rattle.program_scan_lines.proofs.Timers.{timer-other, timer-room, timer-read}
+use Rattle.program_timer_lines.proofs.Words.{stands, stands-not}
+use Rattle.program_timer_lines.proofs.Timers.{timer-other, timer-room, timer-read}
 use borrow.Author.Needs.{needs}
-use Rattle.program_scan_lines.proofs.timer_line.Statement.{statement}
-use Rattle.program_scan_lines.proofs.timer_line.Tie as tie
+use Rattle.program_timer_lines.proofs.timer_line.Statement.{statement}
+use Rattle.program_timer_lines.proofs.timer_line.Tie as tie
 
 slice-aggregate-begins : tie.Need-slice-aggregate-begins
 slice-aggregate-begins c = search needs

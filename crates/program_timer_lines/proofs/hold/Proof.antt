@@ -1,9 +1,9 @@
--- `program_scan_lines::hold` meets its contract: five numbers more where there is room. Assumes nothing.
+-- `program_timer_lines::hold` meets its contract: five numbers more where there is room. Assumes nothing.
 use native.Mathlib.Omega.{arith}
-use Rattle.program_scan_lines.proofs.Records.{held-full, held-more}
+use Rattle.program_timer_lines.proofs.Records.{held-full, held-more}
 use borrow.Author.Needs.{needs}
-use Rattle.program_scan_lines.proofs.hold.Statement.{statement}
-use Rattle.program_scan_lines.proofs.hold.Tie as tie
+use Rattle.program_timer_lines.proofs.hold.Statement.{statement}
+use Rattle.program_timer_lines.proofs.hold.Tie as tie
 
 returns : tie.Need-returns
 returns c = held-full _ _ _ (omega (arith, c .if1 .taken))

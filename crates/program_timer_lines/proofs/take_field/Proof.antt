@@ -1,10 +1,10 @@
--- `program_scan_lines::take_field` meets its contract. The loop's invariant: what is left of the field leads where the whole field does. Assumes nothing.
+-- `program_timer_lines::take_field` meets its contract. The loop's invariant: what is left of the field leads where the whole field does. Assumes nothing.
 use Prim.Native.Nat.{_-_}
 use native.Mathlib.Omega.{arith}
 use lib.ListN.{length}
-use Rattle.program_scan_lines.proofs.Fields.{Fielding, fielding-first, fielding-more, fielding-break, fielding-space, fielding-end}
-use Rattle.program_scan_lines.proofs.take_field.Statement.{statement}
-use Rattle.program_scan_lines.proofs.take_field.Tie as tie
+use Rattle.program_timer_lines.proofs.Fields.{Fielding, fielding-first, fielding-more, fielding-break, fielding-space, fielding-end}
+use Rattle.program_timer_lines.proofs.take_field.Statement.{statement}
+use Rattle.program_timer_lines.proofs.take_field.Tie as tie
 
 abbrev Inv-loop : tie.InvT-loop
 Inv-loop input from most digits₀ i₀ digits i = Fielding input from most digits i

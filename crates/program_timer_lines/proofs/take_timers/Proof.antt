@@ -1,12 +1,12 @@
--- `program_scan_lines::take_timers` meets its contract. The loop's invariant: the records that are held, with those that are left, are those of all lines.
+-- `program_timer_lines::take_timers` meets its contract. The loop's invariant: the records that are held, with those that are left, are those of all lines.
 -- Assumes nothing.
 use Prim.Native.Nat.{_-_}
 use native.Mathlib.Omega.{arith}
 use borrow.Author.Tests.{not-false}
 use lib.ListN.{length}
-use Rattle.program_scan_lines.proofs.Records.{Holding, holding-first, holding-more, holding-stop, holding-end}
-use Rattle.program_scan_lines.proofs.take_timers.Statement.{statement}
-use Rattle.program_scan_lines.proofs.take_timers.Tie as tie
+use Rattle.program_timer_lines.proofs.Records.{Holding, holding-first, holding-more, holding-stop, holding-end}
+use Rattle.program_timer_lines.proofs.take_timers.Statement.{statement}
+use Rattle.program_timer_lines.proofs.take_timers.Tie as tie
 
 abbrev Inv-loop : tie.InvT-loop
 Inv-loop input from numbers₀ count₀ i₀ numbers count i = Holding input from numbers₀ numbers count i

@@ -10,9 +10,9 @@ use Rattle.table.specs.Timer.{Timer}
 use Rattle.table.specs.TimerRecords.{numbersOf, timerNumbers}
 use Rattle.program_definitions.specs.Lines.{firstLine, textAfter}
 use Rattle.program_definitions.specs.TimerLines.{timerOf, nowTaken, timersTaken, heldTimers}
-use Rattle.program_scan_lines.specs.declared.NowTaken.{NowTaken}
-use Rattle.program_scan_lines.specs.declared.TimerLine.{TimerLine}
-use Rattle.program_scan_lines.specs.declared.TimersTaken.{TimersTaken}
+use Rattle.program_timer_lines.specs.declared.NowTaken.{NowTaken}
+use Rattle.program_timer_lines.specs.declared.TimerLine.{TimerLine}
+use Rattle.program_timer_lines.specs.declared.TimersTaken.{TimersTaken}
 
 -- the tick, and where what follows its line begins
 pub record NowRead (input : List ℕ) (from : ℕ) (r : NowTaken) : Type 0 where

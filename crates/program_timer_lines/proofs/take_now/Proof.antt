@@ -1,11 +1,11 @@
--- `program_scan_lines::take_now` meets its contract. Assumes nothing.
+-- `program_timer_lines::take_now` meets its contract. Assumes nothing.
 use native.Mathlib.Omega.{arith}
 use Rattle.questions.specs.Bytes.{bytes}
-use Rattle.program_scan_lines.proofs.Words.{stands, stands-not}
-use Rattle.program_scan_lines.proofs.Timers.{now-other, now-room, now-illegal, now-spaced, now-taken}
+use Rattle.program_timer_lines.proofs.Words.{stands, stands-not}
+use Rattle.program_timer_lines.proofs.Timers.{now-other, now-room, now-illegal, now-spaced, now-taken}
 use borrow.Author.Needs.{needs}
-use Rattle.program_scan_lines.proofs.take_now.Statement.{statement}
-use Rattle.program_scan_lines.proofs.take_now.Tie as tie
+use Rattle.program_timer_lines.proofs.take_now.Statement.{statement}
+use Rattle.program_timer_lines.proofs.take_now.Tie as tie
 
 slice-aggregate-begins : tie.Need-slice-aggregate-begins
 slice-aggregate-begins c = search needs

@@ -1,9 +1,9 @@
--- `program_scan_lines::next_byte` meets its contract: an arm for each state. Assumes nothing.
+-- `program_timer_lines::next_byte` meets its contract: an arm for each state. Assumes nothing.
 use mathlib.Core.Path.{_∙_}
-use Rattle.program_scan_lines.proofs.Fields.{byte-first, byte-zero, byte-more, byte-wrong}
+use Rattle.program_timer_lines.proofs.Fields.{byte-first, byte-zero, byte-more, byte-wrong}
 use borrow.Author.Needs.{needs}
-use Rattle.program_scan_lines.proofs.next_byte.Statement.{statement}
-use Rattle.program_scan_lines.proofs.next_byte.Tie as tie
+use Rattle.program_timer_lines.proofs.next_byte.Statement.{statement}
+use Rattle.program_timer_lines.proofs.next_byte.Tie as tie
 
 enum-told : tie.Need-enum-told
 enum-told c = search needs

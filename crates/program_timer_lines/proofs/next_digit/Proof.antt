@@ -1,8 +1,8 @@
--- `program_scan_lines::next_digit` meets its contract. Assumes nothing.
-use Rattle.program_scan_lines.proofs.Fields.{digit-none, digit-over, digit-taken}
+-- `program_timer_lines::next_digit` meets its contract. Assumes nothing.
+use Rattle.program_timer_lines.proofs.Fields.{digit-none, digit-over, digit-taken}
 use borrow.Author.Needs.{needs}
-use Rattle.program_scan_lines.proofs.next_digit.Statement.{statement}
-use Rattle.program_scan_lines.proofs.next_digit.Tie as tie
+use Rattle.program_timer_lines.proofs.next_digit.Statement.{statement}
+use Rattle.program_timer_lines.proofs.next_digit.Tie as tie
 
 digit-of-requires : tie.Need-digit-of-requires
 digit-of-requires c κs = search needs

@@ -1,10 +1,10 @@
--- `program_scan_lines::begins` meets its contract. The loop's invariant: what is left to compare decides as the whole does. Assumes nothing.
+-- `program_timer_lines::begins` meets its contract. The loop's invariant: what is left to compare decides as the whole does. Assumes nothing.
 use Prim.Native.Nat.{_-_}
 use native.Mathlib.Omega.{arith}
 use lib.ListN.{length}
-use Rattle.program_scan_lines.proofs.Words.{Comparing, comparing-first, comparing-short, comparing-other, comparing-more, comparing-end}
-use Rattle.program_scan_lines.proofs.begins.Statement.{statement}
-use Rattle.program_scan_lines.proofs.begins.Tie as tie
+use Rattle.program_timer_lines.proofs.Words.{Comparing, comparing-first, comparing-short, comparing-other, comparing-more, comparing-end}
+use Rattle.program_timer_lines.proofs.begins.Statement.{statement}
+use Rattle.program_timer_lines.proofs.begins.Tie as tie
 
 abbrev Inv-loop : tie.InvT-loop
 Inv-loop input from word i₀ k₀ i k = Comparing input from word i k
