@@ -53,8 +53,7 @@ timer-variables s n p = go (getElem? (s .timers) n) refl
 pub timers-below : (vars : ℕ) (ts : List Timer) → question16 vars ts ≡ none → T (all (timerBelow vars) ts)
 unfolding question16 timersInRange
 timers-below vars ts e =
-    let h = and-yes (leb (length ts) mostTimers) (all (timerBelow vars) ts && different eqb (timerVariables ts)) (ask-passed 16 _ e) in
-    and-yes (all (timerBelow vars) ts) (different eqb (timerVariables ts)) (h .1) .0
+    and-yes (all (timerBelow vars) ts) _ (and-yes (leb (length ts) mostTimers) _ (ask-passed 16 _ e) .1) .0
 
 abbrev below : ℕ → ℕ → Bool
 below vars v = ltb v vars
