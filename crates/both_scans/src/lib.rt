@@ -48,9 +48,12 @@ fn scan_written(
         (now (code .entry)) (rowOf (now («code_labels» .entry)) (now («code_offsets» .entry)) (now («code_lengths» .entry))
         (now («code_times» .entry)))
         counts tick «rung_watchdog» watchdog
-        (memory (copied (now (table .entry)) (now («ladder_copy» .entry))) (copied (now (timers .entry)) (now («ladder_numbers» .entry))))
-        (memory (copied (now (table .entry)) (now («list_copy» .entry))) (copied (now (timers .entry)) (now («list_numbers» .entry)))) r
-        (memory (now («ladder_copy» .exit)) (now («ladder_numbers» .exit))) (memory (now («list_copy» .exit)) (now («list_numbers» .exit)))
+        (memory (copied (now (table .entry)) (now («ladder_copy» .entry)))
+        (copied (now (timers .entry)) (now («ladder_numbers» .entry))))
+        (memory (copied (now (table .entry)) (now («list_copy» .entry)))
+        (copied (now (timers .entry)) (now («list_numbers» .entry)))) r
+        (memory (now («ladder_copy» .exit)) (now («ladder_numbers» .exit)))
+        (memory (now («list_copy» .exit)) (now («list_numbers» .exit)))
         (now («code_times» .entry)) (now («code_times» .exit)) ⌝ }
 {
     both_parts::copy_table(table, ladder_copy);

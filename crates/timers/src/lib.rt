@@ -12,7 +12,8 @@ ghost use Rattle.table.specs.Timer.{elapsed, started, powered};
 ghost use Rattle.table.specs.State.{runTimer};
 ghost use Rattle.table.specs.Questions.{timerBelow, timerVariables, timersInRange};
 ghost use Rattle.table.specs.TimerRecords.{columns, timersIn, whole, numberTimers};
-ghost use Rattle.timers.specs.Parts.{timerAt, putTimer, StateChanged, otherVariable, canPack, Packable, Packed, Unpackable, Unpacked};
+ghost use Rattle.timers.specs.Parts.{timerAt, putTimer, StateChanged, otherVariable};
+ghost use Rattle.timers.specs.Parts.{canPack, Packable, Packed, Unpackable, Unpacked};
 
 // "16 when there are more than 32 records"
 pub const MOST_TIMERS: usize = 32;
@@ -192,7 +193,8 @@ pub fn put_timer(
     done: u32,
 )
     requires { ⌜ at + 5 ≤ length (now timers) ⌝ }
-    ensures { λ _. ⌜ now (timers .exit) ≡ sets (now (timers .entry)) at (preset ∷ start ∷ variable ∷ running ∷ done ∷ []) ⌝ }
+    ensures { λ _. ⌜ now (timers .exit)
+        ≡ sets (now (timers .entry)) at (preset ∷ start ∷ variable ∷ running ∷ done ∷ []) ⌝ }
 {
     timers[at] = preset;
     timers[at + START] = start;
