@@ -48,10 +48,12 @@ truth-bit : (b : Bool) → truth (bit b) ≡ b
 truth-bit true = refl
 truth-bit false = refl
 
-set-same : (s t : List ℕ) (v x : ℕ) → length s ≡ length t → (i : ℕ) → getD s i 0 ≡ getD t i 0 → getD (set s v x) i 0 ≡ getD (set t v x) i 0
-set-same s t v x h i e = go (ℕ-discrete i v) (decLt v (length t))
+-- a byte written in two tables of one length: what was the same at i, seen through f, is the same
+pub set-same : {A : Type 0} (f : ℕ → A) (s t : List ℕ) (v x : ℕ) → length s ≡ length t → (i : ℕ) → f (getD s i 0) ≡ f (getD t i 0)
+    → f (getD (set s v x) i 0) ≡ f (getD (set t v x) i 0)
+set-same f s t v x h i e = go (ℕ-discrete i v) (decLt v (length t))
   where
-    go : Dec (i ≡ v) → Dec (v < length t) → getD (set s v x) i 0 ≡ getD (set t v x) i 0
+    go : Dec (i ≡ v) → Dec (v < length t) → f (getD (set s v x) i 0) ≡ f (getD (set t v x) i 0)
     go (yes p) (yes k) = rw (p, getD-set-same s v x 0 (omega arith), getD-set-same t v x 0 k)
     go (yes p) (no k) = rw (set-out s v x (omega arith), set-out t v x (omega arith)) e
     go (no p) k = rw (getD-set-other s v i x 0 p, getD-set-other t v i x 0 p) e
@@ -67,7 +69,7 @@ module _ {vars : ℕ} {s t : State} (p : Alike vars s t) where
   write-both v b h = record {
     vars-left = p .vars-left;
     vars-right = p .vars-right;
-    same = λ i k. set-same (s .bytes) (t .bytes) v (bit b) (p .same-room) i (p .same i k);
+    same = λ i k. set-same (λ x. x) (s .bytes) (t .bytes) v (bit b) (p .same-room) i (p .same i k);
     same-room = length-set (s .bytes) v (bit b) ∙ p .same-room ∙ sym (length-set (t .bytes) v (bit b));
     room = rw (length-set (t .bytes) v (bit b)) (p .room);
     same-moved = rw (p .same v h, p .same-moved, p .vars-left, p .vars-right);
