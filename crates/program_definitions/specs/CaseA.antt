@@ -27,11 +27,12 @@ use Rattle.translation_definitions.specs.Translate.{F, R, join, outputCode, run
 use Rattle.translation_definitions.specs.TranslateKept.{countsOf, listWritten, translateKept}
 use Rattle.ladder_definitions.specs.LadderScan.{scanQuestions}
 use Rattle.translation_definitions.specs.BothScans.{copyQuestion, bothQuestions, bothScans, instructionWatchdog, pairedWatchdog}
+use Rattle.noninterference.specs.Contacts.{frontContacts, rearContacts, rungContacts, ladderContacts, among, leftOut, unread}
 use Rattle.program_definitions.specs.Lines.{firstLine, textAfter, lineNumber, isBinaryDigit, tableOf}
 use Rattle.program_definitions.specs.TimerLines.{nowTaken, nowOf, timersTaken, timersFrom, timerOf, beforeSpace, afterSpace, isNumber, isDigit, digitsAfter}
 use Rattle.program_definitions.specs.Outcome.{outputOf}
 use Rattle.program_definitions.specs.Printout.{countLine, listPrinted, keptPrinted, textPrinted, outcome, output}
-use Rattle.program_definitions.specs.Scanout.{endWord, scanCountLines, endLines, enteredLine, enteredLines, changedLine, changedLines, alikeIf, verdict, verdictLine, timerLines, reportOf, reportLines, restScanned, keptScanned, textScanned, outcome as scanOutcome, output as scanOutput}
+use Rattle.program_definitions.specs.Scanout.{endWord, scanCountLines, endLines, enteredLine, enteredLines, changedLine, changedLines, variableNames, unreadLine, alikeIf, verdict, verdictLine, timerLines, reportOf, reportLines, restScanned, keptScanned, textScanned, outcome as scanOutcome, output as scanOutput}
 
 pub A-printed : output (bytes "5\n10:c0|c1&n2>o1|c3&j20\n20:n3>o4\n")
     ≡ bytes "L10:\nLD v0\nST t0\nLD v1\nANDN v2\nOR t0\nST t0\nST v1\nLD t0\nAND v3\nJMPC @10\nL20:\nLDN v3\nST v4\nrungs 2 instructions 12 longest 10\n"
@@ -48,9 +49,10 @@ A-printed = refl
 
 -- case A with v0 true and a rung watchdog of 2, as README shows it
 pub A-scanned : scanOutput (bytes "5\n2\n10000\n10:c0|c1&n2>o1|c3&j20\n20:n3>o4\n")
-    ≡ bytes "scan ladder list\nend Ended Ended\nrungs 2 2\ninstructions - 12\nmoved 2 2\nL10 - 1\nL20 - 1\nv1 0>1 0>1\nv4 0>1 0>1\nalike\n"
+    ≡ bytes "scan ladder list\nend Ended Ended\nrungs 2 2\ninstructions - 12\nmoved 2 2\nL10 - 1\nL20 - 1\nv1 0>1 0>1\nv4 0>1 0>1\nunread v4\nalike\n"
 unfolding scanOutput scanOutcome restScanned nowTaken nowOf timersTaken timersFrom timerOf beforeSpace afterSpace isNumber isDigit digitsAfter timerNumbers timersIn whole numberTimers
-    timersInRange question16 different timersKnown outputTimed namedTimed question17 timerLines textScanned keptScanned reportLines reportOf endLines scanCountLines endWord enteredLines enteredLine changedLines changedLine verdict alikeIf sameBytes verdictLine
+    timersInRange question16 different timersKnown outputTimed namedTimed question17 timerLines textScanned keptScanned reportLines reportOf endLines scanCountLines endWord enteredLines enteredLine changedLines changedLine
+    unread leftOut among ladderContacts rungContacts frontContacts rearContacts unreadLine variableNames verdict alikeIf sameBytes verdictLine
     outputOf firstLine textAfter lineNumber isBinaryDigit tableOf bytes decimal digits copyQuestion scanQuestions bothQuestions bothScans instructionWatchdog pairedWatchdog
     question11 question12 tableInRange valueAt value writtenAt turns write xor isStart enter
     scanLadder scanFrom runRung runRear runOutput workFront workInput jumpIf unlessJumped from follow left scanList scanMachine begin fresh step count does halted

@@ -3,7 +3,7 @@
 use mathlib.Core.Path.{_≡_, refl}
 use mathlib.Core.Bool.{true, false}
 use mathlib.Core.Option.{none, some}
-use mathlib.Core.List.{List, [], _∷_, _++_}
+use mathlib.Core.List.{[], _∷_}
 use lib.ListN.{replicate}
 use Rattle.questions.specs.Bytes.{bytes, decimal, digits, sameBytes}
 use Rattle.questions.specs.Tests.{all}
@@ -18,7 +18,7 @@ use Rattle.program_definitions.specs.Lines.{lineNumber, watchdogOf, isBi
 use Rattle.program_definitions.specs.Lines.{firstLine, textAfter}
 use Rattle.program_definitions.specs.TimerLines.{beforeSpace, afterSpace, isDigit, digitsAfter, isNumber, nowOf, timerOf, nowTaken, timersFrom, timersTaken}
 use Rattle.program_definitions.specs.Refusals.{refusalLine, explanations, explanation, lineEndsText, errorLines}
-use Rattle.program_definitions.specs.Scanout.{endWord, scanCountLines, endLines, enteredLine, enteredLines, changedLine, changedLines, timerText, timerLine, sameTimer, timerLines, alike, bothStopped, notAlike, alikeIf, verdict, verdictLine, reportOf, reportLines}
+use Rattle.program_definitions.specs.Scanout.{endWord, scanCountLines, endLines, enteredLine, enteredLines, changedLine, changedLines, timerText, timerLine, sameTimer, timerLines, variableNames, unreadLine, alike, bothStopped, notAlike, alikeIf, verdict, verdictLine, reportOf, reportLines}
 
 pub watchdogs-worked :
     (watchdogOf (bytes "2") ≡ 2) × (watchdogOf (bytes "65535") ≡ 65535) × (watchdogOf (bytes "65536") ≡ 65536) × (watchdogOf (bytes "02") ≡ 65536) × (watchdogOf [] ≡ 65536)
@@ -59,17 +59,22 @@ unfolding ends verdict alikeIf sameBytes
 verdicts-worked = (refl, refl, refl, refl, refl, refl, refl)
 
 -- README's report
-pub report-worked : reportLines 5 (1 ∷ 0 ∷ 0 ∷ 0 ∷ 0 ∷ []) [] (ends Ended 2 2 Ended 2 2)
+pub report-worked : reportLines 5 (4 ∷ []) (1 ∷ 0 ∷ 0 ∷ 0 ∷ 0 ∷ []) [] (ends Ended 2 2 Ended 2 2)
     (lends (1 ∷ 1 ∷ 0 ∷ 0 ∷ 1 ∷ []) (1 ∷ 1 ∷ 0 ∷ 0 ∷ 1 ∷ []) [] [] (buffers [] (10 ∷ 20 ∷ 0 ∷ []) [] [] (1 ∷ 1 ∷ 0 ∷ [])))
-    ≡ bytes "scan ladder list\nend Ended Ended\nrungs 2 2\ninstructions - 12\nmoved 2 2\nL10 - 1\nL20 - 1\nv1 0>1 0>1\nv4 0>1 0>1\nalike\n"
-unfolding ends reportLines reportOf endLines scanCountLines endWord enteredLines enteredLine changedLines changedLine timersIn timerLines verdict alikeIf sameBytes verdictLine decimal digits bytes
+    ≡ bytes "scan ladder list\nend Ended Ended\nrungs 2 2\ninstructions - 12\nmoved 2 2\nL10 - 1\nL20 - 1\nv1 0>1 0>1\nv4 0>1 0>1\nunread v4\nalike\n"
+unfolding ends reportLines reportOf endLines scanCountLines endWord enteredLines enteredLine changedLines changedLine timersIn timerLines unreadLine variableNames verdict alikeIf sameBytes verdictLine decimal digits bytes
 report-worked = refl
 
--- two scans that stopped, with other sums and variables, and a rung that was not entered
-pub stopped-worked : reportLines 2 (1 ∷ 0 ∷ []) [] (ends Stopped 1 1 Stopped 1 0) (lends (1 ∷ 1 ∷ []) (1 ∷ 0 ∷ []) [] [] (buffers [] (10 ∷ 20 ∷ []) [] [] (0 ∷ 1 ∷ [])))
-    ≡ bytes "scan ladder list\nend Stopped Stopped\nrungs 1 1\ninstructions - 12\nmoved 1 0\nL20 - 1\nv1 0>1 0>0\nboth stopped\n"
-unfolding ends reportLines reportOf endLines scanCountLines endWord enteredLines enteredLine changedLines changedLine timersIn timerLines verdict verdictLine decimal digits bytes
+-- two scans that stopped, with other sums and variables, a rung that was not entered, and no variable that contacts leave unread
+pub stopped-worked : reportLines 2 [] (1 ∷ 0 ∷ []) [] (ends Stopped 1 1 Stopped 1 0) (lends (1 ∷ 1 ∷ []) (1 ∷ 0 ∷ []) [] [] (buffers [] (10 ∷ 20 ∷ []) [] [] (0 ∷ 1 ∷ [])))
+    ≡ bytes "scan ladder list\nend Stopped Stopped\nrungs 1 1\ninstructions - 12\nmoved 1 0\nL20 - 1\nv1 0>1 0>0\nunread\nboth stopped\n"
+unfolding ends reportLines reportOf endLines scanCountLines endWord enteredLines enteredLine changedLines changedLine timersIn timerLines unreadLine variableNames verdict verdictLine decimal digits bytes
 stopped-worked = refl
+
+-- 02, Req 07
+pub unread-worked : unreadLine (0 ∷ 2 ∷ 1023 ∷ []) ≡ bytes "unread v0 v2 v1023\n"
+unfolding unreadLine variableNames decimal digits bytes
+unread-worked = refl
 
 -- 02, Req 06: the lines of ticks and timers, and lines that are none
 abbrev pub timer : ℕ → ℕ → ℕ → ℕ → ℕ → Timer
@@ -95,9 +100,10 @@ unfolding nowTaken timersTaken timersFrom nowOf timerOf firstLine textAfter befo
 clock-lines = (refl, refl, refl, refl)
 
 -- README's report with a timer that came to be done, beside one that stayed as it was
-pub timer-report : reportLines 3 (1 ∷ 0 ∷ 0 ∷ []) (3 ∷ 10 ∷ 1 ∷ 1 ∷ 0 ∷ 7 ∷ 0 ∷ 2 ∷ 0 ∷ 0 ∷ []) (ends Ended 2 1 Ended 2 1)
+pub timer-report : reportLines 3 (2 ∷ []) (1 ∷ 0 ∷ 0 ∷ []) (3 ∷ 10 ∷ 1 ∷ 1 ∷ 0 ∷ 7 ∷ 0 ∷ 2 ∷ 0 ∷ 0 ∷ []) (ends Ended 2 1 Ended 2 1)
     (lends (1 ∷ 1 ∷ 0 ∷ []) (1 ∷ 1 ∷ 0 ∷ []) (3 ∷ 10 ∷ 1 ∷ 1 ∷ 1 ∷ 7 ∷ 0 ∷ 2 ∷ 0 ∷ 0 ∷ []) (3 ∷ 10 ∷ 1 ∷ 1 ∷ 1 ∷ 7 ∷ 0 ∷ 2 ∷ 0 ∷ 0 ∷ []) (buffers [] (10 ∷ 20 ∷ []) [] [] (1 ∷ 1 ∷ [])))
-    ≡ bytes "scan ladder list\nend Ended Ended\nrungs 2 2\ninstructions - 12\nmoved 1 1\nL10 - 1\nL20 - 1\nv1 0>1 0>1\nd0 10,1,0>10,1,1 10,1,0>10,1,1\nalike\n"
-unfolding ends reportLines reportOf endLines scanCountLines endWord enteredLines enteredLine changedLines changedLine timersIn timerLines timerLine timerText sameTimer numbersOf verdict alikeIf sameBytes verdictLine
+    ≡ bytes "scan ladder list\nend Ended Ended\nrungs 2 2\ninstructions - 12\nmoved 1 1\nL10 - 1\nL20 - 1\nv1 0>1 0>1\nd0 10,1,0>10,1,1 10,1,0>10,1,1\nunread v2\nalike\n"
+unfolding ends reportLines reportOf endLines scanCountLines endWord enteredLines enteredLine changedLines changedLine timersIn timerLines timerLine timerText sameTimer numbersOf
+    unreadLine variableNames verdict alikeIf sameBytes verdictLine
     decimal digits bytes
 timer-report = refl

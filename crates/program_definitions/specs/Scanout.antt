@@ -11,12 +11,13 @@ use Rattle.table.specs.TimerRecords.{numbersOf, timerNumbers, timersIn}
 use Rattle.table.specs.Halt.{Halt, Ended, Stopped}
 use Rattle.rungs.specs.Records.{mostRecords}
 use Rattle.ladder_definitions.specs.Kept.{Kept}
-use Rattle.ladder_definitions.specs.Questions.{mostRungs, mostWords}
+use Rattle.ladder_definitions.specs.Questions.{ladderOf, mostRungs, mostWords}
 use Rattle.ladder_definitions.specs.LadderScan.{LadderCounts}
 use Rattle.text_definitions.specs.Read.{readText, kept, writtenKept, refused as readRefused}
 use Rattle.list_definitions.specs.Questions.{mostInstructions}
 use Rattle.list_definitions.specs.ListScan.{ListCounts}
 use Rattle.translation_definitions.specs.BothScans.{BothEnds, Lent, lends, both, pairedScans, refused as scansRefused}
+use Rattle.noninterference.specs.Contacts.{unread}
 use Rattle.program_definitions.specs.Lines.{firstLine, textAfter, variablesOf, watchdogOf, tableOf, mostKept}
 use Rattle.program_definitions.specs.TimerLines.{nowTaken, timersTaken, heldTimers, mostRest}
 use Rattle.program_definitions.specs.Outcome.{Outcome, printed, refused, outputOf}
@@ -78,6 +79,14 @@ timerLines n (b ∷ bs) [] ts = []
 timerLines n (b ∷ bs) (l ∷ ls) [] = []
 timerLines n (b ∷ bs) (l ∷ ls) (t ∷ ts) = elim (sameTimer l b && sameTimer t b) [ true ↦ [] | false ↦ timerLine n b l t ] ++ timerLines (suc n) bs ls ts
 
+-- 02, Req 07: a line with the variables that no contact reads
+unfoldable pub variableNames : List ℕ → List ℕ
+variableNames [] = []
+variableNames (v ∷ vs) = bytes " v" ++ (decimal v ++ variableNames vs)
+
+unfoldable pub unreadLine : List ℕ → List ℕ
+unreadLine vs = bytes "unread" ++ (variableNames vs ++ bytes "\n")
+
 -- what the two scans came to
 pub data Verdict : Type 0 where
   alike bothStopped notAlike : Verdict
@@ -102,23 +111,26 @@ verdictLine alike = bytes "alike\n"
 verdictLine bothStopped = bytes "both stopped\n"
 verdictLine notAlike = bytes "not alike\n"
 
--- the report, from the table and the timer records' numbers before, the labels and times entered of the list's rungs, and the two tables and the numbers after
-unfoldable pub reportOf : ℕ → List ℕ → List ℕ → BothEnds → List ℕ → List ℕ → List ℕ → List ℕ → List ℕ → List ℕ → List ℕ
-reportOf vars table timers e labels times ladderTable listTable ladderTimers listTimers =
+-- the report, from the variables that no contact reads, the table and the timer records' numbers before, the labels and times entered of the list's rungs, and
+-- the two tables and the numbers after
+unfoldable pub reportOf : ℕ → List ℕ → List ℕ → List ℕ → BothEnds → List ℕ → List ℕ → List ℕ → List ℕ → List ℕ → List ℕ → List ℕ
+reportOf vars noContact table timers e labels times ladderTable listTable ladderTimers listTimers =
     let l = take vars ladderTable in
     let t = take vars listTable in
     endLines e ++ (enteredLines labels times
     ++ (changedLines 0 (take vars table) l t
     ++ (timerLines 0 (timersIn timers) (timersIn ladderTimers) (timersIn listTimers)
-    ++ verdictLine (verdict e l t ladderTimers listTimers))))
+    ++ (unreadLine noContact
+    ++ verdictLine (verdict e l t ladderTimers listTimers)))))
 
 -- the same, from all that both scans left
-unfoldable pub reportLines : ℕ → List ℕ → List ℕ → BothEnds → Lent → List ℕ
-reportLines vars table timers e after =
-    reportOf vars table timers e (take (e .counts .rungs) (after .buffers .labels)) (take (e .counts .rungs) (after .buffers .times)) (after .ladderTable) (after .listTable)
+unfoldable pub reportLines : ℕ → List ℕ → List ℕ → List ℕ → BothEnds → Lent → List ℕ
+reportLines vars noContact table timers e after =
+    reportOf vars noContact table timers e (take (e .counts .rungs) (after .buffers .labels)) (take (e .counts .rungs) (after .buffers .times)) (after .ladderTable) (after .listTable)
     (after .ladderTimers) (after .listTimers)
 
--- lines of 64 bytes at most, one for each variable and 512 besides, of which 256 for rungs and 128 for timers: the buffer that the program writes from
+-- 64 bytes for each variable, its name in the line of those that no contact reads included, and for 512 lines besides, of which 256 for rungs and 128 for timers:
+-- the buffer that the program writes from
 abbrev pub mostReport : ℕ
 mostReport = 64 * (mostVariables + 512)
 
@@ -130,7 +142,7 @@ lentFor table timers = lends table table timers timers (blank mostInstructions m
 unfoldable pub keptScanned : ℕ → Kept → List ℕ → List ℕ → ℕ → ℕ → Outcome
 keptScanned vars k table timers now n =
     let c = pairedScans vars k table timers now (lentFor table timers) n in
-    elim (c .answer) [ scansRefused refusal ↦ refused refusal | both e ↦ printed (reportLines vars table timers e (c .lent)) ]
+    elim (c .answer) [ scansRefused refusal ↦ refused refusal | both e ↦ printed (reportLines vars (unread vars (ladderOf k)) table timers e (c .lent)) ]
 
 -- V, a rung watchdog, a table, timer records, a tick and a text
 unfoldable pub textScanned : ℕ → ℕ → List ℕ → List ℕ → ℕ → List ℕ → Outcome

@@ -41,6 +41,8 @@ use Rattle.translation_definitions.specs.Laws.Boths.{not-refused, long-copy, bo
 use Rattle.translation_definitions.specs.declared.BothEnds.{BothEnds as EndsStruct}
 use Rattle.translation_definitions.specs.declared.BothScanned.{BothScanned}
 use Rattle.translation_definitions.specs.declared.BothScanned.the-variants.{Scanned, Refused}
+use Rattle.noninterference.specs.Contacts.{wordContacts, leftOut, unread}
+use Rattle.noninterference.specs.Theorems.{contacts-in-words}
 use Rattle.program_definitions.specs.Laws.Outcomes.{room-of, placed-within}
 use Rattle.program_definitions.specs.Outcome.{printed, refused, Done, PlacedWithin}
 use Rattle.program_definitions.specs.declared.Printed.{Printed}
@@ -223,12 +225,12 @@ module _ (vars : ℕ) (k : Kept) (table timers : List ℕ) (now n : ℕ) (u v p 
           omega (arith, room, many, rungs-same, length-replicate {A = ℕ} 256 0)
 
       pub scans-reported : (x y i j : List ℕ) → x ≡ after .ladderTable → y ≡ after .listTable → i ≡ after .ladderTimers → j ≡ after .listTimers
-          → keptScanned vars k table timers now n ≡ printed (reportOf vars table timers (endsIn e) (take m (after .buffers .labels)) (take m (after .buffers .times)) x y i j)
-      unfolding keptScanned reportLines both-ends both-left
+          → keptScanned vars k table timers now n ≡ printed (reportOf vars (leftOut (wordContacts (k .words)) 0 vars) table timers (endsIn e) (take m (after .buffers .labels)) (take m (after .buffers .times)) x y i j)
+      unfolding keptScanned reportLines unread both-ends both-left
       scans-reported x y i j ex ey ei ej =
           let l = done .same-lent ∙ ap (λ c. c .lent) (both-scanned vars k table timers now lent n w all-yes) in
           let theirs = both-scanned vars k table timers now (lentFor table timers) n w (sym asked-same ∙ all-yes) in
-          rw (theirs, keptScanned, theirs, ex, ey, ei, ej, ends-same, rungs-same, l) refl
+          rw (theirs, keptScanned, theirs, contacts-in-words vars k (given .given .accepted), ex, ey, ei, ej, ends-same, rungs-same, l) refl
 
 -- ---- numbers of 32 bits
 

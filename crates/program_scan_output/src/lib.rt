@@ -20,7 +20,7 @@ use rungs::MOST_RECORDS;
 use text_definitions::TextRead;
 use translation_definitions::BothScanned;
 
-// A report fits here: lines of 64 bytes at most, one for each variable and 512 besides, of which 256 for rungs and 128 for timers.
+// A report fits here: 64 bytes for each variable and for 512 lines besides, of which 256 for rungs and 128 for timers.
 pub const MOST_REPORT: usize = 64 * (MOST_VARIABLES as usize + 512);
 
 // How many bytes a copy of the table is lent: as many as it has. A table that is too long for any V is refused 11, its copies being
@@ -110,6 +110,7 @@ fn report_kept(
                 &list_timers[..k],
                 &code_labels[..m],
                 &code_times[..m],
+                words,
             );
             Printed::Placed(bytes)
         }

@@ -6,6 +6,7 @@ ghost use Rattle.table.specs.Questions.{mostTimers};
 ghost use Rattle.ladder_definitions.specs.Questions.{mostRungs};
 ghost use Rattle.printing.specs.Put.{Put};
 ghost use Rattle.translation_definitions.specs.BothScans.{haltOf, endsIn};
+ghost use Rattle.noninterference.specs.Contacts.{wordContacts, leftOut};
 ghost use Rattle.program_definitions.specs.Scanout.{endWord, scanCountLines, endLines, enteredLine, enteredLines};
 ghost use Rattle.program_definitions.specs.Scanout.{changedLine, changedLines, reportOf};
 use translation_definitions::BothEnds;
@@ -140,8 +141,9 @@ fn put_variables(
     end
 }
 
-// The whole report: how the scans ended, the rungs that were entered, the variables and the timers that changed, and the verdict.
-// `before` is the table before both scans, and `timers` the timer records; labels and times are those of the list's rungs.
+// The whole report: how the scans ended, the rungs that were entered, the variables and the timers that changed, the variables that no
+// contact reads, and the verdict. `before` is the table before both scans, and `timers` the timer records; labels and times are those of
+// the list's rungs, and `words` the ladder's.
 pub fn put_report(
     out: &mut [u8],
     vars: u32,
@@ -154,10 +156,12 @@ pub fn put_report(
     list_timers: &[u32],
     labels: &[u16],
     times: &[u32],
+    words: &[u32],
 ) -> usize
     requires { ⌜ (vars ≤ mostVariables) × ((length (now labels) ≤ mostRungs) × (length (now timers) ≤ 5 * mostTimers)) ⌝ }
     ensures { λ r. ⌜ Put (now (out .entry)) 0
-        (reportOf vars (now (before .entry)) (now (timers .entry)) (endsIn ends) (now (labels .entry)) (now (times .entry))
+        (reportOf vars (leftOut (wordContacts (now (words .entry))) 0 vars) (now (before .entry)) (now (timers .entry)) (endsIn ends)
+        (now (labels .entry)) (now (times .entry))
         (now («ladder_left» .entry)) (now («list_left» .entry)) (now («ladder_timers» .entry)) (now («list_timers» .entry))) r
         (now (out .exit)) ⌝ }
 {
@@ -173,5 +177,6 @@ pub fn put_report(
         ladder_timers,
         list_timers,
     );
-    program_scan_verdict::put_verdict(out, timed, verdict)
+    let unread = program_scan_unread::put_unread(out, timed, vars, words);
+    program_scan_verdict::put_verdict(out, unread, verdict)
 }

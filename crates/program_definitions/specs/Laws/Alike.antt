@@ -1,17 +1,14 @@
 -- Every report of ladder-scan ends in `alike` or in `both stopped`, by demand 3 over the code's definition: case by case along the definitions of the output.
 -- Assumes nothing.
-use Prim.Native.Nat.{ℕ, suc}
+use Prim.Native.Nat.{ℕ}
 use mathlib.Core.Path.{_≡_, refl, sym, ap, _∙_}
-use mathlib.Core.Bool.{Bool, true, false, _&&_}
-use mathlib.Core.List.{List, [], _∷_, _++_, append-assoc, append-nil}
+use mathlib.Core.List.{List, [], _++_, append-assoc}
 use borrow.Author.Tests.{eq-eqb}
-use lib.Dec.{eqb}
 use lib.ListN.{take}
 use Rattle.questions.specs.Laws.Bytes.{same-refl}
-use Rattle.questions.specs.Bytes.{bytes, decimal}
+use Rattle.questions.specs.Bytes.{bytes}
 use Rattle.questions.specs.Questions.{Refusal}
 use Rattle.table.specs.Halt.{Halt, Ended, Stopped}
-use Rattle.table.specs.Timer.{Timer}
 use Rattle.table.specs.TimerRecords.{timerNumbers, timersIn}
 use Rattle.table.specs.Laws.TimerRecords.{numbers-back}
 use Rattle.table.specs.State.{variables}
@@ -26,7 +23,7 @@ use Rattle.translation_definitions.specs.Theorems.{paired-agree}
 use Rattle.program_definitions.specs.Refusals.{refusalLine}
 use Rattle.program_definitions.specs.Outcome.{outputOf}
 use Rattle.program_definitions.specs.Printout.{blank}
-use Rattle.program_definitions.specs.Scanout.{endWord, scanCountLines, endLines, enteredLine, enteredLines, changedLine, changedLines, timerText, timerLine, sameTimer, timerLines, Verdict, alike, bothStopped, alikeIf, verdict, verdictLine, reportOf, reportLines, lentFor, keptScanned, textScanned, restScanned, outcome, output}
+use Rattle.program_definitions.specs.Scanout.{endWord, scanCountLines, endLines, enteredLines, changedLines, timerLines, variableNames, unreadLine, Verdict, alike, bothStopped, alikeIf, verdict, verdictLine, reportOf, reportLines, lentFor, keptScanned, textScanned, restScanned, outcome, output}
 
 -- ---- the verdict
 
@@ -95,7 +92,7 @@ module _ (vars : ℕ) (k : Kept) (table timers : List ℕ) (now n : ℕ) (e : Bo
           let halt : e .listHalt ≡ Stopped = sym (ap (λ (d : BothEnds). d .listHalt) same-ends) ∙ same-scan (x .stopped) .0 in
           stoppedBoth p halt (rw (p, halt) refl)
 
--- ---- lines end in LF
+-- ---- a line ends in LF
 
 pub record EndsLine (xs : List ℕ) : Type 0 where
   pub before : List ℕ
@@ -107,56 +104,13 @@ ends-self = record { before = []; is = refl }
 ends-after : (xs : List ℕ) {ys : List ℕ} → EndsLine ys → EndsLine (xs ++ ys)
 ends-after xs e = record { before = xs ++ e .before; is = ap (λ z. xs ++ z) (e .is) ∙ sym (append-assoc xs (e .before) (bytes "\n")) }
 
-changed-ends : (v b l t : ℕ) → EndsLine (changedLine v b l t)
-unfolding changedLine
-changed-ends v b l t =
-    ends-after (bytes "v") (ends-after (decimal v) (ends-after (bytes " ") (ends-after (decimal b) (ends-after (bytes ">") (ends-after (decimal l)
-    (ends-after (bytes " ") (ends-after (decimal b) (ends-after (bytes ">") (ends-after (decimal t) ends-self)))))))))
-
-entered-ends : (label times : ℕ) → EndsLine (enteredLine label times)
-unfolding enteredLine
-entered-ends label times = ends-after (bytes "L") (ends-after (decimal label) (ends-after (bytes " - ") (ends-after (decimal times) ends-self)))
-
--- lines, and then another or none
-maybe-ends : (xs : List ℕ) → EndsLine xs → {line : List ℕ} → EndsLine line → (none : Bool) → EndsLine (xs ++ elim none [ true ↦ [] | false ↦ line ])
-maybe-ends xs e f true = rw (append-nil xs) e
-maybe-ends xs e f false = ends-after xs f
-
-entered-end : (ls ns xs : List ℕ) → EndsLine xs → EndsLine (xs ++ enteredLines ls ns)
-unfolding enteredLines
-entered-end [] ns xs e = rw (append-nil xs) e
-entered-end (l ∷ ls) [] xs e = rw (append-nil xs) e
-entered-end (l ∷ ls) (n ∷ ns) xs e =
-    let line : List ℕ = elim (eqb n 0) [ true ↦ [] | false ↦ enteredLine l n ] in
-    rw (← (append-assoc xs line (enteredLines ls ns))) (entered-end ls ns (xs ++ line) (maybe-ends xs e (entered-ends l n) (eqb n 0)))
-
-lines-end : (v : ℕ) (bs ls ts xs : List ℕ) → EndsLine xs → EndsLine (xs ++ changedLines v bs ls ts)
-unfolding changedLines
-lines-end v [] ls ts xs e = rw (append-nil xs) e
-lines-end v (b ∷ bs) [] ts xs e = rw (append-nil xs) e
-lines-end v (b ∷ bs) (l ∷ ls) [] xs e = rw (append-nil xs) e
-lines-end v (b ∷ bs) (l ∷ ls) (t ∷ ts) xs e =
-    let line : List ℕ = elim (eqb l b && eqb t b) [ true ↦ [] | false ↦ changedLine v b l t ] in
-    rw (← (append-assoc xs line (changedLines (suc v) bs ls ts))) (lines-end (suc v) bs ls ts (xs ++ line) (maybe-ends xs e (changed-ends v b l t) (eqb l b && eqb t b)))
-
-timer-ends : (n : ℕ) (b l t : Timer) → EndsLine (timerLine n b l t)
-unfolding timerLine
-timer-ends n b l t =
-    ends-after (bytes "d") (ends-after (decimal n) (ends-after (bytes " ") (ends-after (timerText b) (ends-after (bytes ">") (ends-after (timerText l)
-    (ends-after (bytes " ") (ends-after (timerText b) (ends-after (bytes ">") (ends-after (timerText t) ends-self)))))))))
-
-timers-end : (n : ℕ) (bs ls ts : List Timer) (xs : List ℕ) → EndsLine xs → EndsLine (xs ++ timerLines n bs ls ts)
-unfolding timerLines
-timers-end n [] ls ts xs e = rw (append-nil xs) e
-timers-end n (b ∷ bs) [] ts xs e = rw (append-nil xs) e
-timers-end n (b ∷ bs) (l ∷ ls) [] xs e = rw (append-nil xs) e
-timers-end n (b ∷ bs) (l ∷ ls) (t ∷ ts) xs e =
-    let line : List ℕ = elim (sameTimer l b && sameTimer t b) [ true ↦ [] | false ↦ timerLine n b l t ] in
-    rw (← (append-assoc xs line (timerLines (suc n) bs ls ts))) (timers-end (suc n) bs ls ts (xs ++ line) (maybe-ends xs e (timer-ends n b l t) (sameTimer l b && sameTimer t b)))
-
 -- ---- the report in literal bytes
 
-module _ (vars : ℕ) (table before : List ℕ) (e : BothEnds) (after : Lent) where
+unread-ends : (vs : List ℕ) → EndsLine (unreadLine vs)
+unfolding unreadLine
+unread-ends vs = ends-after (bytes "unread") (ends-after (variableNames vs) ends-self)
+
+module _ (vars : ℕ) (noContact table before : List ℕ) (e : BothEnds) (after : Lent) where
   abbrev ladderLeft : List ℕ
   ladderLeft = take vars (after .ladderTable)
 
@@ -165,13 +119,6 @@ module _ (vars : ℕ) (table before : List ℕ) (e : BothEnds) (after : Lent) wh
 
   abbrev counts : List ℕ
   counts = scanCountLines (e .ladder) (e .list)
-
-  counts-end : EndsLine counts
-  unfolding scanCountLines
-  counts-end =
-      ends-after (bytes "rungs ") (ends-after (decimal (e .ladder .rungs)) (ends-after (bytes " ") (ends-after (decimal (e .list .rungs))
-      (ends-after (bytes "\ninstructions - ") (ends-after (decimal (e .list .instructions)) (ends-after (bytes "\nmoved ") (ends-after (decimal (e .ladder .moved))
-      (ends-after (bytes " ") (ends-after (decimal (e .list .moved)) ends-self)))))))))
 
   abbrev entered : List ℕ
   entered = enteredLines (take (e .counts .rungs) (after .buffers .labels)) (take (e .counts .rungs) (after .buffers .times))
@@ -182,19 +129,22 @@ module _ (vars : ℕ) (table before : List ℕ) (e : BothEnds) (after : Lent) wh
   abbrev worked : List ℕ
   worked = timerLines 0 (timersIn before) (timersIn (after .ladderTimers)) (timersIn (after .listTimers))
 
-  lines : EndsLine (((counts ++ entered) ++ changed) ++ worked)
-  lines = timers-end 0 (timersIn before) (timersIn (after .ladderTimers)) (timersIn (after .listTimers)) ((counts ++ entered) ++ changed)
-      (lines-end 0 (take vars table) ladderLeft listLeft (counts ++ entered) (entered-end _ _ counts counts-end))
+  abbrev names : List ℕ
+  names = unreadLine noContact
+
+  lines : EndsLine ((((counts ++ entered) ++ changed) ++ worked) ++ names)
+  lines = ends-after (((counts ++ entered) ++ changed) ++ worked) (unread-ends noContact)
 
   -- what stands between the line of ends and the verdict
   pub middle : List ℕ
   middle = lines .before
 
-  joined : (head last : List ℕ) → head ++ (counts ++ (entered ++ (changed ++ (worked ++ last)))) ≡ head ++ (middle ++ (bytes "\n" ++ last))
+  joined : (head last : List ℕ) → head ++ (counts ++ (entered ++ (changed ++ (worked ++ (names ++ last))))) ≡ head ++ (middle ++ (bytes "\n" ++ last))
   unfolding middle
   joined head last =
-      ap (λ z. head ++ z) (sym (append-assoc counts entered (changed ++ (worked ++ last))) ∙ sym (append-assoc (counts ++ entered) changed (worked ++ last))
-      ∙ sym (append-assoc ((counts ++ entered) ++ changed) worked last) ∙ ap (λ z. z ++ last) (lines .is) ∙ append-assoc (lines .before) (bytes "\n") last)
+      ap (λ z. head ++ z) (sym (append-assoc counts entered (changed ++ (worked ++ (names ++ last)))) ∙ sym (append-assoc (counts ++ entered) changed (worked ++ (names ++ last)))
+      ∙ sym (append-assoc ((counts ++ entered) ++ changed) worked (names ++ last)) ∙ sym (append-assoc (((counts ++ entered) ++ changed) ++ worked) names last)
+      ∙ ap (λ z. z ++ last) (lines .is) ∙ append-assoc (lines .before) (bytes "\n") last)
 
   ended-lines : e .ladderHalt ≡ Ended → e .listHalt ≡ Ended → endLines e ≡ bytes "scan ladder list\nend Ended Ended\n" ++ counts
   unfolding endLines endWord bytes
@@ -205,20 +155,20 @@ module _ (vars : ℕ) (table before : List ℕ) (e : BothEnds) (after : Lent) wh
   stopped-lines p q = rw (p, q) refl
 
   report-is : (head : List ℕ) (x : Verdict) → endLines e ≡ head ++ counts → verdict e ladderLeft listLeft (after .ladderTimers) (after .listTimers) ≡ x
-      → reportLines vars table before e after ≡ head ++ (middle ++ (bytes "\n" ++ verdictLine x))
+      → reportLines vars noContact table before e after ≡ head ++ (middle ++ (bytes "\n" ++ verdictLine x))
   unfolding reportLines reportOf
   report-is head x p v =
-      ap (λ z. z ++ (entered ++ (changed ++ (worked ++ verdictLine (verdict e ladderLeft listLeft (after .ladderTimers) (after .listTimers)))))) p
-      ∙ ap (λ y. (head ++ counts) ++ (entered ++ (changed ++ (worked ++ verdictLine y)))) v
-      ∙ append-assoc head counts (entered ++ (changed ++ (worked ++ verdictLine x))) ∙ joined head (verdictLine x)
+      ap (λ z. z ++ (entered ++ (changed ++ (worked ++ (names ++ verdictLine (verdict e ladderLeft listLeft (after .ladderTimers) (after .listTimers))))))) p
+      ∙ ap (λ y. (head ++ counts) ++ (entered ++ (changed ++ (worked ++ (names ++ verdictLine y))))) v
+      ∙ append-assoc head counts (entered ++ (changed ++ (worked ++ (names ++ verdictLine x)))) ∙ joined head (verdictLine x)
 
   pub ended-report : e .ladderHalt ≡ Ended → e .listHalt ≡ Ended → verdict e ladderLeft listLeft (after .ladderTimers) (after .listTimers) ≡ alike
-      → reportLines vars table before e after ≡ bytes "scan ladder list\nend Ended Ended\n" ++ (middle ++ bytes "\nalike\n")
+      → reportLines vars noContact table before e after ≡ bytes "scan ladder list\nend Ended Ended\n" ++ (middle ++ bytes "\nalike\n")
   unfolding verdictLine bytes
   ended-report p q v = report-is (bytes "scan ladder list\nend Ended Ended\n") alike (ended-lines p q) v
 
   pub stopped-report : e .ladderHalt ≡ Stopped → e .listHalt ≡ Stopped → verdict e ladderLeft listLeft (after .ladderTimers) (after .listTimers) ≡ bothStopped
-      → reportLines vars table before e after ≡ bytes "scan ladder list\nend Stopped Stopped\n" ++ (middle ++ bytes "\nboth stopped\n")
+      → reportLines vars noContact table before e after ≡ bytes "scan ladder list\nend Stopped Stopped\n" ++ (middle ++ bytes "\nboth stopped\n")
   unfolding verdictLine bytes
   stopped-report p q v = report-is (bytes "scan ladder list\nend Stopped Stopped\n") bothStopped (stopped-lines p q) v
 
@@ -227,10 +177,10 @@ module _ (vars : ℕ) (table before : List ℕ) (e : BothEnds) (after : Lent) wh
 module _ (P : List ℕ → Type 0) (refusals : (r : Refusal) → P (refusalLine r))
     (ends : (middle : List ℕ) → P (bytes "scan ladder list\nend Ended Ended\n" ++ (middle ++ bytes "\nalike\n")))
     (stops : (middle : List ℕ) → P (bytes "scan ladder list\nend Stopped Stopped\n" ++ (middle ++ bytes "\nboth stopped\n"))) where
-  report-shown : (vars : ℕ) (table before : List ℕ) (e : BothEnds) (after : Lent)
-      → Verdicts e (take vars (after .ladderTable)) (take vars (after .listTable)) (after .ladderTimers) (after .listTimers) → P (reportLines vars table before e after)
-  report-shown vars table before e after (bothEnded p q v) = rw (ended-report vars table before e after p q v) (ends (middle vars table before e after))
-  report-shown vars table before e after (stoppedBoth p q v) = rw (stopped-report vars table before e after p q v) (stops (middle vars table before e after))
+  report-shown : (vars : ℕ) (noContact table before : List ℕ) (e : BothEnds) (after : Lent)
+      → Verdicts e (take vars (after .ladderTable)) (take vars (after .listTable)) (after .ladderTimers) (after .listTimers) → P (reportLines vars noContact table before e after)
+  report-shown vars noContact table before e after (bothEnded p q v) = rw (ended-report vars noContact table before e after p q v) (ends (middle vars noContact table before e after))
+  report-shown vars noContact table before e after (stoppedBoth p q v) = rw (stopped-report vars noContact table before e after p q v) (stops (middle vars noContact table before e after))
 
   kept-shown : (vars : ℕ) (k : Kept) (table timers : List ℕ) (now n : ℕ) → P (outputOf (keptScanned vars k table timers now n))
   unfolding keptScanned outputOf
@@ -238,7 +188,7 @@ module _ (P : List ℕ → Type 0) (refusals : (r : Refusal) → P (refusalLine 
     where
       go : (a : BothAnswer) → pairedScans vars k table timers now (lentFor table timers) n .answer ≡ a → P (outputOf (keptScanned vars k table timers now n))
       go (scansRefused refusal) e = rw (e, keptScanned) (refusals refusal)
-      go (both ends) e = rw (e, keptScanned) (report-shown vars table timers ends _ (verdicts vars k table timers now n ends e))
+      go (both ends) e = rw (e, keptScanned) (report-shown vars _ table timers ends _ (verdicts vars k table timers now n ends e))
 
   text-shown : (vars n : ℕ) (table timers : List ℕ) (now : ℕ) (text : List ℕ) → P (outputOf (textScanned vars n table timers now text))
   unfolding textScanned outputOf

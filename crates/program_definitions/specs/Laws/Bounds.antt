@@ -1,11 +1,11 @@
 -- How long an output is: a listing and its count line, a report. Assumes nothing.
-use Prim.Native.Nat.{ℕ, suc, _+_, _*_, _^_, _≤_, _<_}
+use Prim.Native.Nat.{ℕ, zero, suc, _+_, _*_, _^_, _≤_, _<_}
 use native.Mathlib.Omega.{arith}
 use mathlib.Core.Path.{_≡_, refl, sym, ap, _∙_}
 use mathlib.Core.Bool.{Bool, true, false, cond, _&&_, _||_}
 use mathlib.Core.Option.{none, some}
 use mathlib.Core.List.{List, [], _∷_, _++_}
-use lib.Dec.{T, eqb, leb, ltb, leb→le, ltb→lt, lt→ltb}
+use lib.Dec.{T, eqb, leb, ltb, leb→le, ltb→lt}
 use mir.Facts.{and-yes, yes-and}
 use lib.ListN.{length, take, drop, replicate, length-append, length-replicate, length-map, take-append-drop}
 use lib.Seq.{length-take-le}
@@ -26,7 +26,7 @@ use Rattle.rungs.specs.Records.{RungRecord, lay, sum, longest, mostRecords, lab
 use Rattle.rungs.specs.Buffers.{Buffers, asBuffers, written as writtenFrom, writtenOver, writtenWords, writtenRecords}
 use Rattle.rungs.specs.Laws.Filling.{written-first, first-written}
 use Rattle.rungs.specs.Laws.Layout.{lay-labels}
-use Rattle.ladder_definitions.specs.Tree.{Rung, labels}
+use Rattle.ladder_definitions.specs.Tree.{Rung, Ladder, labels}
 use Rattle.ladder_definitions.specs.Kept.{Kept}
 use Rattle.ladder_definitions.specs.Meaning.{scanLadder}
 use Rattle.ladder_definitions.specs.Questions.{ladderOf, ladderAnswer, mostRungs, mostWords}
@@ -53,11 +53,12 @@ use Rattle.table.specs.Laws.Legal.{LegalTable}
 use Rattle.translation_definitions.specs.Laws.Legal.{watchdog-in-range as most-in-range}
 use Rattle.translation_definitions.specs.Laws.Calls.{given-passed, list-times}
 use Rattle.translation_definitions.specs.Laws.Boths.{both-ends, both-left, both-given, asked-yes, both-scanned, paired-legal}
+use Rattle.noninterference.specs.Contacts.{ladderContacts, among, leftOut, unread}
 use Rattle.program_definitions.specs.Refusals.{refusalLine}
 use Rattle.program_definitions.specs.Outcome.{Outcome, printed, refused}
 use Rattle.program_definitions.specs.Printout.{countLine, blank, mostListing, listPrinted, keptPrinted, textPrinted}
 use Rattle.program_definitions.specs.Laws.Labels.{written-labels-fit}
-use Rattle.program_definitions.specs.Scanout.{endWord, scanCountLines, endLines, enteredLine, enteredLines, changedLine, changedLines, timerText, timerLine, sameTimer, timerLines, Verdict, alike, bothStopped, notAlike, verdict, verdictLine, reportOf, reportLines, lentFor, keptScanned, textScanned}
+use Rattle.program_definitions.specs.Scanout.{endWord, scanCountLines, endLines, enteredLine, enteredLines, changedLine, changedLines, timerText, timerLine, sameTimer, timerLines, variableNames, unreadLine, Verdict, alike, bothStopped, notAlike, verdict, verdictLine, reportOf, reportLines, lentFor, keptScanned, textScanned}
 
 -- ---- texts one after the other
 
@@ -290,6 +291,25 @@ timers-short n (b ∷ bs) (l ∷ ls) (t ∷ ts) h p q r =
     let x = then (elim (sameTimer l b && sameTimer t b) as (λ _. List ℕ) [ true ↦ [] | false ↦ timerLine n b l t ]) (timerLines (suc n) bs ls ts) line rest in
     omega (arith, x)
 
+-- ---- the line of variables that no contact reads
+
+pub unread-short : (read : List ℕ) (v many : ℕ) → v + many ≤ 65536 → length (variableNames (leftOut read v many)) ≤ 7 * many
+unfolding leftOut variableNames bytes
+unread-short read v zero h = omega arith
+unread-short read v (suc many) h = go (among v read) (unread-short read (suc v) many (omega arith))
+  where
+    go : (b : Bool) → length (variableNames (leftOut read (suc v) many)) ≤ 7 * many
+        → length (variableNames (elim b as (λ _. List ℕ) [ true ↦ [] | false ↦ v ∷ [] ] ++ leftOut read (suc v) many)) ≤ 7 * suc many
+    go true ih = omega arith
+    go false ih = let a = decimal-long v (omega arith) in let e = length-append (decimal v) (variableNames (leftOut read (suc v) many)) in omega arith
+
+names-short : (vars : ℕ) (gs : Ladder) → vars ≤ 1024 → length (unreadLine (unread vars gs)) ≤ 7200
+unfolding unread unreadLine bytes
+names-short vars gs h =
+    let few = unread-short (ladderContacts gs) 0 vars (omega arith) in
+    let e = length-append (variableNames (leftOut (ladderContacts gs) 0 vars)) (bytes "\n") in
+    omega arith
+
 pub word-short : (h : Halt) → length (endWord h) ≤ 7
 unfolding endWord bytes
 word-short Ended = omega arith
@@ -407,7 +427,7 @@ module _ (vars : ℕ) (k : Kept) (table timers : List ℕ) (now n : ℕ) where
           let list : T (all narrow (timersIn (timerNumbers (scanList (translate vars (ladderOf k)) w s .state .timers)))) = rw (numbers-back (scanList (translate vars (ladderOf k)) w s .state .timers)) (list-has narrow now (powered-narrow now tick-now) (translate vars (ladderOf k)) w s refl narrow-begun) in
           timers-short 0 (timersIn timers) _ _ (omega (arith, records-few)) narrow-before ladder list
 
-      report-short : T (all isOperand (labels (ladderOf k))) → length (reportLines vars table timers e left) ≤ 98304
+      report-short : T (all isOperand (labels (ladderOf k))) → length (reportLines vars (unread vars (ladderOf k)) table timers e left) ≤ 98304
       unfolding reportLines reportOf both-left
       report-short fit =
           let s = begun vars table timers now in
@@ -427,12 +447,15 @@ module _ (vars : ℕ) (k : Kept) (table timers : List ℕ) (now n : ℕ) where
           let clocks : List ℕ = timerLines 0 (timersIn timers) (timersIn (left .ladderTimers)) (timersIn (left .listTimers)) in
           let line : List ℕ = verdictLine (verdict e l t (left .ladderTimers) (left .listTimers)) in
           let rungs : List ℕ = enteredLines (labels (ladderOf k)) ns in
-          let x = then (endLines e) (rungs ++ (lines ++ (clocks ++ line))) (ends-short e counts-fit) (then rungs (lines ++ (clocks ++ line)) entered
-          (then lines (clocks ++ line) changed (then clocks line worked-short (verdict-short (verdict e l t (left .ladderTimers) (left .listTimers)))))) in
+          let names : List ℕ = unreadLine (unread vars (ladderOf k)) in
+          let last : List ℕ = names ++ line in
+          let x = then (endLines e) (rungs ++ (lines ++ (clocks ++ last))) (ends-short e counts-fit) (then rungs (lines ++ (clocks ++ last)) entered
+          (then lines (clocks ++ last) changed (then clocks last worked-short
+          (then names line (names-short vars (ladderOf k) (range .1)) (verdict-short (verdict e l t (left .ladderTimers) (left .listTimers))))))) in
           rw labels-left (omega (arith, x, m, range .1, few, many, records-few))
 
   abbrev scannedBy : BothCall → Outcome
-  scannedBy c = elim (c .answer) [ scansRefused refusal ↦ refused refusal | both ends ↦ printed (reportLines vars table timers ends (c .lent)) ]
+  scannedBy c = elim (c .answer) [ scansRefused refusal ↦ refused refusal | both ends ↦ printed (reportLines vars (unread vars (ladderOf k)) table timers ends (c .lent)) ]
 
   scanned-short : T (all tick timers) → T (tick now) → T (all isOperand (labels (ladderOf k))) → (t : List ℕ) → keptScanned vars k table timers now n ≡ printed t → length t ≤ 98304
   unfolding keptScanned

@@ -1,0 +1,2 @@
+-- The proofs of this crate; Marks has their laws.
+pub mod Marks
