@@ -1,4 +1,4 @@
-/* The five calls of document 01, the search for a label and the list reader, with document 02's requests up to Req 06, in plain C, for
+/* The five calls of document 01, the search for a label and the list reader, with document 02's requests up to Req 07, in plain C, for
    comparison. Written from the documents alone; it shares nothing with the proved code.
    Standard input: a number of turns, LF, and one request of the vectors' format. Each turn works on a fresh copy of the table
    and of the timer records; the times entered need none, since a list scan sets them for itself alone.
