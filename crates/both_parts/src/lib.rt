@@ -1,4 +1,6 @@
 // What goes before and after both scans of one table: the questions, the copies, the list scan's watchdog, and how each scan ended.
+#![tactic(auto)]
+
 ghost use Rattle.std.specs.Prelude.{◌≡◌, ◌≤◌};
 ghost use Rattle.questions.specs.Questions.{most_rung_watchdog};
 ghost use Rattle.questions.specs.Refusals.{verdict_answer};
@@ -13,21 +15,21 @@ use list_definitions::ListScanned;
 use questions::{MOST_INSTRUCTION_WATCHDOG, Refusal, Verdict};
 
 // The list scan's watchdog: a given one, or demand 3's own.
-#[derive(Drop)]
+#[derive(Clone, Copy)]
 pub enum ListWatchdog {
     Given(u32),
     Paired,
 }
 
 // How the ladder scan ended, and its counts.
-#[derive(Drop)]
+#[derive(Clone, Copy)]
 pub struct LadderEnd {
     pub ended: bool,
     pub counts: ladder_definitions::Counts,
 }
 
 // How the list scan ended, and its counts.
-#[derive(Drop)]
+#[derive(Clone, Copy)]
 pub struct ListEnd {
     pub ended: bool,
     pub counts: list_definitions::Counts,

@@ -1,4 +1,6 @@
 // Both scans of one table: what a fault book can cite. Document 01, demand 3. Every question is put before the first store.
+#![tactic(auto)]
+
 ghost use Rattle.std.specs.Prelude.{◌≤◌};
 ghost use Rattle.questions.specs.Questions.{most_rung_watchdog};
 ghost use Rattle.rungs.specs.Records.{row_of};

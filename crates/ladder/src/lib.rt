@@ -1,5 +1,7 @@
 // The calls of the ladder side: questions 1 and 4 to 9, and Ladder scan. Document 01, "The kept ladder", "What a ladder does"; document 02,
 // Req 06.
+#![tactic(auto)]
+
 ghost use Rattle.std.specs.Prelude.{◌≡◌};
 ghost use Rattle.questions.specs.Questions.{first_no};
 ghost use Rattle.questions.specs.Refusals.{verdict_answer};

@@ -1,5 +1,7 @@
 // Question 4. A rung's words are told by two counts: before each word some fronts and then some rears are pending, and each word says
 // what is pending after it.
+#![tactic(auto)]
+
 ghost use Rattle.std.specs.Prelude.{◌≡◌, ◌+◌, ◌≤◌, ◌<◌, ◌/◌, ◌%◌, ◌^◌, length};
 ghost use Rattle.std.proofs.Math.Seq.{slice};
 ghost use Rattle.ladder_definitions.specs.Kept.{kept_of};
@@ -10,7 +12,7 @@ ghost use Rattle.ladder_kept.specs.Pending.{completes, WordTaken};
 use ladder_kinds::KindSort;
 
 // What is pending before a word; misplaced where a word before it stood where none like it may.
-#[derive(Drop)]
+#[derive(Clone, Copy)]
 pub struct PendingParts {
     pub fronts: usize,
     pub rears: usize,

@@ -1,5 +1,7 @@
 // The kinds of kept words by name, the sort of a kind, and the limits of a kept ladder. Document 01, "The kept ladder";
 // document 02, Req 01 and Req 06.
+#![tactic(auto)]
+
 ghost use Rattle.std.specs.Prelude.{◌≡◌};
 ghost use Rattle.ladder_definitions.specs.Kept.{kind_sort};
 ghost use Rattle.ladder_kinds.specs.Kinds.{sort_in, names_variable, names_label};
@@ -36,7 +38,7 @@ pub const MOST_RUNG_WORDS: usize = 128;
 pub const MOST_WORDS: usize = 8192;
 
 // A contact; a front-and or a front-or; a coil, a jump or a timer; a rear-and; a rear-or; or no kind.
-#[derive(Drop)]
+#[derive(Clone, Copy)]
 pub enum KindSort {
     Contact,
     Joined,

@@ -1,4 +1,6 @@
 // Questions 5 to 8 and 17. The words of a rung are those from the end of the rung before it on, as many as its length says.
+#![tactic(auto)]
+
 ghost use Rattle.std.specs.Prelude.{◌≡◌};
 ghost use Rattle.questions.specs.Tests.{all};
 ghost use Rattle.ladder_names.specs.Asking.{RungEnd, length_in_range, word_below, word_stays, word_leads};
@@ -8,7 +10,7 @@ ghost use Rattle.ladder_names.specs.Asking.{SizesAsked, VariablesAsked, RiseAske
 const PAST_TIMERS: u32 = (ladder_kinds::TIMER + 1) * rungs::OPERANDS;
 
 // The place of the first rung that a question says "no" to, if there is one.
-#[derive(Drop)]
+#[derive(Clone, Copy)]
 pub enum Found {
     At(usize),
     Nothing,

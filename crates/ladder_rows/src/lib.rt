@@ -1,5 +1,7 @@
 // Ladder scan over one lent row of rung records. Document 01, "The kept ladder": "Rung records lie side by side in one lent row". The
 // questions are put to a copy of the row's fields; the scan goes by the row itself, and searches it where a rung jumps.
+#![tactic(auto)]
+
 ghost use Rattle.std.specs.Prelude.{◌≡◌, length, ◌+◌, ◌≤◌, ◌<◌, ◌^◌};
 ghost use Rattle.table.specs.State.{state_with, state_of};
 ghost use Rattle.table.specs.TimerRecords.{timers_in, number_timers};
@@ -16,14 +18,14 @@ use questions::{Refusal, Verdict};
 use rows::{Rows, Rung};
 
 // How far a row's words have been found to be rungs laid one after the other.
-#[derive(Drop)]
+#[derive(Clone, Copy)]
 pub struct Laid {
     pub start: usize,
     pub whole: bool,
 }
 
 // Where a scan stands: the rungs entered, how many times variables were turned over, the rung that comes next, and whether to enter it.
-#[derive(Drop)]
+#[derive(Clone, Copy)]
 pub struct Standing {
     pub entered: u32,
     pub moved: u32,
@@ -32,7 +34,7 @@ pub struct Standing {
 }
 
 // Where a rung leads: to a label, or onward. And how many times variables were turned over by then.
-#[derive(Drop)]
+#[derive(Clone, Copy)]
 pub struct Way {
     pub jumped: bool,
     pub label: u32,

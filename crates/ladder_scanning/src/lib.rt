@@ -1,4 +1,6 @@
 // One scan of a ladder: document 01, "What a ladder does".
+#![tactic(auto)]
+
 ghost use Rattle.table.specs.State.{state_of};
 ghost use Rattle.table.specs.TimerRecords.{timers_in};
 ghost use Rattle.ladder_scanning.specs.Scanned.{WithinLimits, Scanned};

@@ -1,4 +1,6 @@
 // The scratch that a rung's code takes, along the prefix order of its kept words: question 9.
+#![tactic(auto)]
+
 ghost use Rattle.ladder_scratch.specs.Measuring.{JoinMeasured, FrontMeasured, RearMeasured, RungMeasured, FewAsked, ScratchAsked};
 
 use ladder_kinds::KindSort;
@@ -7,7 +9,7 @@ use ladder_kinds::KindSort;
 const FEW_WORDS: u32 = 65;
 
 // The scratch bytes that a part takes, and the position after its words.
-#[derive(Drop)]
+#[derive(Clone, Copy)]
 pub struct Taken {
     pub bytes: usize,
     pub next: usize,

@@ -1,5 +1,7 @@
 // A rung worked along the prefix order of its kept words: a tree is its root word, then its first part, then its second.
 // Words that hold no tree are passed over from the first that has no place there.
+#![tactic(auto)]
+
 ghost use Rattle.std.specs.Prelude.{◌+◌, ◌-◌, ◌<◌, ◌^◌, length};
 ghost use Rattle.table.specs.State.{state_with};
 ghost use Rattle.table.specs.TimerRecords.{timers_in};
@@ -8,14 +10,14 @@ ghost use Rattle.ladder_walk.specs.Walking.{ContactWorked, PartsJoined, RootsPas
 use ladder_kinds::KindSort;
 
 // A front's value, and the position after its words.
-#[derive(Drop)]
+#[derive(Clone, Copy)]
 pub struct Worked {
     pub value: bool,
     pub next: usize,
 }
 
 // Past a rear, at the position after its words, or away by a jump to a label; and how many times variables have been turned over.
-#[derive(Drop)]
+#[derive(Clone, Copy)]
 pub enum Ran {
     Onward { next: usize, moved: u32 },
     Jumped { label: u32, moved: u32 },

@@ -1,5 +1,7 @@
 // The calls of the list side: questions 1 and 10, List scan and Listing. Document 01, "What a list does", "Listing"; document 02, Req 05
 // and 06.
+#![tactic(auto)]
+
 ghost use Rattle.std.specs.Prelude.{◌≡◌};
 ghost use Rattle.rungs.specs.Records.{row_of};
 ghost use Rattle.table.specs.TimerRecords.{columns, column_timers, number_timers};

@@ -1,8 +1,10 @@
 // What List scan and Listing answer. The definitions of lists stand in specs/; nothing here has a body.
+#![tactic(auto)]
+
 use questions::Refusal;
 
 // The instructions carried out, the rungs entered, and how many times a variable was turned over.
-#[derive(Drop)]
+#[derive(Clone, Copy)]
 pub struct Counts {
     pub instructions: u32,
     pub rungs: u32,
@@ -10,7 +12,7 @@ pub struct Counts {
 }
 
 // The answer of List scan.
-#[derive(Drop)]
+#[derive(Clone, Copy)]
 pub enum ListScanned {
     Ended(Counts),
     Stopped(Counts),
@@ -18,7 +20,7 @@ pub enum ListScanned {
 }
 
 // The answer of Listing: the bytes written, or the refusal.
-#[derive(Drop)]
+#[derive(Clone, Copy)]
 pub enum Listed {
     Written(usize),
     Refused(Refusal),

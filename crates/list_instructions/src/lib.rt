@@ -1,11 +1,13 @@
 // What an instruction does. Document 01, "What a list does"; document 02, Req 01 and 06.
+#![tactic(auto)]
+
 ghost use Rattle.std.specs.Prelude.{◌≡◌, cond, ◌+◌, ◌<◌, ◌^◌};
 ghost use Rattle.table.specs.State.{state_with};
 ghost use Rattle.table.specs.TimerRecords.{timers_in};
 ghost use Rattle.list_instructions.specs.Parts.{Did};
 
 // Accumulator and index after an instruction, and how many times variables have been turned over.
-#[derive(Drop)]
+#[derive(Clone, Copy)]
 pub struct Effect {
     pub accumulator: bool,
     pub index: usize,

@@ -2,6 +2,8 @@
 // begin before the index, so the instruction stands at an offset just when it is that record's; a jump finds it anew, by halving.
 // 02, Req 04: where it does, that record's times entered get one more.
 // Req 06: timer records are lent as one slice of numbers, five a record, and a scan has one tick.
+#![tactic(auto)]
+
 ghost use Rattle.std.specs.Prelude.{◌≡◌, ◌+◌, ◌≤◌, ◌<◌, ◌^◌, length, get_or};
 ghost use Rattle.table.specs.State.{state_with, state_of};
 ghost use Rattle.table.specs.TimerRecords.{timers_in};
@@ -12,7 +14,7 @@ ghost use Rattle.list_machine.specs.Parts.{first_machine, first_place, starts_he
 use list_definitions::{Counts, ListScanned};
 
 // What each instruction changes.
-#[derive(Drop)]
+#[derive(Clone, Copy)]
 pub struct Machine {
     pub accumulator: bool,
     pub index: usize,
@@ -21,7 +23,7 @@ pub struct Machine {
 
 // Where a scan stands among the records: at an index, with the first record that does not begin before it; `entered` is 1 where that
 // record begins there, and else 0.
-#[derive(Drop)]
+#[derive(Clone, Copy)]
 pub struct Place {
     pub index: usize,
     pub next: usize,

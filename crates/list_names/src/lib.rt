@@ -1,4 +1,6 @@
 // Name tables: question 14, and the fixed table. Document 02, Req 05; document 01, "Listing".
+#![tactic(auto)]
+
 ghost use Rattle.std.specs.Prelude.{◌+◌, ◌-◌, ◌*◌, ◌≤◌, ◌<◌, ◌≡◌, [], length, get_or, take, drop};
 ghost use Rattle.questions.specs.Bytes.{same_bytes};
 ghost use Rattle.questions.specs.Tests.{all, different};

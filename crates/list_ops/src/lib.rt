@@ -1,5 +1,7 @@
 // The ops by name, the sort of the operand that an op takes, and the limit of a list. Document 01, "What a list does";
 // document 02, Req 01 and Req 06.
+#![tactic(auto)]
+
 ghost use Rattle.std.specs.Prelude.{◌≡◌};
 ghost use Rattle.list_definitions.specs.Instruction.{operand_sort};
 ghost use Rattle.list_ops.specs.Sorts.{sort_in};
@@ -42,7 +44,7 @@ pub const R: u32 = 16;
 pub const TON: u32 = 17;
 
 // A table index; nothing; an instruction index; a timer's number; or no op.
-#[derive(Drop)]
+#[derive(Clone, Copy)]
 pub enum OperandSort {
     Table,
     Nothing,

@@ -1,5 +1,7 @@
 // The printed list. Each function writes its text from `at` on and gives the position after it; past the buffer's end nothing is
 // written, so that the same functions count the bytes, over a buffer of none.
+#![tactic(auto)]
+
 ghost use Rattle.std.specs.Prelude.{◌*◌, ◌≤◌, ◌<◌, ◌≡◌, ◌∷◌, T, length};
 ghost use Rattle.std.proofs.Math.Seq.{slice};
 ghost use Rattle.questions.specs.Bytes.{byte, decimal};

@@ -1,4 +1,6 @@
 // Questions 10 and 17.
+#![tactic(auto)]
+
 ghost use Rattle.std.specs.Prelude.{◌≡◌, length};
 ghost use Rattle.questions.specs.Tests.{all};
 ghost use Rattle.rungs.specs.Records.{fields_of};

@@ -1,6 +1,8 @@
 // List scan and Listing over one lent row of rung records. Document 01, "The kept ladder": "A list has the same records, counting
 // instructions." Both go by a copy of the row's fields; List scan's times entered are stored back into the row (02, Req 04). Its timer
 // records are in one slice of numbers, five a record (Req 06).
+#![tactic(auto)]
+
 ghost use Rattle.std.specs.Prelude.{◌≡◌};
 ghost use Rattle.rows.specs.Rows.{records_of, times_of};
 ghost use Rattle.table.specs.TimerRecords.{number_timers};

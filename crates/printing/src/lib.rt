@@ -1,5 +1,7 @@
 // Bytes and numbers printed into a buffer. Each function puts its text from `at` on and gives the position after it; past the buffer's
 // end nothing is written, so that the same functions count, over a buffer of none.
+#![tactic(auto)]
+
 ghost use Rattle.std.specs.Prelude.{[], ◌∷◌, ◌+◌, ◌≤◌, ◌<◌, length};
 ghost use Rattle.questions.specs.Bytes.{decimal};
 ghost use Rattle.printing.specs.Put.{Put};

@@ -1,4 +1,6 @@
 // Standard input byte by byte, through a chunk that the caller lends.
+#![tactic(auto)]
+
 ghost use Rattle.std.specs.Prelude.{◌≤◌};
 
 use libc::STDIN_FILENO;
@@ -14,7 +16,7 @@ const CR: u32 = 13;
 
 // The chunk's bytes from `at` to `end` are still to be taken; `over` is 0 while more may come, and END or FAILED after the last read.
 // `last` is the byte taken last, and `crlf` tells whether an LF was taken after a CR.
-#[derive(Drop)]
+#[derive(Clone, Copy)]
 pub struct Reading {
     pub at: usize,
     pub end: usize,
@@ -24,14 +26,14 @@ pub struct Reading {
 }
 
 // A byte, END or FAILED, and the reading after it.
-#[derive(Drop)]
+#[derive(Clone, Copy)]
 pub struct Taken {
     pub byte: u32,
     pub reading: Reading,
 }
 
 // How many bytes of text were kept, and the reading after them.
-#[derive(Drop)]
+#[derive(Clone, Copy)]
 pub struct TextKept {
     pub kept: usize,
     pub reading: Reading,

@@ -1,5 +1,7 @@
 // The program ladder-list: reads standard input, writes standard output, and says on standard error what is wrong. What it prints is the
 // library program_list_output's.
+#![tactic(auto)]
+
 use libc::{STDERR_FILENO, STDOUT_FILENO};
 use program_definitions::Printed;
 use questions::Refusal;

@@ -1,5 +1,7 @@
 // The program ladder-scan: reads standard input, writes standard output, and says on standard error what is wrong. What it prints is the
 // library program_scan_output's.
+#![tactic(auto)]
+
 use libc::{STDERR_FILENO, STDOUT_FILENO};
 use program_chunks::{LF, Reading};
 use program_definitions::Printed;
@@ -7,7 +9,7 @@ use program_scan_lines::Variables;
 use questions::Refusal;
 
 // What the variables line is, and the reading after it.
-#[derive(Drop)]
+#[derive(Clone, Copy)]
 struct Begun {
     variables: Variables,
     reading: Reading,

@@ -1,9 +1,11 @@
 // Lines of standard input that are a number, or not, through a chunk that the caller lends.
+#![tactic(auto)]
+
 use program_chunks::{LF, Reading};
 use program_numbers::FirstLine;
 
 // A line that is a number, or not, and the reading after it.
-#[derive(Drop)]
+#[derive(Clone, Copy)]
 pub struct Line {
     pub line: FirstLine,
     pub reading: Reading,

@@ -1,4 +1,6 @@
 // What the program ladder-list prints. Document 01, "Listing".
+#![tactic(auto)]
+
 ghost use Rattle.std.specs.Prelude.{◌≤◌};
 ghost use Rattle.rungs.specs.Records.{row_of};
 ghost use Rattle.printing.specs.Put.{Put};

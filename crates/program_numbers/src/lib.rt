@@ -1,4 +1,6 @@
 // Lines that are a number, byte by byte, and the text after them. Document 01, "Listing".
+#![tactic(auto)]
+
 ghost use Rattle.std.specs.Prelude.{◌≡◌, ◌+◌, ◌-◌, ◌≤◌, min};
 ghost use Rattle.text_grammar.specs.Reader.{digit_of};
 ghost use Rattle.program_definitions.specs.Lines.{most_kept};
@@ -11,7 +13,7 @@ use text_grammar::MOST_NUMBER;
 pub const MOST_KEPT: usize = 65536;
 
 // What the bytes of the first line so far are: none, "0", another number, or no number.
-#[derive(Drop)]
+#[derive(Clone, Copy)]
 pub enum FirstLine {
     Empty,
     Zero,
@@ -102,7 +104,7 @@ pub fn variables(line: FirstLine) -> u32
 }
 
 // A line that is a number, or not, and where the next begins.
-#[derive(Drop)]
+#[derive(Clone, Copy)]
 pub struct Lined {
     pub line: FirstLine,
     pub at: usize,

@@ -1,4 +1,6 @@
 // A refusal as the programs print it: its line, and what is wrong in plain words. Document 01, "Listing"; README, "Refusals".
+#![tactic(auto)]
+
 ghost use Rattle.std.specs.Prelude.{◌++◌, ◌≤◌, length};
 ghost use Rattle.questions.specs.Bytes.{bytes, decimal};
 ghost use Rattle.questions.specs.Refusals.{refusal_of};

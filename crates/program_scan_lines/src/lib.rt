@@ -1,5 +1,7 @@
 // The first lines of the input of ladder-scan after V: the rung watchdog, and the variables line, which becomes a table. README,
 // "ladder-scan".
+#![tactic(auto)]
+
 ghost use Rattle.std.specs.Prelude.{◌≡◌, ◌+◌, ◌-◌, min};
 ghost use Rattle.program_definitions.specs.Lines.{no_watchdog};
 ghost use Rattle.program_definitions.specs.TimerLines.{most_rest};
@@ -17,7 +19,7 @@ pub const MOST_TABLE: usize = MOST_VARIABLES as usize + SCRATCH_BYTES;
 const NO_WATCHDOG: u32 = MOST_RUNG_WATCHDOG + 1;
 
 // What has been read of the variables line: as many bytes, all of them zeros and ones so far, and no more than V.
-#[derive(Drop)]
+#[derive(Clone, Copy)]
 pub struct Variables {
     pub count: u32,
     pub legal: bool,
@@ -85,7 +87,7 @@ pub fn table_bytes(variables: Variables, vars: u32) -> usize
 }
 
 // What the variables line is, and where it ends.
-#[derive(Drop)]
+#[derive(Clone, Copy)]
 pub struct VariablesTaken {
     pub variables: Variables,
     pub at: usize,

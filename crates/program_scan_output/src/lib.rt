@@ -1,4 +1,6 @@
 // What the program ladder-scan comes to, from the whole input: both scans of a ladder and its list side by side. README, "ladder-scan".
+#![tactic(auto)]
+
 ghost use Rattle.std.specs.Prelude.{◌≡◌, ◌*◌, min};
 ghost use Rattle.questions.specs.Questions.{most_variables};
 ghost use Rattle.table.specs.State.{table_size};

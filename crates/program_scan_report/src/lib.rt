@@ -1,4 +1,6 @@
 // The report of ladder-scan: both scans of a ladder and its list side by side. README, "ladder-scan".
+#![tactic(auto)]
+
 ghost use Rattle.std.specs.Prelude.{◌*◌, ◌≤◌, length, take};
 ghost use Rattle.questions.specs.Questions.{most_variables};
 ghost use Rattle.table.specs.Questions.{most_timers};

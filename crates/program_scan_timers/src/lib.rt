@@ -1,4 +1,6 @@
 // The timers' lines of ladder-scan's report. README, "ladder-scan"; document 02, Req 06.
+#![tactic(auto)]
+
 ghost use Rattle.std.specs.Prelude.{◌≡◌, ◌&&◌, ◌++◌, ◌+◌, ◌*◌, ◌≤◌, length};
 ghost use Rattle.questions.specs.Bytes.{bytes};
 ghost use Rattle.table.specs.Questions.{most_timers};

@@ -1,4 +1,6 @@
 // The line of ladder-scan's report with the variables that no contact reads. README, "ladder-scan"; document 02, Req 07.
+#![tactic(auto)]
+
 ghost use Rattle.std.specs.Prelude.{◌≡◌, ◌++◌, ◌≤◌, length};
 ghost use Rattle.questions.specs.Bytes.{bytes, decimal};
 ghost use Rattle.questions.specs.Questions.{most_variables};

@@ -1,4 +1,6 @@
 // What both scans of a ladder and its list came to: demand 3 of them, said in a line. README, "ladder-scan".
+#![tactic(auto)]
+
 ghost use Rattle.std.specs.Prelude.{◌≡◌, ◌≤◌, take};
 ghost use Rattle.questions.specs.Bytes.{same_bytes};
 ghost use Rattle.printing.specs.Put.{Put};
@@ -9,7 +11,7 @@ ghost use Rattle.program_scan_verdict.specs.Parts.{verdict_in};
 use translation_definitions::BothEnds;
 
 // What the two scans came to.
-#[derive(Drop)]
+#[derive(Clone, Copy)]
 pub enum Verdict {
     Alike,
     BothStopped,

@@ -1,5 +1,7 @@
 // The lines of the input of ladder-scan between the variables and the text: the tick, and timer lines, which become records. README,
 // "ladder-scan"; document 02, Req 06.
+#![tactic(auto)]
+
 ghost use Rattle.std.specs.Prelude.{◌≡◌, length, take, drop};
 ghost use Rattle.questions.specs.Bytes.{same_bytes};
 ghost use Rattle.program_timer_lines.specs.Fields.{next_digit, next_byte, field_of, FieldTaken, BreakTaken};
@@ -18,7 +20,7 @@ const NOW: usize = 4;
 const TIMER: usize = 6;
 
 // What the bytes of a field so far are: none, a number, or no number.
-#[derive(Drop)]
+#[derive(Clone, Copy)]
 pub enum Digits {
     Empty,
     Value(u32),
@@ -57,7 +59,7 @@ fn next_byte(digits: Digits, byte: u8, most: u32) -> Digits
 }
 
 // A field: whether it is a number, and which; whether a space ended it; and where the next begins, or the line's end stands.
-#[derive(Drop)]
+#[derive(Clone, Copy)]
 pub struct Field {
     pub legal: bool,
     pub value: u32,
@@ -136,7 +138,7 @@ fn after_break(input: &[u8], at: usize) -> usize
 }
 
 // The tick, and where what follows its line begins.
-#[derive(Drop)]
+#[derive(Clone, Copy)]
 pub struct NowTaken {
     pub tick: u32,
     pub at: usize,
@@ -164,7 +166,7 @@ pub fn take_now(input: &[u8], from: usize) -> NowTaken
 }
 
 // A line `timer PRESET START VARIABLE RUNNING DONE`, or another, and where the next begins.
-#[derive(Drop)]
+#[derive(Clone, Copy)]
 pub struct TimerLine {
     pub legal: bool,
     pub preset: u32,
@@ -230,7 +232,7 @@ fn hold(numbers: &mut [u32], count: usize, line: TimerLine) -> usize
 }
 
 // How many numbers of timer records are held, and where the text begins.
-#[derive(Drop)]
+#[derive(Clone, Copy)]
 pub struct TimersTaken {
     pub count: usize,
     pub at: usize,

@@ -1,4 +1,6 @@
 // Refusals, and questions 1 and 12. Document 01, "Questions before work".
+#![tactic(auto)]
+
 ghost use Rattle.std.specs.Prelude.{◌≡◌, leb};
 ghost use Rattle.questions.specs.Questions.{vars_in_range};
 ghost use Rattle.questions.specs.Refusals.{refusal_of};
@@ -12,7 +14,7 @@ pub const MOST_RUNG_WATCHDOG: u32 = 65535;
 pub const MOST_INSTRUCTION_WATCHDOG: u32 = 16777215;
 
 // One case for each question: specs/Refusals.antt gives its number and place.
-#[derive(Drop)]
+#[derive(Clone, Copy)]
 pub enum Refusal {
     Variables,
     TextLength,
@@ -34,7 +36,7 @@ pub enum Refusal {
 }
 
 // The answer to some questions in order: accepted, or the first "no".
-#[derive(Drop)]
+#[derive(Clone, Copy)]
 pub enum Verdict {
     Accepted,
     Refused(Refusal),

@@ -1,4 +1,6 @@
 // The reader of a list's text, with a name table. Document 02, Req 05.
+#![tactic(auto)]
+
 ghost use Rattle.rungs.specs.Buffers.{columns, buffers};
 ghost use Rattle.translation_definitions.specs.TranslateKept.{TranslateDone};
 ghost use Rattle.reader_definitions.specs.ReadList.{read_list};

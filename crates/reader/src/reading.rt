@@ -11,14 +11,14 @@ use reader_lines::{LabelAt, LineAt};
 use text_grammar::MOST_NUMBER;
 
 // The position after some instruction lines, and how many they are.
-#[derive(Drop)]
+#[derive(Clone, Copy)]
 pub enum CodeAt {
     Read { next: usize, count: usize },
     Stuck,
 }
 
 // What the rungs that were read take: instructions, records, and instructions of the longest.
-#[derive(Drop)]
+#[derive(Clone, Copy)]
 pub struct Sizes {
     pub instructions: usize,
     pub rungs: usize,
@@ -26,14 +26,14 @@ pub struct Sizes {
 }
 
 // The position after a rung that was kept, and what all rungs so far take.
-#[derive(Drop)]
+#[derive(Clone, Copy)]
 pub enum RungAt {
     Read { next: usize, sizes: Sizes },
     Stuck,
 }
 
 // What all rungs take.
-#[derive(Drop)]
+#[derive(Clone, Copy)]
 pub enum RungsAt {
     Read(Sizes),
     Stuck,

@@ -1,4 +1,6 @@
 // One line of a list's text. Document 02, Req 05 and Req 06.
+#![tactic(auto)]
+
 ghost use Rattle.std.specs.Prelude.{◌<◌, ◌≤◌, ◌≡◌, length, take, drop};
 ghost use Rattle.questions.specs.Bytes.{same_bytes};
 ghost use Rattle.questions.specs.Questions.{most_variables};
@@ -29,21 +31,21 @@ const NO_OP: u32 = 4;
 const SCRATCH: u32 = SCRATCH_BYTES as u32;
 
 // An operand: its sort, its number, and the position after it.
-#[derive(Drop)]
+#[derive(Clone, Copy)]
 pub enum OperandAt {
     Read { sort: u32, number: u32, next: usize },
     Stuck,
 }
 
 // An instruction word and the position after its line.
-#[derive(Drop)]
+#[derive(Clone, Copy)]
 pub enum LineAt {
     Read { word: u32, next: usize },
     Stuck,
 }
 
 // A label and the position after its line.
-#[derive(Drop)]
+#[derive(Clone, Copy)]
 pub enum LabelAt {
     Read { label: u32, next: usize },
     Stuck,

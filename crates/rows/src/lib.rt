@@ -1,6 +1,8 @@
 // Rung records in one lent row. Document 01: "Rung records lie side by side in one lent row: label (16 bits), offset and length (32 bits
 // each)." 02, Req 04: "The rung record gets a fourth field of 32 bits, the times entered." The contracts speak of a row's records as those
 // of the other crates do (rungs, Records), and of its times as a row of numbers beside them.
+#![tactic(auto)]
+
 ghost use Rattle.std.specs.Prelude.{◌≡◌, ◌<◌, ◌≤◌, min, length, get_or, set};
 ghost use Rattle.rungs.specs.Records.{labels, look_up, most_records, none_entered};
 ghost use Rattle.rungs.specs.Buffers.{written};
@@ -9,7 +11,7 @@ ghost use Rattle.rows.specs.Parts.{gathered, scattered, next_found, rows_of, run
 
 use rungs::{MOST_RECORDS, Search};
 
-#[derive(Drop)]
+#[derive(Clone, Copy)]
 pub struct Rung {
     pub label: u16,
     pub offset: u32,

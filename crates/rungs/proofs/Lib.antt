@@ -2,4 +2,3 @@
 pub mod Copies
 pub mod Searches
 pub mod Zeros
-pub mod Again

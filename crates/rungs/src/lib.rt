@@ -1,5 +1,7 @@
 // Words and labels of ladders and lists: read, put, copied and searched; and the larger of two numbers. Past the end of a slice there is
 // nothing, and nothing is written.
+#![tactic(auto)]
+
 ghost use Rattle.std.specs.Prelude.{◌≡◌, ◌+◌, ◌<◌, ◌^◌, max, get_or, take, set, replicate};
 ghost use Rattle.std.proofs.lemmas.List.Edits.{sets};
 ghost use Rattle.rungs.specs.Records.{look_up};
@@ -13,7 +15,7 @@ pub const MOST_RECORDS: usize = 256;
 
 // What a search for a label tells (document 02, Req 03): the place of the first record that has it, if one has, and how many records were
 // looked at.
-#[derive(Drop)]
+#[derive(Clone, Copy)]
 pub enum Search {
     Found { place: usize, looked: usize },
     Missing { looked: usize },

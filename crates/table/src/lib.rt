@@ -1,4 +1,6 @@
 // The table that both scans work on: document 01, "What a ladder does". Past the table's end a byte is false and a write does nothing.
+#![tactic(auto)]
+
 ghost use Rattle.std.specs.Prelude.{◌≡◌, ◌+◌, ◌<◌, ◌^◌};
 ghost use Rattle.questions.specs.Tests.{bit};
 ghost use Rattle.table.specs.State.{value_at, turns, write, write_if};

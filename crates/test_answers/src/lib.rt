@@ -1,5 +1,7 @@
 // Answers test requests for the six calls and for the search for a label, one a line, until the input ends; each call is made a given
 // number of times, on a fresh copy of what it changes. A malformed or oversized request ends the answers with a line that says so.
+#![tactic(auto)]
+
 use test_requests::{State, input};
 
 mod lists;

@@ -3,6 +3,8 @@
 // entered (document 02, Req 04) and the timer records (Req 06) that each scan left, and the listing, with the fixed names. Then it lends
 // rows of 300 records, which the calls refuse: 5, or 4 where the last record does not fit; List scan 10; both scans 16 with 33 timer
 // records (Req 06); Listing 10, or 14 with a name table of zeros (Req 05). Last it searches a row of 300 records for labels.
+#![tactic(auto)]
+
 use ladder_definitions::LadderScanned;
 use libc::STDOUT_FILENO;
 use list_definitions::{ListScanned, Listed};

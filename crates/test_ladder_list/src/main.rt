@@ -1,5 +1,7 @@
 // Runs the output of ladder-list over whole inputs, and prints each after the line that names it, and what is wrong after a refusal; the
 // stored output was made from document 01 and the README by a script, not by this program.
+#![tactic(auto)]
+
 use program_definitions::Printed;
 use questions::Refusal;
 use test_requests::cases::Case;

@@ -1,5 +1,7 @@
 // Runs the output of ladder-scan over whole inputs, and prints each after the line that names it, and what is wrong after a refusal; the
 // stored output was checked by hand.
+#![tactic(auto)]
+
 use program_definitions::Printed;
 use questions::Refusal;
 use test_requests::cases::Case;

@@ -6,7 +6,7 @@ use crate::input::{Counted, Input};
 use program_chunks::{END, LF, Reading};
 
 // The input after a case, how many bytes its name line has (0 where there is no case), and how many its own input.
-#[derive(Drop)]
+#[derive(Clone, Copy)]
 pub struct Case {
     pub input: Input,
     pub name: usize,

@@ -14,7 +14,7 @@ pub const BAD: u32 = 257;
 pub const NONE: u32 = 258;
 
 // The chunk's bytes from `at` to `end` are still to be read. `value` is the number read last, and `stop` what ended it.
-#[derive(Drop)]
+#[derive(Clone, Copy)]
 pub struct Input {
     pub at: usize,
     pub end: usize,
@@ -23,14 +23,14 @@ pub struct Input {
 }
 
 // The input after some items, and how many these are.
-#[derive(Drop)]
+#[derive(Clone, Copy)]
 pub struct Counted {
     pub input: Input,
     pub count: usize,
 }
 
 // A request's ladder or list as it was read: the variables, and how many words (or instructions) and records there are.
-#[derive(Drop)]
+#[derive(Clone, Copy)]
 pub struct Lent {
     pub input: Input,
     pub vars: u32,

@@ -1,4 +1,6 @@
 // What the programs that answer test requests share: the input, the output, and where a program stands between two requests.
+#![tactic(auto)]
+
 use input::Input;
 
 pub mod cases;
@@ -6,7 +8,7 @@ pub mod input;
 pub mod output;
 
 // The input, and how many bytes of the room wait to be written.
-#[derive(Drop)]
+#[derive(Clone, Copy)]
 pub struct State {
     pub input: Input,
     pub placed: usize,

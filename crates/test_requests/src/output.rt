@@ -6,7 +6,7 @@ use program_chunks::wide;
 use questions::Refusal;
 
 // The numbers that begin an answer.
-#[derive(Drop)]
+#[derive(Clone, Copy)]
 pub struct Head {
     pub ending: u64,
     pub first: u64,

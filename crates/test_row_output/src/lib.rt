@@ -1,4 +1,6 @@
 // What test_case_a_rows prints: what the calls over rows answered and left, and what a search told.
+#![tactic(auto)]
+
 use ladder_definitions::LadderScanned;
 use list_definitions::{ListScanned, Listed};
 use questions::Refusal;
@@ -11,7 +13,7 @@ use translation_definitions::Translated;
 pub const VARS: u32 = 5;
 
 // The times entered of a row's first and last record.
-#[derive(Drop)]
+#[derive(Clone, Copy)]
 pub struct Times {
     pub first: u32,
     pub last: u32,

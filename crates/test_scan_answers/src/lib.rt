@@ -1,5 +1,7 @@
 // Answers test requests for Ladder scan (kind 3) and List scan (kind 4), whose requests have one form: a ladder or a list, the table, the
 // watchdog, the timers and the tick.
+#![tactic(auto)]
+
 use test_requests::input::{Input, Lent};
 use test_requests::{State, input, output};
 use turns::{LADDER, Scanned};

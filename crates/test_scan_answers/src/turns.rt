@@ -7,7 +7,7 @@ use questions::Refusal;
 pub const LADDER: u32 = 3;
 
 // How a scan ended, and its answer's numbers after that: how many these are, and the numbers.
-#[derive(Drop)]
+#[derive(Clone, Copy)]
 pub struct Scanned {
     pub ending: u64,
     pub numbers: u32,

@@ -1,4 +1,6 @@
 // Makes one request's call a given number of times, and prints the last answer: the speed of the calls, side by side with C (bench/run).
+#![tactic(auto)]
+
 use test_requests::output;
 
 fn main() {

@@ -1,4 +1,6 @@
 // Answers test requests for the six calls and for the search for a label, one a line, until the input ends or a request is bad.
+#![tactic(auto)]
+
 use test_requests::output;
 
 fn main() {

@@ -1,4 +1,6 @@
 // The call Read: from a text to a kept ladder. Document 01, "Text".
+#![tactic(auto)]
+
 ghost use Rattle.std.specs.Prelude.{◌≡◌, leb, ◌&&◌};
 ghost use Rattle.questions.specs.Questions.{most_text_bytes};
 ghost use Rattle.rungs.specs.Buffers.{buffers};

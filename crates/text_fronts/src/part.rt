@@ -8,7 +8,7 @@ use rungs::OPERANDS;
 use text_grammar::Numeral;
 
 // The position after the part and how many words it makes, or the place where reading is stuck.
-#[derive(Drop)]
+#[derive(Clone, Copy)]
 pub enum Parsed {
     Read { next: usize, count: usize },
     Stuck { place: usize },

@@ -1,4 +1,6 @@
 // Bytes and numbers of a text. Document 01, "Text".
+#![tactic(auto)]
+
 ghost use Rattle.std.specs.Prelude.{◌≡◌, get_or};
 ghost use Rattle.text_grammar.specs.Numbers.{DigitRead, NumberRead};
 
@@ -6,7 +8,7 @@ ghost use Rattle.text_grammar.specs.Numbers.{DigitRead, NumberRead};
 pub const MOST_NUMBER: u32 = 65535;
 
 // A number and the position after it, or none.
-#[derive(Drop)]
+#[derive(Clone, Copy)]
 pub enum Numeral {
     Value { value: u32, next: usize },
     Missing,

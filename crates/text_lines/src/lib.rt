@@ -1,4 +1,6 @@
 // Lines: one rung each, kept in words and records. Document 01, "Text".
+#![tactic(auto)]
+
 ghost use Rattle.std.specs.Prelude.{ℕ, ◌+◌, ◌<◌, ◌≤◌, ◌^◌, ◌≡◌, length, take};
 ghost use Rattle.text_grammar.specs.Reader.{line_of, text_of};
 ghost use Rattle.ladder_definitions.specs.Kept.{rung_words};
@@ -14,7 +16,7 @@ use text_grammar::Numeral;
 const MOST_BRACKETS: usize = 15;
 
 // A line's label, the position after it and how many words its rung makes, or the place where reading is stuck.
-#[derive(Drop)]
+#[derive(Clone, Copy)]
 pub enum LineParsed {
     Read {
         label: u16,
@@ -27,7 +29,7 @@ pub enum LineParsed {
 }
 
 // What the rungs that were read take: words, records, and words of the longest.
-#[derive(Drop)]
+#[derive(Clone, Copy)]
 pub struct Sizes {
     pub words: usize,
     pub rungs: usize,
@@ -35,13 +37,13 @@ pub struct Sizes {
 }
 
 // The position after a line that was kept, and what all rungs so far take.
-#[derive(Drop)]
+#[derive(Clone, Copy)]
 pub enum LineKept {
     Read { next: usize, sizes: Sizes },
     Stuck { place: usize },
 }
 
-#[derive(Drop)]
+#[derive(Clone, Copy)]
 pub enum LinesParsed {
     Read(Sizes),
     Stuck { place: usize },

@@ -1,5 +1,7 @@
 // Rears: rear, branch and rear_end call each other, with at most `depth` brackets open below. Document 01, "Text"; document 02, Req 01
 // and Req 06.
+#![tactic(auto)]
+
 ghost use Rattle.std.specs.Prelude.{◌≡◌, ◌<◌, ◌≤◌};
 ghost use Rattle.text_grammar.specs.Reader.{rear_of, branch_of, end_of, opens_factor};
 ghost use Rattle.ladder_definitions.specs.Kept.{rear_words};

@@ -1,4 +1,6 @@
 // Read into one lent row of rung records. Document 01, "Text": "Read returns word and rung counts and writes words and records likewise."
+#![tactic(auto)]
+
 ghost use Rattle.std.specs.Prelude.{◌≡◌};
 ghost use Rattle.rungs.specs.Buffers.{as_buffers};
 ghost use Rattle.rows.specs.Rows.{records_of, times_of};
@@ -11,7 +13,7 @@ use text_definitions::TextRead;
 
 // What Read answers, and the fields of the records that it writes: as many as `rows` keeps. Their times are 0, which `scatter`
 // puts.
-#[derive(Drop)]
+#[derive(Clone, Copy)]
 pub struct ReadFields {
     pub answer: TextRead,
     pub rows: Rows,

@@ -1,5 +1,7 @@
 // Timer records in one slice of numbers, five a record, as scans work them; question 16 of them; and the five slices that callers lend.
 // Document 02, Req 06.
+#![tactic(auto)]
+
 ghost use Rattle.std.specs.Prelude.{◌≡◌, ◌+◌, ◌*◌, ◌^◌, ◌<◌, ◌≤◌, true, ◌||◌, [], ◌∷◌, length, drop, nat_eq, nat_le, slice_index};
 ghost use Rattle.std.proofs.lemmas.List.Edits.{sets};
 ghost use Rattle.questions.specs.Tests.{all, different, truth};

@@ -1,4 +1,6 @@
 // The call Translate: from a kept ladder to its list. Document 01, "Translation".
+#![tactic(auto)]
+
 ghost use Rattle.ladder_definitions.specs.Kept.{kept_of};
 ghost use Rattle.rungs.specs.Buffers.{buffers};
 ghost use Rattle.translation_definitions.specs.TranslateKept.{translate_kept, TranslateDone};

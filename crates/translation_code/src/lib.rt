@@ -1,6 +1,8 @@
 // The instructions of a rung's parts, along the prefix order of its kept words: F and R of document 01, "Translation". Each function
 // puts its part's instructions into a buffer from `put` on; past the buffer's end nothing is written, so that the same functions
 // count, over a buffer of none. `depth` numbers the next free scratch byte.
+#![tactic(auto)]
+
 ghost use Rattle.std.specs.Prelude.{◌≡◌, ◌+◌, ◌-◌, ◌≤◌, ◌<◌, ◌^◌, length, set};
 ghost use Rattle.questions.specs.Questions.{most_variables};
 ghost use Rattle.rungs.specs.Words.{operands, word};
@@ -12,7 +14,7 @@ use ladder_kinds::KindSort;
 use rungs::OPERANDS;
 
 // The position after a part's words, and after its instructions.
-#[derive(Drop)]
+#[derive(Clone, Copy)]
 pub struct Positions {
     pub next: usize,
     pub put: usize,

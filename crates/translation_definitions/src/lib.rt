@@ -1,9 +1,11 @@
 // What Translate answers, and both scans of one table. The definitions of translation and demand 3 stand in specs/; nothing here has a
 // body.
+#![tactic(auto)]
+
 use questions::Refusal;
 
 // The instructions and rungs of a list, and L, the length of its longest rung.
-#[derive(Drop)]
+#[derive(Clone, Copy)]
 pub struct Counts {
     pub instructions: usize,
     pub rungs: usize,
@@ -11,14 +13,14 @@ pub struct Counts {
 }
 
 // The answer of Translate.
-#[derive(Drop)]
+#[derive(Clone, Copy)]
 pub enum Translated {
     Written(Counts),
     Refused(Refusal),
 }
 
 // Translate's counts, and of each scan whether it ended (else it stopped), and its counts.
-#[derive(Drop)]
+#[derive(Clone, Copy)]
 pub struct BothEnds {
     pub counts: Counts,
     pub ladder_ended: bool,
@@ -28,7 +30,7 @@ pub struct BothEnds {
 }
 
 // The answer of both scans.
-#[derive(Drop)]
+#[derive(Clone, Copy)]
 pub enum BothScanned {
     Scanned(BothEnds),
     Refused(Refusal),

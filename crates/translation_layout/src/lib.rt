@@ -1,9 +1,11 @@
 // A ladder's list, rung by rung: first laid out, then written.
+#![tactic(auto)]
+
 ghost use Rattle.rungs.specs.Buffers.{columns};
 ghost use Rattle.translation_layout.specs.Parts.{LadderReady, LaidOut, ListPut};
 
 // A list's instructions, and those of its longest rung.
-#[derive(Drop)]
+#[derive(Clone, Copy)]
 pub struct Layout {
     pub instructions: usize,
     pub longest: usize,

@@ -1,5 +1,7 @@
 // Translate, from one lent row of rung records into another. Document 01, "Translation": "writes list and records from the start of two
 // buffers; the rest stays".
+#![tactic(auto)]
+
 ghost use Rattle.std.specs.Prelude.{◌≡◌};
 ghost use Rattle.rungs.specs.Buffers.{as_buffers};
 ghost use Rattle.rows.specs.Rows.{records_of, times_of};
@@ -13,7 +15,7 @@ use translation_definitions::Translated;
 
 // What Translate answers, and the fields of the records that it writes: as many as `rows` keeps. Their times are 0, which
 // `scatter` puts.
-#[derive(Drop)]
+#[derive(Clone, Copy)]
 pub struct TranslatedFields {
     pub answer: Translated,
     pub rows: Rows,

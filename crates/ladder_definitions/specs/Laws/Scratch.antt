@@ -74,6 +74,8 @@ module _ (vars : ℕ) where
   unfolding unless_jumped
   unless_alike (onward s) (onward t) next (onwards p) h = h s t p
   unless_alike (jumped l s) (jumped m t) next (jumps p) h = jumps p
+  unless_alike (onward s) (jumped m t) next x h = elim x [ ]
+  unless_alike (jumped l s) (onward t) next x h = elim x [ ]
 
   rear_alike : (r : Rear) (q : Bool) (s t : State) → T (rear_below r) → Alike vars s t → RunsAlike vars (run_rear r q s) (run_rear r q t)
   unfolding run_rear rear_all
@@ -102,6 +104,8 @@ module _ (vars : ℕ) where
   unfolding follow left
   follow_alike gs rest (onward s) (onward t) (onwards p) = (refl, p)
   follow_alike gs rest (jumped l s) (jumped m t) (jumps p) = (refl, p)
+  follow_alike gs rest (onward s) (jumped m t) x = elim x [ ]
+  follow_alike gs rest (jumped l s) (onward t) x = elim x [ ]
 
   scan_from_alike : (gs : Ladder) (n k : ℕ) (rest : Ladder) (s t : State) → T (all (rung_below vars) gs) → T (all (rung_below vars) rest) → Alike vars s t
       → ScansAlike (scan_from gs n k rest s) (scan_from gs n k rest t)

@@ -1,0 +1,8 @@
+-- `rungs::word_at` meets its contract: past the end there is no word. Assumes nothing.
+use mathlib.Core.Path.{sym}
+use lib.ListN.{get_or-eq_default}
+use borrow.Author.Rules.{rules}
+use Rattle.rungs.proofs.word_at.Goals as goal
+
+pub returns-else-at-words : goal.returns-else-at-words
+returns-else-at-words c = sym (get_or-eq_default c.args.words.now 0 c.if-at-words.false)

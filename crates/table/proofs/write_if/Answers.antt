@@ -1,0 +1,13 @@
+-- `table::write_if` meets its contract: with power what `write` leaves, and else the state as it is. Assumes nothing.
+use mathlib.Core.Path.{refl, ◌∙◌}
+use borrow.Author.Rules.{rules}
+use Rattle.table.specs.State.{write_if}
+use Rattle.table.proofs.write_if.Goals as goal
+
+pub returns-then-power : goal.returns-then-power
+unfolding write_if
+returns-then-power c = record { same = λ timers now. c.write.ensures.same timers now ∙ rw c.if-power.true refl }
+
+pub returns : goal.returns
+unfolding write_if
+returns c = record { same = λ timers now. rw c.if-power.false refl }
