@@ -6,17 +6,17 @@ use mathlib.Core.Option.{none, some}
 use mathlib.Core.List.{List, [], ◌∷◌, ◌++◌}
 use lib.ListN.{length}
 use Rattle.questions.specs.Questions.{Answer, first_no, question12, question13, most_instruction_watchdog}
-use Rattle.questions.specs.Laws.Answers.{first_yes, first_append, in_range_watchdog}
+use Rattle.questions.proofs.Laws.Answers.{first_yes, first_append, in_range_watchdog}
 use Rattle.table.specs.TimerRecords.{number_timers}
 use Rattle.rungs.specs.Buffers.{needs}
 use Rattle.ladder_definitions.specs.Kept.{Kept}
 use Rattle.ladder_definitions.specs.Questions.{ladder_of}
 use Rattle.ladder_definitions.specs.LadderScan.{scan_questions}
-use Rattle.ladder_definitions.specs.Laws.Accepting.{scan_passed}
+use Rattle.ladder_definitions.proofs.Laws.Accepting.{scan_passed}
 use Rattle.translation_definitions.specs.Translate.{translate}
 use Rattle.translation_definitions.specs.TranslateKept.{list_buffers}
 use Rattle.translation_definitions.specs.BothScans.{Lent, copy_questions, both_questions, paired_watchdog}
-use Rattle.translation_definitions.specs.Laws.Boths.{paired_legal}
+use Rattle.translation_definitions.proofs.Laws.Boths.{paired_legal}
 use Rattle.both_parts.specs.Parts.{Lengths, copy_lengths, both_asked, asked_watchdog}
 use Rattle.both_scans.specs.Parts.{chosen_watchdog}
 use Rattle.both_parts.specs.declared.ListWatchdog.{ListWatchdog}

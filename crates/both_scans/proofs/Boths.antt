@@ -9,7 +9,7 @@ use lib.ListN.{length, take, drop, drop_of_length-le, length-replicate}
 use lib.Seq.{take_all, drop_at}
 use Rattle.questions.specs.Questions.{Refusal, Answer, first_no, question12, question13, most_rung_watchdog, most_instruction_watchdog}
 use Rattle.questions.specs.Refusals.{refusal_of, verdict_answer}
-use Rattle.questions.specs.Laws.Answers.{first_yes, later_yes, verdict_accepted, watchdog_in_range}
+use Rattle.questions.proofs.Laws.Answers.{first_yes, later_yes, verdict_accepted, watchdog_in_range}
 use Rattle.questions.specs.declared.Refusal.{Refusal as RefusalCase}
 use Rattle.questions.specs.declared.Verdict.{Verdict}
 use Rattle.questions.specs.declared.Verdict.TheVariants.{Accepted, Refused}
@@ -17,15 +17,15 @@ use Rattle.table.specs.Halt.{Halt, Ended, Stopped}
 use Rattle.table.specs.Timer.{Timer}
 use Rattle.table.specs.State.{State}
 use Rattle.table.specs.TimerRecords.{timer_numbers, whole, number_timers, numbers_after}
-use Rattle.table.specs.Laws.TimerRecords.{asked_whole}
+use Rattle.table.proofs.Laws.TimerRecords.{asked_whole}
 use Rattle.rungs.specs.Records.{RungRecord, none_entered, row_of, longest}
 use Rattle.rungs.specs.Buffers.{Buffers, buffers, as_buffers, needs, written, written_over, written_words, written_records}
 use Rattle.ladder_definitions.specs.Kept.{Kept}
 use Rattle.ladder_definitions.specs.Meaning.{scan_ladder}
 use Rattle.ladder_definitions.specs.Questions.{ladder_of, ladder_answer, most_rung_words}
 use Rattle.ladder_definitions.specs.LadderScan.{LadderCounts, counts_of as ladder_counts_of, LadderScanAnswer, call_ladder_scan, scanned as ladder_scanned, refused as ladder_refused, scan_ends as ladder_ends, counts_in as ladder_counts_in, ladder_scanned_answer, LadderScanNumbers}
-use Rattle.ladder_definitions.specs.Laws.Answers.{rungs_few as entered_few}
-use Rattle.ladder_definitions.specs.Laws.Accepting.{accepted, ScanPassed, scan_passed}
+use Rattle.ladder_definitions.proofs.Laws.Answers.{rungs_few as entered_few}
+use Rattle.ladder_definitions.proofs.Laws.Accepting.{accepted, ScanPassed, scan_passed}
 use Rattle.ladder_definitions.specs.declared.LadderScanned.{LadderScanned}
 use Rattle.ladder_definitions.specs.declared.LadderScanned.TheVariants.{Ended as LadderEnded, Stopped as LadderStopped, Refused as LadderRefused}
 use Rattle.list_definitions.specs.Instruction.{instr_word}
@@ -35,13 +35,13 @@ use Rattle.list_definitions.specs.declared.ListScanned.{ListScanned}
 use Rattle.list_definitions.specs.declared.ListScanned.TheVariants.{Ended as ListEnded, Stopped as ListStopped, Refused as ListRefused}
 use Rattle.translation_definitions.specs.Translate.{translate, code_bound}
 use Rattle.translation_definitions.specs.TranslateKept.{translated, refused as translate_refused, translate_kept, counts_of, counts_in, list_buffers, TranslateDone, translated_answer}
-use Rattle.translation_definitions.specs.Laws.Answers.{not_both, call_refused, call_written, refused_same, all_yes, counts_are, written_room}
-use Rattle.translation_definitions.specs.Laws.Calls.{ladder_call_lem, list_call_lem, list_times, words_out, records_out}
-use Rattle.translation_definitions.specs.Laws.Legal.{watchdog_in_range as most_in_range}
-use Rattle.translation_definitions.specs.Laws.Boths.{copy_long, both_ends, both_left, both_refused_lem, both_scanned, paired_legal}
+use Rattle.translation_definitions.proofs.Laws.Answers.{not_both, call_refused, call_written, refused_same, all_yes, counts_are, written_room}
+use Rattle.translation_definitions.proofs.Laws.Calls.{ladder_call_lem, list_call_lem, list_times, words_out, records_out}
+use Rattle.translation_definitions.proofs.Laws.Legal.{watchdog_in_range as most_in_range}
+use Rattle.translation_definitions.proofs.Laws.Boths.{copy_long, both_ends, both_left, both_refused_lem, both_scanned, paired_legal}
 use Rattle.translation_definitions.specs.BothScans.{Lent, lends, scanned_buffers, both_questions, begun, both_scans, paired_scans, halt_of, paired_watchdog, ends_in, both_scanned_answer, BothScansDone}
 use Rattle.translation_definitions.specs.BothAgree.{BothPromise, PairedPromise}
-use Rattle.translation_definitions.specs.Theorems.{both_agree, paired_agree}
+use Rattle.translation_definitions.proofs.Theorems.{both_agree, paired_agree}
 use Rattle.translation_definitions.specs.declared.Counts.{Counts as CountsStruct}
 use Rattle.translation_definitions.specs.declared.BothEnds.{BothEnds as EndsStruct}
 use Rattle.translation_definitions.specs.declared.Translated.{Translated}

@@ -9,20 +9,20 @@ use lib.ListN.{length}
 use Rattle.questions.specs.Questions.{Answer, ask, ask_each, first_no, vars_in_range, question1, question12, most_rung_watchdog}
 use Rattle.questions.specs.Tests.{first_failed}
 use Rattle.questions.specs.Refusals.{refusal_of, verdict_answer}
-use Rattle.questions.specs.Laws.Answers.{first_yes, first_append}
+use Rattle.questions.proofs.Laws.Answers.{first_yes, first_append}
 use Rattle.questions.specs.declared.Refusal.{Refusal as RefusalCase}
 use Rattle.questions.specs.declared.Refusal.TheVariants.{Variables, Kept as KeptCase, Sizes, Variable, Label, Jump, Scratch, Table, Watchdog, Timers, TimerNumber}
 use Rattle.questions.specs.declared.Verdict.TheVariants.{Accepted, Refused}
 use Rattle.table.specs.Questions.{table_in_range, question11, timers_in_range, question16}
 use Rattle.table.specs.TimerRecords.{number_timers}
-use Rattle.rungs.specs.Laws.Rows.{row_lengths}
-use Rattle.rungs.specs.Laws.Layout.{lay_lengths}
+use Rattle.rungs.proofs.Laws.Rows.{row_lengths}
+use Rattle.rungs.proofs.Laws.Layout.{lay_lengths}
 use Rattle.ladder_definitions.specs.Tree.{Ladder, labels}
 use Rattle.ladder_definitions.specs.Kept.{Kept, kept_of, rung_words, encode, decode}
 use Rattle.ladder_definitions.specs.Questions.{ladder_of, holds_ladder, question4, sizes_in_range, question5, rung_below, question6, new_labels, question7, rung_leads, question8, scratch_in_range, question9, timers_known, question17, form_questions, ladder_questions, ladder_answer}
-use Rattle.ladder_definitions.specs.Laws.Accepting.{encode_decode, holds}
+use Rattle.ladder_definitions.proofs.Laws.Accepting.{encode_decode, holds}
 use Rattle.ladder_definitions.specs.Held.{LadderHeld}
-use Rattle.ladder_definitions.specs.Laws.Held.{rows, even, held}
+use Rattle.ladder_definitions.proofs.Laws.Held.{rows, even, held}
 use Rattle.ladder_definitions.specs.LadderScan.{scan_questions}
 use Rattle.ladder_names.specs.Asking.{LadderIn, place_of, SizesAsked, VariablesAsked, LabelsAsked, JumpsAsked, TimersAsked}
 use Rattle.ladder_scratch.specs.Measuring.{ScratchAsked}

@@ -9,8 +9,8 @@ use lib.ListN.{length, take, length-append}
 use lib.Seq.{length-take-le, take-append_seam}
 use Rattle.questions.specs.Questions.{Answer, ask, first_no, vars_in_range, question1}
 use Rattle.questions.specs.Refusals.{refusal_of}
-use Rattle.questions.specs.Laws.Answers.{ask_passed}
-use Rattle.questions.specs.Laws.Tests.{T→true}
+use Rattle.questions.proofs.Laws.Answers.{ask_passed}
+use Rattle.questions.proofs.Laws.Tests.{T→true}
 use Rattle.questions.specs.declared.Refusal.{Refusal as RefusalCase}
 use Rattle.questions.specs.declared.Refusal.TheVariants.{Variables, Timers}
 use Rattle.table.specs.Timer.{Timer}
@@ -18,22 +18,22 @@ use Rattle.table.specs.State.{State, state_of, write, write_if}
 use Rattle.table.specs.Questions.{timers_in_range, question16, timer_variables}
 use Rattle.table.specs.TimerRecords.{Columns, columns, one_length, too_many, column_timers, timer_columns, columns_after, timers_in, timer_numbers, whole, number_timers, numbers_after}
 use Rattle.timers.specs.Parts.{can_pack, Packed, Unpackable, Unpacked}
-use Rattle.table.specs.Laws.TimerRecords.{numbers_back, whole_timers}
-use Rattle.timers.specs.Laws.Numbers.{numbers_whole, numbers_length, whole_back, same_whole, whole_length, numbers_after_lem, numbers_left}
-use Rattle.timers.specs.Laws.Columns.{one_length_lem, joined_length, column_timers_lem, columns_back, timers_back, columns_after_lem, too_many_lem, can_pack_lem, cannot_pack}
-use Rattle.timers.specs.Laws.Kept.{RecordsKept, kept_self, kept_both, kept_count, timer_kept, presets, columns_left}
-use Rattle.rungs.specs.Laws.Rows.{row_labels, row_offsets}
+use Rattle.table.proofs.Laws.TimerRecords.{numbers_back, whole_timers}
+use Rattle.timers.proofs.Laws.Numbers.{numbers_whole, numbers_length, whole_back, same_whole, whole_length, numbers_after_lem, numbers_left}
+use Rattle.timers.proofs.Laws.Columns.{one_length_lem, joined_length, column_timers_lem, columns_back, timers_back, columns_after_lem, too_many_lem, can_pack_lem, cannot_pack}
+use Rattle.timers.proofs.Laws.Kept.{RecordsKept, kept_self, kept_both, kept_count, timer_kept, presets, columns_left}
+use Rattle.rungs.proofs.Laws.Rows.{row_labels, row_offsets}
 use Rattle.ladder_definitions.specs.Tree.{contact, contactn, Front, input, front_and, front_or, Output, coil, coiln, jump, jumpn, set_coil, reset_coil, timer, Rear, output, rear_and, rear_or, Rung, Ladder}
 use Rattle.ladder_definitions.specs.Meaning.{work_input, work_front, Run, onward, jumped, left, jump_if, unless_jumped, run_output, run_rear, run_rung, follow, scan_from, scan_ladder}
 use Rattle.ladder_definitions.specs.Kept.{Kept, kept_of}
 use Rattle.ladder_definitions.specs.Questions.{ladder_of}
 use Rattle.ladder_definitions.specs.LadderScan.{LadderScanCall, scan_ends, scan_questions, call_ladder_scan, LadderScanDone, LadderScanNumbers, LadderScanColumns}
-use Rattle.ladder_definitions.specs.Laws.Held.{three_fields, even}
-use Rattle.ladder_definitions.specs.Laws.Accepting.{scan_passed}
+use Rattle.ladder_definitions.proofs.Laws.Held.{three_fields, even}
+use Rattle.ladder_definitions.proofs.Laws.Accepting.{scan_passed}
 use Rattle.ladder_definitions.specs.declared.LadderScanned.{LadderScanned}
 use Rattle.ladder_definitions.specs.declared.LadderScanned.TheVariants.{Refused as RefusedCase}
 use Rattle.ladder_scanning.specs.Scanned.{Scanned}
-use Rattle.ladder_scanning.specs.Laws.Scans.{scan_taken, scan_refuses, scan_scans}
+use Rattle.ladder_scanning.proofs.Laws.Scans.{scan_taken, scan_refuses, scan_scans}
 
 -- the promises of the scans over numbers and over five slices
 abbrev ScansNumbers : ℕ → Kept → List ℕ → List ℕ → ℕ → ℕ → LadderScanned → List ℕ → List ℕ → Type 0

@@ -8,9 +8,6 @@ pub mod Standing
 pub mod Kept
 pub mod Questions
 pub mod Bench
-pub mod Examples
-pub mod Theorems
 pub mod Held
 pub mod LadderScan
 pub mod Roots
-pub mod Laws

@@ -11,12 +11,12 @@ use lib.Seq.{slice, slice_empty, slice-cons}
 use borrow.Author.Tests.{eq-eqb, ne_eqb, le-leb, lt-leb}
 use Rattle.rungs.specs.Words.{number_of, operand_of}
 use Rattle.rungs.specs.Records.{RungRecord, fields_of, row_of}
-use Rattle.rungs.specs.Laws.Rows.{Even, row_length, row_at, row_uneven_first, row_uneven_second, row_fields, row_uneven}
+use Rattle.rungs.proofs.Laws.Rows.{Even, row_length, row_at, row_uneven_first, row_uneven_second, row_fields, row_uneven}
 use Rattle.ladder_definitions.specs.Kept.{KindSort, contact_sort, joined_sort, output_sort, rear_and_sort, rear_or_sort, no_sort, kind_sort, decode_from, decode}
 use Rattle.ladder_definitions.specs.Questions.{ladder_of, holds_ladder}
 use Rattle.ladder_kept.specs.Pending.{misplaced, pending, take_front, split_front, take_rear, front_rear, split_rear, pending_after, completes, pending_in, WordTaken, holds_from}
-use Rattle.ladder_definitions.specs.Laws.Trees.{starts_front, starts_rear}
-use Rattle.ladder_kept.specs.Laws.Pending.{holds_counted, holds_next, holds_last}
+use Rattle.ladder_definitions.proofs.Laws.Trees.{starts_front, starts_rear}
+use Rattle.ladder_kept.proofs.Laws.Pending.{holds_counted, holds_next, holds_last}
 use Rattle.ladder_kept.specs.declared.PendingParts.{PendingParts}
 
 -- ---- a word, by the sort of its kind

@@ -11,7 +11,7 @@ use Rattle.ladder_kinds.specs.Kinds.{sort_in}
 use Rattle.ladder_kinds.specs.declared.KindSort.{KindSort as KindSortCase}
 use Rattle.ladder_kinds.specs.declared.KindSort.TheVariants.{Contact, Joined, Output, RearAnd, RearOr, NoKind}
 use Rattle.ladder_kinds.specs.contracts.KindSort.{the_type}
-use Rattle.ladder_definitions.specs.Laws.Trees.{starts_front, starts_rear}
+use Rattle.ladder_definitions.proofs.Laws.Trees.{starts_front, starts_rear}
 
 -- the cases at these places of the enum
 abbrev Among : List ℕ → KindSortCase → Type 0

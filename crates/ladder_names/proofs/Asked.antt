@@ -10,15 +10,15 @@ use lib.Seq.{take-append_seam, drop-append_seam}
 use mir.Facts.{and_yes}
 use borrow.Author.Tests.{lt-leb}
 use Rattle.questions.specs.Tests.{all, first_failed}
-use Rattle.questions.specs.Laws.Tests.{T→true, all_head, all_tail, all_get_d, all_weaker, all_ends, failed_none}
+use Rattle.questions.proofs.Laws.Tests.{T→true, all_head, all_tail, all_get_d, all_weaker, all_ends, failed_none}
 use Rattle.rungs.specs.Words.{operands, word, number_of, operand_of}
 use Rattle.rungs.specs.Records.{search, present}
-use Rattle.rungs.specs.Laws.Search.{search_before, search_past}
+use Rattle.rungs.proofs.Laws.Search.{search_before, search_past}
 use Rattle.ladder_definitions.specs.Tree.{Input, contact, contactn, Front, input, front_and, front_or, Output, coil, coiln, jump, jumpn, set_coil, reset_coil, timer, Rear, output, rear_and, rear_or, Rung, Ladder, input_variable, output_names, number, front_all, rear_all, rung_all}
 use Rattle.ladder_definitions.specs.Kept.{input_kind, output_kind, no_name, name_sorts, name_sort, input_word, output_word, front_words, rear_words, rung_words, encode, input_fits, output_fits}
 use Rattle.ladder_definitions.specs.Questions.{most_rungs, most_words, sizes_in_range, input_below, named_below, output_below, new_labels, named_leads, output_leads, named_timed, output_timed, timers_known}
 use Rattle.ladder_kinds.specs.Kinds.{names_variable, names_label, names_timer}
-use Rattle.ladder_kinds.specs.Laws.Sorts.{timer_tests}
+use Rattle.ladder_kinds.proofs.Laws.Sorts.{timer_tests}
 use Rattle.ladder_names.specs.Asking.{LadderIn, place_of, RungEnd, length_in_range, operand_below, operand_leads, operand_timed, word_below, word_stays, word_leads, word_timed, SizesAsked, RiseAsked, LabelsAsked, TimersAsked}
 use Rattle.ladder_definitions.specs.Roots.{front_kind, rear_kind}
 use Rattle.ladder_names.specs.declared.Found.{Found}

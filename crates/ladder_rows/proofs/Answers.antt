@@ -6,23 +6,23 @@ use mathlib.Core.Path.{◌≡◌, refl, sym, ap, ◌∙◌}
 use mathlib.Core.Bool.{Bool}
 use mathlib.Core.List.{List}
 use lib.ListN.{length, take}
-use Rattle.table.specs.Laws.TimerRecords.{whole_timers}
+use Rattle.table.proofs.Laws.TimerRecords.{whole_timers}
 use Rattle.questions.specs.Questions.{Answer}
 use Rattle.questions.specs.Refusals.{verdict_answer}
-use Rattle.questions.specs.Laws.Answers.{verdict_refused, verdict_accepted}
+use Rattle.questions.proofs.Laws.Answers.{verdict_refused, verdict_accepted}
 use Rattle.questions.specs.declared.Refusal.{Refusal}
 use Rattle.questions.specs.declared.Verdict.{Verdict}
 use Rattle.questions.specs.declared.Verdict.TheVariants.{Accepted, Refused}
 use Rattle.table.specs.State.{state_of}
 use Rattle.table.specs.TimerRecords.{timers_in, number_timers}
 use Rattle.rungs.specs.Records.{RungRecord, row_of, fields_of, most_records}
-use Rattle.rungs.specs.Laws.Rows.{row_fields}
+use Rattle.rungs.proofs.Laws.Rows.{row_fields}
 use Rattle.rows.specs.Parts.{gathered}
-use Rattle.rows.specs.Laws.Gathered.{gathered_whole}
+use Rattle.rows.proofs.Laws.Gathered.{gathered_whole}
 use Rattle.rows.specs.declared.Rows.{Rows}
 use Rattle.ladder_definitions.specs.Kept.{Kept}
 use Rattle.ladder_definitions.specs.LadderScan.{scan_questions, call_ladder_scan, LadderScanNumbers}
-use Rattle.ladder_scanning.specs.Laws.Scans.{scan_fits, scan_scans}
+use Rattle.ladder_scanning.proofs.Laws.Scans.{scan_fits, scan_scans}
 use Rattle.ladder.proofs.Scans.{passed_whole, numbers_refused, numbers_scanned}
 use Rattle.ladder_definitions.specs.declared.LadderScanned.{LadderScanned}
 use Rattle.ladder_rows.specs.Parts.{long_holds, LongScanRefused, RowAsked, RowReady, RowScanned}

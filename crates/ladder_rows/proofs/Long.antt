@@ -13,7 +13,7 @@ use lib.Seq.{slice, drop-cons}
 use borrow.Author.Tests.{eq-eqb, ne_eqb, lt-ltb, le-ltb, le-leb, lt-leb}
 use Rattle.questions.specs.Questions.{Refusal, Answer, ask, first_no, vars_in_range, question1}
 use Rattle.questions.specs.Refusals.{refusal_of}
-use Rattle.questions.specs.Laws.Answers.{first_append}
+use Rattle.questions.proofs.Laws.Answers.{first_append}
 use Rattle.questions.specs.declared.Refusal.{Refusal as RefusalCase}
 use Rattle.questions.specs.declared.Refusal.TheVariants.{Variables, Kept as KeptCase, Sizes, Timers}
 use Rattle.table.specs.Questions.{timers_in_range, question16}
@@ -24,9 +24,9 @@ use Rattle.ladder_definitions.specs.Tree.{Ladder}
 use Rattle.ladder_definitions.specs.Questions.{ladder_of, holds_ladder, question4, sizes_in_range, question5, form_questions, ladder_questions, ladder_answer}
 use Rattle.ladder_definitions.specs.LadderScan.{scan_questions}
 use Rattle.ladder_kept.specs.Pending.{completes, holds_from}
-use Rattle.ladder_definitions.specs.Laws.Accepting.{holds}
-use Rattle.ladder_definitions.specs.Laws.Held.{kept_many}
-use Rattle.ladder_kept.specs.Laws.Pending.{holds_counted, holds_next, holds_last}
+use Rattle.ladder_definitions.proofs.Laws.Accepting.{holds}
+use Rattle.ladder_definitions.proofs.Laws.Held.{kept_many}
+use Rattle.ladder_kept.proofs.Laws.Pending.{holds_counted, holds_next, holds_last}
 use Rattle.ladder_rows.specs.Parts.{long_holds, asked_to, laid_first, laid_next, laid_whole, LongRefused, LongScanRefused}
 use Rattle.ladder_rows.specs.declared.Laid.{Laid}
 

@@ -14,11 +14,11 @@ use Rattle.table.specs.State.{State}
 use Rattle.table.specs.TimerRecords.{timers_in}
 use Rattle.rungs.specs.Records.{RungRecord, labels, offsets, search, look_up}
 use Rattle.rungs.specs.Parts.{place_of}
-use Rattle.rungs.specs.Laws.Search.{place_of_lem}
+use Rattle.rungs.proofs.Laws.Search.{place_of_lem}
 use Rattle.rows.specs.Rows.{no_record, record_at}
 use Rattle.ladder_walk.specs.Walking.{RungRun}
 use Rattle.ladder_scanning.specs.Scanned.{Scanned}
-use Rattle.ladder_scanning.specs.Laws.Scanning.{Scanning, scanning_first, scan_ended, scan_stopped, scan_onward, scan_jumped}
+use Rattle.ladder_scanning.proofs.Laws.Scanning.{Scanning, scanning_first, scan_ended, scan_stopped, scan_onward, scan_jumped}
 use Rattle.ladder_definitions.specs.declared.LadderScanned.TheVariants.{Ended as EndedCase, Stopped as StoppedCase, Refused as RefusedScan}
 use Rattle.ladder_walk.specs.declared.Ran.{Ran}
 use Rattle.ladder_walk.specs.declared.Ran.TheVariants.{Onward, Jumped}

@@ -15,7 +15,7 @@ use Rattle.ladder_definitions.specs.Kept.{rung_words}
 use Rattle.ladder_definitions.specs.Questions.{rung_scratch, scratch_in_range}
 use Rattle.ladder_definitions.specs.Held.{LadderHeld}
 use Rattle.ladder_scratch.specs.Measuring.{FewAsked, ScratchAsked}
-use Rattle.ladder_definitions.specs.Laws.Held.{Apart, apart, as_many, rung_at_lem}
+use Rattle.ladder_definitions.proofs.Laws.Held.{Apart, apart, as_many, rung_at_lem}
 use Rattle.ladder_names.proofs.Asked.{get_d_map}
 
 abbrev few : Rung → Bool

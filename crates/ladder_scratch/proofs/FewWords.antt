@@ -9,7 +9,7 @@ use lib.ListN.{length, length-append}
 use borrow.Author.Tests.{le-leb}
 use Rattle.table.specs.State.{scratch_bytes}
 use Rattle.ladder_definitions.specs.Tree.{Front, input, front_and, front_or, Rear, output, rear_and, rear_or, Rung}
-use Rattle.ladder_definitions.specs.Laws.Scratch.{join_few}
+use Rattle.ladder_definitions.proofs.Laws.Scratch.{join_few}
 use Rattle.ladder_definitions.specs.Kept.{front_words, rear_words, rung_words}
 use Rattle.ladder_definitions.specs.Questions.{front_scratch, rear_scratch, rung_scratch}
 use Rattle.ladder_scratch.specs.Measuring.{RungMeasured, FewAsked}

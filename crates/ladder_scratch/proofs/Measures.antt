@@ -12,7 +12,7 @@ use Rattle.ladder_definitions.specs.Questions.{join_scratch, front_scratch, rear
 use Rattle.ladder_definitions.specs.Held.{FrontAt}
 use Rattle.ladder_scratch.specs.Measuring.{JoinMeasured, TakenDone, FrontMeasured, RearMeasured, RungMeasured}
 use Rattle.ladder_scratch.specs.declared.Taken.{Taken}
-use Rattle.ladder_definitions.specs.Laws.Trees.{starts_front, starts_rear, input_only, parts_only, no_front_lem, output_only, rear_and_only, rear_or_only, no_rear_lem, rung_only}
+use Rattle.ladder_definitions.proofs.Laws.Trees.{starts_front, starts_rear, input_only, parts_only, no_front_lem, output_only, rear_and_only, rear_or_only, no_rear_lem, rung_only}
 
 abbrev FrontTaken : ℕ → Taken → Front → Type 0
 FrontTaken at r f = TakenDone at (length (front_words f)) (front_scratch f) r

@@ -11,7 +11,7 @@ use Rattle.rungs.specs.Words.{number_of}
 use Rattle.ladder_definitions.specs.Kept.{joined_sort, kind_sorts, kind_sort}
 use Rattle.ladder_walk.specs.Walking.{FrontWorked, Root, ContactWorked, RootsPassed, PartsJoined}
 use Rattle.ladder_walk.specs.declared.Worked.{Worked}
-use Rattle.ladder_definitions.specs.Laws.Trees.{inside_sort}
+use Rattle.ladder_definitions.proofs.Laws.Trees.{inside_sort}
 use Rattle.ladder_walk.proofs.Walks.{worked_joined}
 
 -- ---- the way to the first contact

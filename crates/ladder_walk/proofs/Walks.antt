@@ -6,8 +6,8 @@ use mathlib.Core.Bool.{Bool, true, false, not, ◌&&◌}
 use mathlib.Core.List.{List}
 use lib.ListN.{length, length-append, get_or}
 use Rattle.table.specs.State.{State, with_bytes, value_at, value, write, write_if, run_timer}
-use Rattle.table.specs.Laws.Moved.{write_few, write_if_few}
-use Rattle.timers.specs.Laws.Kept.{timer_few}
+use Rattle.table.proofs.Laws.Moved.{write_few, write_if_few}
+use Rattle.timers.proofs.Laws.Kept.{timer_few}
 use Rattle.rungs.specs.Words.{number_of, operand_of}
 use Rattle.ladder_definitions.specs.Tree.{Input, contact, contactn, input, Output, coil, coiln, jump, jumpn, set_coil, reset_coil, timer, Rear, input_variable, output_names, number}
 use Rattle.ladder_definitions.specs.Meaning.{work_input, work_front, onward, jumped, jump_if, run_output, unless_jumped, run_rear, run_rung}
@@ -16,7 +16,7 @@ use Rattle.ladder_walk.specs.Walking.{FrontDone, FrontWorked, Root, PartsJoined,
 use Rattle.ladder_walk.specs.declared.Worked.{Worked}
 use Rattle.ladder_walk.specs.declared.Ran.{Ran}
 use Rattle.ladder_walk.specs.declared.Ran.TheVariants.{Onward, Jumped}
-use Rattle.ladder_definitions.specs.Laws.Trees.{same_output, starts_rear, front_cases, inside_sort, that_input, parts_only, output_only, rear_and_only, rear_or_only, no_rear_lem, rung_only}
+use Rattle.ladder_definitions.proofs.Laws.Trees.{same_output, starts_rear, front_cases, inside_sort, that_input, parts_only, output_only, rear_and_only, rear_or_only, no_rear_lem, rung_only}
 
 module _ (ws : List ℕ) (at w : ℕ) (t : List ℕ) (e : w ≡ get_or ws at 0) where
   pub worked_contact : number_of w ≡ input_kind (contact (operand_of w)) → (b : Bool) → b ≡ value_at t (operand_of w) → FrontWorked ws at t (record { value = b; next = at + 1 }) t

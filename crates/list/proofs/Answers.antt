@@ -21,24 +21,24 @@ use Rattle.questions.specs.declared.Verdict.TheVariants.{Accepted, Refused}
 use Rattle.table.specs.State.{state_of}
 use Rattle.table.specs.Questions.{table_in_range, question11, timers_in_range, question16}
 use Rattle.table.specs.TimerRecords.{too_many, timers_in, whole, number_timers, numbers_after}
-use Rattle.timers.specs.Laws.Columns.{too_many_lem}
-use Rattle.table.specs.Laws.TimerRecords.{whole_timers}
-use Rattle.timers.specs.Laws.Numbers.{whole_back, same_whole, whole_length, numbers_after_lem, numbers_left}
+use Rattle.timers.proofs.Laws.Columns.{too_many_lem}
+use Rattle.table.proofs.Laws.TimerRecords.{whole_timers}
+use Rattle.timers.proofs.Laws.Numbers.{whole_back, same_whole, whole_length, numbers_after_lem, numbers_left}
 use Rattle.rungs.specs.Records.{RungRecord, fields_of, row_of}
-use Rattle.rungs.specs.Laws.Rows.{Even, row_even, row_offsets, row_fields, row_uneven, row_times}
-use Rattle.questions.specs.Laws.Answers.{ask_passed, first_yes, later_yes}
-use Rattle.questions.specs.Laws.Tests.{T→true}
+use Rattle.rungs.proofs.Laws.Rows.{Even, row_even, row_offsets, row_fields, row_uneven, row_times}
+use Rattle.questions.proofs.Laws.Answers.{ask_passed, first_yes, later_yes}
+use Rattle.questions.proofs.Laws.Tests.{T→true}
 use Rattle.list_definitions.specs.Instruction.{code_of}
 use Rattle.list_definitions.specs.Names.{most_op, name_bytes, names_in, is_name, is_name_table, question14}
 use Rattle.list_definitions.specs.Listing.{listing_text, listing, listed_answer, ListingDone}
 use Rattle.list_definitions.specs.declared.Listed.TheVariants.{Written, Refused as RefusedListing}
 use Rattle.printing.specs.Put.{Put}
 use Rattle.list_machine.specs.Parts.{Ran}
-use Rattle.list_machine.specs.Laws.Scans.{scan_in_range, scan_scans}
+use Rattle.list_machine.proofs.Laws.Scans.{scan_in_range, scan_scans}
 use Rattle.list_questions.specs.Parts.{TimersAsked}
-use Rattle.list_definitions.specs.Laws.Answers.{scan_passed}
-use Rattle.list_definitions.specs.Laws.InRange.{list_in_range_lem}
-use Rattle.list_definitions.specs.Laws.Refusing.{first_accepted, names_accepted, scan_refuses}
+use Rattle.list_definitions.proofs.Laws.Answers.{scan_passed}
+use Rattle.list_definitions.proofs.Laws.InRange.{list_in_range_lem}
+use Rattle.list_definitions.proofs.Laws.Refusing.{first_accepted, names_accepted, scan_refuses}
 use Rattle.list_definitions.specs.Questions.{most_instructions, list_in_range, question10, timers_known, question17, list_answer}
 use Rattle.list_definitions.specs.ListScan.{list_of, scan_questions, call_list_scan, ListScanDone, ListScanNumbers}
 use Rattle.list_definitions.specs.declared.ListScanned.{ListScanned}

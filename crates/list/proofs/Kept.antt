@@ -8,12 +8,12 @@ use lib.ListN.{get_elem?}
 use Rattle.questions.specs.Questions.{Answer}
 use Rattle.table.specs.Timer.{Timer}
 use Rattle.table.specs.State.{State, state_of, write, write_if}
-use Rattle.timers.specs.Laws.Kept.{RecordsKept, kept_self, kept_both, timer_kept}
+use Rattle.timers.proofs.Laws.Kept.{RecordsKept, kept_self, kept_both, timer_kept}
 use Rattle.rungs.specs.Records.{RungRecord}
 use Rattle.list_definitions.specs.Instruction.{Instr, LD, LDN, ST, STN, AND, ANDN, OR, ORN, XOR, XORN, NOT, JMP, JMPC, JMPCN, S, R, TON}
 use Rattle.list_definitions.specs.Machine.{InstructionList, Machine, does, step, begin, halted, scan_machine, scan_list}
 use Rattle.list_definitions.specs.ListScan.{list_of, scan_ends, scan_questions, call_list_scan}
-use Rattle.list_definitions.specs.Laws.Watchdog.{scan_end, scan_stop, scan_step}
+use Rattle.list_definitions.proofs.Laws.Watchdog.{scan_end, scan_stop, scan_step}
 
 does_kept : (i : Instr) (v : Bool) (s : State) (pc : ℕ) → RecordsKept s.timers (does i v s pc).state.timers
 unfolding does write write_if

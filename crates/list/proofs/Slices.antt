@@ -14,13 +14,13 @@ use Rattle.questions.specs.declared.Refusal.TheVariants.{Variables, Timers}
 use Rattle.table.specs.Questions.{question16}
 use Rattle.table.specs.TimerRecords.{Columns, columns, one_length, column_timers, timer_columns, columns_after, timer_numbers, timers_in, number_timers}
 use Rattle.timers.specs.Parts.{can_pack, Packable, Packed, Unpackable, Unpacked}
-use Rattle.table.specs.Laws.TimerRecords.{numbers_back, whole_timers}
-use Rattle.timers.specs.Laws.Numbers.{numbers_whole, five_whole}
-use Rattle.timers.specs.Laws.Columns.{one_length_lem, columns_back, timers_back, columns_after_lem, can_pack_lem, cannot_pack}
-use Rattle.timers.specs.Laws.Kept.{RecordsKept, columns_left}
+use Rattle.table.proofs.Laws.TimerRecords.{numbers_back, whole_timers}
+use Rattle.timers.proofs.Laws.Numbers.{numbers_whole, five_whole}
+use Rattle.timers.proofs.Laws.Columns.{one_length_lem, columns_back, timers_back, columns_after_lem, can_pack_lem, cannot_pack}
+use Rattle.timers.proofs.Laws.Kept.{RecordsKept, columns_left}
 use Rattle.rungs.specs.Records.{RungRecord}
 use Rattle.list_definitions.specs.ListScan.{ListScanCall, scan_questions, call_list_scan, ListScanDone, ListScanNumbers, ListScanColumns}
-use Rattle.list_definitions.specs.Laws.Refusing.{scan_refuses}
+use Rattle.list_definitions.proofs.Laws.Refusing.{scan_refuses}
 use Rattle.list_definitions.specs.declared.ListScanned.{ListScanned}
 use Rattle.list_definitions.specs.declared.ListScanned.TheVariants.{Refused as RefusedScan}
 use Rattle.list.proofs.Kept.{call_kept_lem}

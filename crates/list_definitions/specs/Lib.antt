@@ -1,6 +1,5 @@
 -- Lists. Definitions: Instruction, Machine, Writes, Questions, Names, and the calls List scan and Listing: ListScan, Listing. Worked lists: Examples. What is
 -- proved of the definitions: Theorems, with Standing. Laws, which no contract cites: Laws.
-pub mod Examples
 pub mod Instruction
 pub mod ListScan
 pub mod Listing
@@ -8,6 +7,4 @@ pub mod Machine
 pub mod Names
 pub mod Questions
 pub mod Standing
-pub mod Theorems
 pub mod Writes
-pub mod Laws

@@ -7,15 +7,15 @@ use mathlib.Core.Bool.{Bool, not}
 use mathlib.Core.Option.{some}
 use mathlib.Core.List.{List}
 use lib.ListN.{length, get_or, get_or-eq_default}
-use Rattle.questions.specs.Laws.Tests.{none_some}
+use Rattle.questions.proofs.Laws.Tests.{none_some}
 use Rattle.table.specs.Timer.{Timer}
 use Rattle.table.specs.State.{State, state_with, run_timer}
 use Rattle.table.specs.TimerRecords.{timers_in}
 use Rattle.table.specs.Parts.{TableChanged}
 use Rattle.timers.specs.Parts.{StateChanged}
-use Rattle.timers.specs.Laws.Kept.{timer_few}
+use Rattle.timers.proofs.Laws.Kept.{timer_few}
 use Rattle.rungs.specs.Words.{number_of, operand_of}
-use Rattle.rungs.specs.Laws.Numbers.{none_to, past_all}
+use Rattle.rungs.proofs.Laws.Numbers.{none_to, past_all}
 use Rattle.list_definitions.specs.Instruction.{Instr, NOT, no_op, only_not, ops, decode_instr}
 use Rattle.list_definitions.specs.Machine.{does}
 use Rattle.list_instructions.specs.Parts.{Did}

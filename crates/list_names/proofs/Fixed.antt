@@ -10,11 +10,11 @@ use lib.ListN.{length, get_or, drop, drop_of_length-le}
 use lib.Seq.{drop-cons, sets-eq}
 use Rattle.questions.specs.Bytes.{bytes}
 use Rattle.questions.specs.Tests.{all}
-use Rattle.questions.specs.Laws.Tests.{all_get_d}
+use Rattle.questions.proofs.Laws.Tests.{all_get_d}
 use Rattle.list_definitions.specs.Names.{fixed_names, most_op, name_bytes, fixed_table}
-use Rattle.list_definitions.specs.Laws.Names.{fixed_names_lem, fixed_accepted}
+use Rattle.list_definitions.proofs.Laws.Names.{fixed_names_lem, fixed_accepted}
 use Rattle.printing.specs.Put.{Put}
-use Rattle.printing.specs.Laws.Puts.{Left, all_left, left_none, left_more}
+use Rattle.printing.proofs.Laws.Puts.{Left, all_left, left_none, left_more}
 use Rattle.list_names.specs.Parts.{FixedNamesPut}
 
 -- each fixed name has six bytes

@@ -1,3 +1,2 @@
 -- The sort of an op's operand in code: Sorts. What it is stands in list_definitions, Instruction. Laws, which no contract cites: Laws.
 pub mod Sorts
-pub mod Laws

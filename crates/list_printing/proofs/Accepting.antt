@@ -8,11 +8,11 @@ use lib.Dec.{T, ltb}
 use lib.ListN.{length, get_or}
 use Rattle.questions.specs.Tests.{all}
 use Rattle.rungs.specs.Records.{laid, fields_of, most_records}
-use Rattle.rungs.specs.Laws.Rows.{Even, row_even, row_length}
+use Rattle.rungs.proofs.Laws.Rows.{Even, row_even, row_length}
 use Rattle.list_definitions.specs.Instruction.{decode_code, code_of}
 use Rattle.list_definitions.specs.Questions.{most_instructions, list_in_range}
-use Rattle.list_definitions.specs.Laws.Words.{instr_of, Decodes}
-use Rattle.list_definitions.specs.Laws.InRange.{list_in_range_lem}
+use Rattle.list_definitions.proofs.Laws.Words.{instr_of, Decodes}
+use Rattle.list_definitions.proofs.Laws.InRange.{list_in_range_lem}
 
 pub record ListAccepted (vars : ℕ) (ws ls os ns : List ℕ) : Type 0 where
   pub code_most : length ws ≤ most_instructions

@@ -11,23 +11,23 @@ use borrow.Author.Tests.{eq-eqb, ne_eqb, lt-ltb, le-ltb, ltb-true, ltb-false}
 use lib.Dec.{T, ltb}
 use lib.ListN.{length, get_or, take, drop, length-append, drop_of_length-le}
 use lib.Seq.{get_or-take, get_or-drop, slice, slice_empty, slice-cons, length-slice, take-nil}
-use Rattle.questions.specs.Laws.Maps.{take_map, drop_map, flat_map_append}
+use Rattle.questions.proofs.Laws.Maps.{take_map, drop_map, flat_map_append}
 use Rattle.questions.specs.Bytes.{byte, decimal}
 use Rattle.rungs.specs.Words.{operands, number_of, operand_of}
 use Rattle.rungs.specs.Records.{RungRecord, laid, fields_of}
 use Rattle.list_definitions.specs.Instruction.{Instr, LD, LDN, ST, STN, AND, ANDN, OR, ORN, XOR, XORN, NOT, JMP, JMPC, JMPCN, S, R, TON, operand, instr_fits, op_of, operand_number, instr_word, only_not, ops, decode_instr, code_of, OperandSort, table_sort, nothing_sort, instruction_sort, timer_sort, no_sort, sort_of, operand_sort}
-use Rattle.list_definitions.specs.Laws.Decoding.{number_small, instr_decoded}
+use Rattle.list_definitions.proofs.Laws.Decoding.{number_small, instr_decoded}
 use Rattle.list_definitions.specs.Questions.{list_in_range}
 use Rattle.list_definitions.specs.ListScan.{list_of}
 use Rattle.list_definitions.specs.Names.{Names, trimmed, name_of, most_op, names_in}
-use Rattle.list_definitions.specs.Laws.Names.{trimmed_long, name_at_lem, name_short, op_in_table}
+use Rattle.list_definitions.proofs.Laws.Names.{trimmed_long, name_at_lem, name_short, op_in_table}
 use Rattle.list_definitions.specs.Listing.{operand_text, instr_line, label_line, rung_lines, listing_lines, ended, listing_text}
-use Rattle.rungs.specs.Laws.Rows.{row_length, row_at}
-use Rattle.rungs.specs.Laws.Layout.{laid_next_lem, laid_most}
+use Rattle.rungs.proofs.Laws.Rows.{row_length, row_at}
+use Rattle.rungs.proofs.Laws.Layout.{laid_next_lem, laid_most}
 use Rattle.list_printing.proofs.Accepting.{ListAccepted, list_accepted}
 use Rattle.printing.specs.Put.{Put}
-use Rattle.printing.specs.Laws.Puts.{put_then, put_as, Left, all_left, left_none, left_more, decimal_long}
-use Rattle.list_definitions.specs.Laws.Words.{instr_of, Decodes}
+use Rattle.printing.proofs.Laws.Puts.{put_then, put_as, Left, all_left, left_none, left_more, decimal_long}
+use Rattle.list_definitions.proofs.Laws.Words.{instr_of, Decodes}
 use Rattle.list_printing.specs.Parts.{word_line, word_lines, operand_in, operand_by, RungReady}
 
 -- The names.

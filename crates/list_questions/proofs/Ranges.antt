@@ -12,7 +12,7 @@ use borrow.Author.Tests.{eq-eqb, ne_eqb, le-leb, lt-leb, lt-ltb, le-ltb}
 use Rattle.questions.specs.Tests.{all}
 use Rattle.table.specs.State.{table_size}
 use Rattle.rungs.specs.Records.{RungRecord, laid, fields_of, most_records}
-use Rattle.rungs.specs.Laws.Rows.{Even, row_nil, row_cons, row_induction, row_length, row_uneven_first, row_uneven_second}
+use Rattle.rungs.proofs.Laws.Rows.{Even, row_nil, row_cons, row_induction, row_length, row_uneven_first, row_uneven_second}
 use Rattle.list_definitions.specs.Questions.{word_in_range, most_instructions, records_laid, list_in_range}
 use Rattle.list_questions.specs.Parts.{laid_pairs}
 

@@ -12,10 +12,10 @@ use lib.Seq.{drop-cons}
 use borrow.Author.Tests.{le-leb, lt-leb, lt-ltb, le-ltb}
 use native.Mathlib.Numerals.{add-one}
 use Rattle.questions.specs.Tests.{all}
-use Rattle.questions.specs.Laws.Tests.{all_ends, none_some}
+use Rattle.questions.proofs.Laws.Tests.{all_ends, none_some}
 use Rattle.rungs.specs.Words.{operands, word}
 use Rattle.list_definitions.specs.Instruction.{Instr, LD, LDN, ST, STN, AND, ANDN, OR, ORN, XOR, XORN, NOT, JMP, JMPC, JMPCN, S, R, TON, operand, op_of, operand_number, instr_word, instr_fits, decode_instr, decode_code}
-use Rattle.list_definitions.specs.Laws.Decoding.{number_small, instr_decoded}
+use Rattle.list_definitions.proofs.Laws.Decoding.{number_small, instr_decoded}
 use Rattle.list_definitions.specs.Questions.{operand_timed, timers_known}
 use Rattle.list_questions.specs.Parts.{last_known, TimersAsked}
 

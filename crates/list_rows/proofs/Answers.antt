@@ -18,17 +18,17 @@ use Rattle.table.specs.Timer.{Timer}
 use Rattle.table.specs.Questions.{timers_in_range, question16}
 use Rattle.table.specs.TimerRecords.{number_timers}
 use Rattle.rungs.specs.Records.{RungRecord, fields_of, row_of, most_records}
-use Rattle.rungs.specs.Laws.Rows.{row_fields}
+use Rattle.rungs.proofs.Laws.Rows.{row_fields}
 use Rattle.rows.specs.Parts.{gathered, times_put}
-use Rattle.rows.specs.Laws.Gathered.{gathered_whole}
-use Rattle.rows.specs.Laws.Written.{times_put_all}
+use Rattle.rows.proofs.Laws.Gathered.{gathered_whole}
+use Rattle.rows.proofs.Laws.Written.{times_put_all}
 use Rattle.rows.specs.declared.Rows.{Rows}
 use Rattle.list_definitions.specs.Questions.{most_instructions, list_in_range, question10, list_answer}
 use Rattle.list_definitions.specs.ListScan.{ListScanCall, scan_ends, scan_questions, call_list_scan, list_scanned_answer, ListScanNumbers}
 use Rattle.list_definitions.specs.Listing.{listing, ListingDone}
 use Rattle.list_definitions.specs.Names.{is_name_table}
-use Rattle.list_definitions.specs.Laws.Answers.{asked, times_left}
-use Rattle.list_definitions.specs.Laws.Refusing.{listing_unnamed, listing_refused_lem}
+use Rattle.list_definitions.proofs.Laws.Answers.{asked, times_left}
+use Rattle.list_definitions.proofs.Laws.Refusing.{listing_unnamed, listing_refused_lem}
 use Rattle.list_definitions.specs.declared.Listed.{Listed}
 use Rattle.list_definitions.specs.declared.Listed.TheVariants.{Refused as RefusedListing}
 use Rattle.list_definitions.specs.declared.ListScanned.{ListScanned}

@@ -2,6 +2,3 @@
 -- Laws, which no contract cites: Laws.
 pub mod Contacts
 pub mod Noninterference
-pub mod Theorems
-pub mod Examples
-pub mod Laws

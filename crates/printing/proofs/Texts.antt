@@ -7,7 +7,7 @@ use native.Mathlib.Omega.{arith}
 use lib.ListN.{length, get_or, drop, drop_of_length-le}
 use lib.Seq.{drop-cons}
 use Rattle.printing.specs.Put.{Put}
-use Rattle.printing.specs.Laws.Puts.{Left, all_left, left_more, left_none}
+use Rattle.printing.proofs.Laws.Puts.{Left, all_left, left_more, left_none}
 
 -- the loop's invariant: the bytes from i on are left
 pub record Putting (l : List ℕ) (at : ℕ) (text x : List ℕ) (m i : ℕ) : Type 0 where

@@ -6,7 +6,4 @@ pub mod Refusals
 pub mod Outcome
 pub mod Printout
 pub mod Scanout
-pub mod Examples
 pub mod CaseA
-pub mod Theorems
-pub mod Laws

@@ -3,7 +3,7 @@ use Prim.Native.Nat.{ℕ}
 use mathlib.Core.List.{List}
 use Rattle.questions.specs.Bytes.{bytes, decimal}
 use Rattle.printing.specs.Put.{Put}
-use Rattle.printing.specs.Laws.Puts.{put_then}
+use Rattle.printing.proofs.Laws.Puts.{put_then}
 use Rattle.translation_definitions.specs.TranslateKept.{Counts}
 use Rattle.program_definitions.specs.Printout.{count_line}
 

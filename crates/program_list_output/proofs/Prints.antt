@@ -10,7 +10,7 @@ use lib.ListN.{length, take, drop, replicate}
 use lib.Seq.{length-take-le}
 use Rattle.questions.specs.Tests.{all}
 use Rattle.questions.specs.Questions.{Answer, Refusal, first_no, long_enough, question1, question13}
-use Rattle.questions.specs.Laws.Answers.{ask_passed, first_yes, later_yes}
+use Rattle.questions.proofs.Laws.Answers.{ask_passed, first_yes, later_yes}
 use Rattle.questions.specs.Refusals.{refusal_of}
 use Rattle.questions.specs.declared.Refusal.{Refusal as RefusalCase}
 use Rattle.rungs.specs.Records.{RungRecord, row_of}
@@ -23,22 +23,22 @@ use Rattle.list_definitions.specs.Listing.{ListingAnswer, written, listing, list
 use Rattle.list_definitions.specs.declared.Listed.{Listed}
 use Rattle.list_definitions.specs.declared.Listed.TheVariants.{Written as ListedCase, Refused as ListedRefused}
 use Rattle.translation_definitions.specs.TranslateKept.{Counts, translated, translate_kept, counts_in, TranslateDone, refused as translate_refused, translated_answer}
-use Rattle.translation_definitions.specs.Laws.Answers.{written_room}
+use Rattle.translation_definitions.proofs.Laws.Answers.{written_room}
 use Rattle.translation_definitions.specs.declared.Counts.{Counts as CountsStruct}
 use Rattle.translation_definitions.specs.declared.Translated.{Translated}
 use Rattle.translation_definitions.specs.declared.Translated.TheVariants.{Written as TranslatedCase, Refused as TranslatedRefused}
 use Rattle.text_definitions.specs.Read.{kept, read_text, written_kept, ReadDone, refused as read_refused, text_read_answer}
-use Rattle.text_definitions.specs.Laws.Reads.{written_room as kept_room_of}
+use Rattle.text_definitions.proofs.Laws.Reads.{written_room as kept_room_of}
 use Rattle.text_definitions.specs.declared.Counts.{Counts as KeptStruct}
 use Rattle.text_definitions.specs.declared.TextRead.{TextRead}
 use Rattle.text_definitions.specs.declared.TextRead.TheVariants.{Kept as KeptCase, Refused as ReadRefusedCase}
 use Rattle.list_names.specs.Parts.{FixedNamesPut}
 use Rattle.printing.specs.Put.{Put}
-use Rattle.printing.specs.Laws.Puts.{put_then}
+use Rattle.printing.proofs.Laws.Puts.{put_then}
 use Rattle.program_definitions.specs.Lines.{first_line, text_after, variables_of, most_kept}
 use Rattle.program_definitions.specs.Outcome.{Outcome, Done}
 use Rattle.program_definitions.specs.Printout.{count_line, blank, list_printed, kept_printed, text_printed, outcome}
-use Rattle.program_definitions.specs.Laws.Outcomes.{text_done, refusal_done, room_of}
+use Rattle.program_definitions.proofs.Laws.Outcomes.{text_done, refusal_done, room_of}
 use Rattle.program_definitions.specs.declared.Printed.{Printed}
 use Rattle.program_definitions.specs.declared.Printed.TheVariants.{Placed, Refused}
 use Rattle.program_numbers.specs.Parts.{number_by, NumberTaken}

@@ -16,7 +16,7 @@ use Rattle.questions.specs.declared.Refusal.TheVariants.{Variables, TextLength, 
 use Rattle.questions.specs.declared.Refusal.TheVariants.{Table, Watchdog, Buffer, NameTable, ListText, Timers, TimerNumber}
 use Rattle.questions.specs.contracts.Refusal.{the_type}
 use Rattle.printing.specs.Put.{Put}
-use Rattle.printing.specs.Laws.Puts.{put_then, put_as, decimal_most}
+use Rattle.printing.proofs.Laws.Puts.{put_then, put_as, decimal_most}
 use Rattle.program_definitions.specs.Refusals.{refusal_line, explanation, explanations, line_ends_text, error_lines}
 
 -- how far a name reaches

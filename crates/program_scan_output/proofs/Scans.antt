@@ -14,19 +14,19 @@ use Rattle.questions.specs.Questions.{Refusal, Answer, ask, first_no, question12
 use Rattle.questions.specs.Refusals.{refusal_of}
 use Rattle.questions.specs.Tests.{all}
 use Rattle.questions.specs.declared.Refusal.{Refusal as RefusalCase}
-use Rattle.questions.specs.Laws.Answers.{vars_in_range_lem}
+use Rattle.questions.proofs.Laws.Answers.{vars_in_range_lem}
 use Rattle.table.specs.Questions.{question11, table_in_range, question16}
 use Rattle.table.specs.TimerRecords.{timers_in, number_timers}
-use Rattle.table.specs.Laws.TimerRecords.{asked_whole, whole_timers, asked_few}
-use Rattle.timers.specs.Laws.Numbers.{whole_length}
+use Rattle.table.proofs.Laws.TimerRecords.{asked_whole, whole_timers, asked_few}
+use Rattle.timers.proofs.Laws.Numbers.{whole_length}
 use Rattle.rungs.specs.Records.{none_entered}
 use Rattle.rungs.specs.Buffers.{Buffers, needs, written_words, written_records}
-use Rattle.rungs.specs.Laws.Filling.{labels_count, roomy}
+use Rattle.rungs.proofs.Laws.Filling.{labels_count, roomy}
 use Rattle.ladder_definitions.specs.Kept.{Kept, kept_of}
 use Rattle.ladder_definitions.specs.Questions.{ladder_of}
 use Rattle.ladder_definitions.specs.LadderScan.{scan_questions}
-use Rattle.ladder_definitions.specs.Laws.Accepting.{accepted, scan_passed}
-use Rattle.text_definitions.specs.Laws.Reads.{written_room as kept_room_of}
+use Rattle.ladder_definitions.proofs.Laws.Accepting.{accepted, scan_passed}
+use Rattle.text_definitions.proofs.Laws.Reads.{written_room as kept_room_of}
 use Rattle.text_definitions.specs.Read.{read_text, kept, written_kept, text_read_answer, ReadDone, refused as read_refused}
 use Rattle.text_definitions.specs.declared.TextRead.{TextRead}
 use Rattle.text_definitions.specs.declared.Counts.{Counts as KeptStruct}
@@ -37,18 +37,18 @@ use Rattle.translation_definitions.specs.TranslateKept.{counts_of, list_buffers}
 use Rattle.translation_definitions.specs.BothScans.{Lent, lends, BothEnds, BothAnswer, both, copy_questions, refused as both_refused}
 use Rattle.translation_definitions.specs.BothScans.{both_questions, paired_watchdog, paired_scans, ends_in, both_scanned_answer, BothScansDone}
 use Rattle.translation_definitions.specs.BothAgree.{BothGiven}
-use Rattle.translation_definitions.specs.Laws.Boths.{not_refused, long_copy, both_passed, both_ends, both_left, both_refused_lem, both_scanned}
+use Rattle.translation_definitions.proofs.Laws.Boths.{not_refused, long_copy, both_passed, both_ends, both_left, both_refused_lem, both_scanned}
 use Rattle.translation_definitions.specs.declared.BothEnds.{BothEnds as EndsStruct}
 use Rattle.translation_definitions.specs.declared.BothScanned.{BothScanned}
 use Rattle.translation_definitions.specs.declared.BothScanned.TheVariants.{Scanned, Refused}
 use Rattle.noninterference.specs.Contacts.{word_contacts, left_out, unread}
-use Rattle.noninterference.specs.Theorems.{contacts_in_words}
-use Rattle.program_definitions.specs.Laws.Outcomes.{room_of, placed_within}
+use Rattle.noninterference.proofs.Theorems.{contacts_in_words}
+use Rattle.program_definitions.proofs.Laws.Outcomes.{room_of, placed_within}
 use Rattle.program_definitions.specs.Outcome.{printed, refused, Done, PlacedWithin}
 use Rattle.program_definitions.specs.declared.Printed.{Printed}
 use Rattle.program_definitions.specs.Printout.{blank}
 use Rattle.program_definitions.specs.Scanout.{lent_for, most_report, report_of, report_lines, kept_scanned, text_scanned}
-use Rattle.program_definitions.specs.Theorems.{scan_output_short}
+use Rattle.program_definitions.proofs.Theorems.{scan_output_short}
 
 -- ---- Read
 

@@ -11,9 +11,9 @@ use Rattle.questions.specs.Bytes.{bytes, decimal}
 use Rattle.ladder_definitions.specs.LadderScan.{LadderCounts}
 use Rattle.list_definitions.specs.ListScan.{ListCounts}
 use Rattle.printing.specs.Put.{Put}
-use Rattle.printing.specs.Laws.Puts.{put_then, Left, all_left, left_none, left_more, decimal_long}
+use Rattle.printing.proofs.Laws.Puts.{put_then, Left, all_left, left_none, left_more, decimal_long}
 use Rattle.translation_definitions.specs.BothScans.{BothEnds, halt_of}
-use Rattle.program_definitions.specs.Laws.Bounds.{Fitting, ends_short}
+use Rattle.program_definitions.proofs.Laws.Bounds.{Fitting, ends_short}
 use Rattle.program_definitions.specs.Scanout.{end_word, scan_count_lines, end_lines, changed_line, changed_lines, Verdict, verdict_line}
 
 module _ {l : List ℕ} {i : ℕ} {r : ℕ} {x : List ℕ} where

@@ -11,7 +11,7 @@ use lib.ListN.{length, get_or, drop, length-append, drop_of_length-le}
 use lib.Seq.{drop-cons}
 use Rattle.questions.specs.Bytes.{bytes, decimal}
 use Rattle.printing.specs.Put.{Put}
-use Rattle.printing.specs.Laws.Puts.{put_none, put_then, Left, all_left, left_none, left_more, decimal_long, decimal_most}
+use Rattle.printing.proofs.Laws.Puts.{put_none, put_then, Left, all_left, left_none, left_more, decimal_long, decimal_most}
 use Rattle.program_definitions.specs.Scanout.{entered_line, entered_lines}
 
 module _ {l : List ℕ} {i m1 m2 m3 m4 r : ℕ} {x1 x2 x3 x4 y : List ℕ} where

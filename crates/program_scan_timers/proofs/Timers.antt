@@ -11,9 +11,9 @@ use Rattle.questions.specs.Bytes.{bytes, decimal, same_bytes}
 use Rattle.table.specs.Timer.{Timer}
 use Rattle.table.specs.TimerRecords.{numbers_of, timers_in}
 use Rattle.timers.specs.Parts.{timer_at}
-use Rattle.timers.specs.Laws.Numbers.{timers_more}
+use Rattle.timers.proofs.Laws.Numbers.{timers_more}
 use Rattle.printing.specs.Put.{Put}
-use Rattle.printing.specs.Laws.Puts.{put_then, put_as, Left, all_left, left_none, left_more, decimal_most}
+use Rattle.printing.proofs.Laws.Puts.{put_then, put_as, Left, all_left, left_none, left_more, decimal_most}
 use Rattle.program_definitions.specs.Scanout.{timer_text, timer_line, same_timer, timer_lines}
 
 -- ---- a timer's start tick and flags

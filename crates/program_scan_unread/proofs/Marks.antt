@@ -12,12 +12,12 @@ use lib.ListN.{length, get_or, set, take, drop, replicate, get_or-replicate, len
 use lib.Seq.{drop-cons, get_or-set_same, get_or-set_other, get_or-take, set_out, length-take-le}
 use Rattle.questions.specs.Bytes.{bytes, decimal}
 use Rattle.printing.specs.Put.{Put}
-use Rattle.printing.specs.Laws.Puts.{put_none, put_then, Left, all_left, left_none, left_more, decimal_long}
+use Rattle.printing.proofs.Laws.Puts.{put_none, put_then, Left, all_left, left_none, left_more, decimal_long}
 use Rattle.rungs.specs.Words.{number_of, operand_of}
 use Rattle.ladder_definitions.specs.Kept.{KindSort, contact_sort, joined_sort, output_sort, rear_and_sort, rear_or_sort, no_sort, kind_sort}
 use Rattle.noninterference.specs.Contacts.{is_contact, word_contact, word_contacts, among, left_out}
-use Rattle.noninterference.specs.Laws.Words.{contact_word, other_word}
-use Rattle.program_definitions.specs.Laws.Bounds.{unread_short}
+use Rattle.noninterference.proofs.Laws.Words.{contact_word, other_word}
+use Rattle.program_definitions.proofs.Laws.Bounds.{unread_short}
 use Rattle.program_definitions.specs.Scanout.{variable_names, unread_line}
 use Rattle.program_scan_unread.specs.Marks.{marked, unmarked}
 

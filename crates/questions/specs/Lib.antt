@@ -3,5 +3,3 @@ pub mod Bytes
 pub mod Tests
 pub mod Questions
 pub mod Refusals
-pub mod Examples
-pub mod Laws

@@ -18,8 +18,8 @@ use Rattle.questions.specs.declared.Refusal.TheVariants.{Variables, List as List
 use Rattle.rungs.specs.Records.{RungRecord, none_entered, row_of, most_records}
 use Rattle.rungs.specs.Buffers.{Buffers, Columns, as_buffers, needs, written, written_over}
 use Rattle.rungs.specs.Parts.{put_all}
-use Rattle.rungs.specs.Laws.Layout.{lay_length}
-use Rattle.rungs.specs.Laws.Filling.{written_sets, taken_out, row_of_buffers, labels_count, offsets_count, lengths_count, short_times, enough}
+use Rattle.rungs.proofs.Laws.Layout.{lay_length}
+use Rattle.rungs.proofs.Laws.Filling.{written_sets, taken_out, row_of_buffers, labels_count, offsets_count, lengths_count, short_times, enough}
 use Rattle.text_grammar.specs.Reader.{Parse, read, stuck}
 use Rattle.list_definitions.specs.Instruction.{instr_word}
 use Rattle.list_definitions.specs.Names.{names_in, is_name_table, question14}
@@ -30,7 +30,7 @@ use Rattle.translation_definitions.specs.declared.Translated.TheVariants.{Writte
 use Rattle.reader_definitions.specs.Form.{ListRung, list_of_rungs}
 use Rattle.reader_definitions.specs.Reader.{list_text_of}
 use Rattle.reader_definitions.specs.ReadList.{question15, words_of, read_questions, read_list}
-use Rattle.reader_definitions.specs.Laws.Calls.{read_no, read_yes, form_read}
+use Rattle.reader_definitions.proofs.Laws.Calls.{read_no, read_yes, form_read}
 use Rattle.reader.specs.Parts.{sizes_of, list_columns, rungs_case, RungsAreKept, unentered, hand_over}
 use Rattle.reader.specs.declared.reading.Sizes.{Sizes}
 use Rattle.reader.specs.declared.reading.RungsAt.{RungsAt}

@@ -7,9 +7,9 @@ use mathlib.Core.List.{List, [], ◌∷◌, ◌++◌, map, map-append, append-ni
 use borrow.Author.Tests.{eq-eqb, ne_eqb}
 use lib.ListN.{length, set, length-append, length-map, length-set}
 use lib.Seq.{sets}
-use Rattle.questions.specs.Laws.Stores.{sets_append}
+use Rattle.questions.proofs.Laws.Stores.{sets_append}
 use Rattle.text_grammar.specs.Reader.{Parse, read, stuck, map_p, bind}
-use Rattle.text_grammar.specs.Laws.Parses.{same_tree, not_both, map_none, map_more, bind_stuck, bind_read, map_stuck}
+use Rattle.text_grammar.proofs.Laws.Parses.{same_tree, not_both, map_none, map_more, bind_stuck, bind_read, map_stuck}
 use Rattle.list_definitions.specs.Instruction.{Instr, instr_word}
 use Rattle.list_definitions.specs.Names.{Names}
 use Rattle.reader_definitions.specs.Reader.{instruction_from, opens_label, code_from}

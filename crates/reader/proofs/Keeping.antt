@@ -7,14 +7,14 @@ use mathlib.Core.List.{List, [], ◌∷◌, ◌++◌, map, flat_map, map-append}
 use borrow.Author.Tests.{eq-eqb, ne_eqb}
 use lib.ListN.{length, set, length-append, length-map}
 use lib.Seq.{sets}
-use Rattle.questions.specs.Laws.Stores.{sets_append}
+use Rattle.questions.proofs.Laws.Stores.{sets_append}
 use Rattle.rungs.specs.Records.{RungRecord, labels, offsets, lay, longest}
 use Rattle.rungs.specs.Buffers.{Columns, as_buffers}
 use Rattle.rungs.specs.Parts.{put_all}
-use Rattle.rungs.specs.Laws.Layout.{sizes, pieces_length, lay_length, flat_map_snoc, lay_snoc, longest_snoc}
+use Rattle.rungs.proofs.Laws.Layout.{sizes, pieces_length, lay_length, flat_map_snoc, lay_snoc, longest_snoc}
 use Rattle.text_grammar.specs.Grammar.{most_number}
 use Rattle.text_grammar.specs.Reader.{Parse, read, stuck, map_p, bind}
-use Rattle.text_grammar.specs.Laws.Parses.{same_tree, not_both, map_none, map_more, bind_stuck, bind_read, map_stuck, map_read}
+use Rattle.text_grammar.proofs.Laws.Parses.{same_tree, not_both, map_none, map_more, bind_stuck, bind_read, map_stuck, map_read}
 use Rattle.list_definitions.specs.Instruction.{Instr, instr_word}
 use Rattle.list_definitions.specs.Names.{Names}
 use Rattle.reader_definitions.specs.Form.{ListRung, list_of_rungs}

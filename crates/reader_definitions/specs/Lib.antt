@@ -3,6 +3,3 @@
 pub mod Form
 pub mod Reader
 pub mod ReadList
-pub mod Examples
-pub mod Theorems
-pub mod Laws

@@ -10,7 +10,7 @@ use Rattle.text_grammar.specs.Reader.{read, stuck, numeral_of}
 use Rattle.text_grammar.specs.Numbers.{NumberRead}
 use Rattle.text_grammar.specs.declared.Numeral.{Numeral}
 use Rattle.text_grammar.specs.declared.Numeral.TheVariants.{Value, Missing}
-use Rattle.text_grammar.specs.Laws.Spans.{inside}
+use Rattle.text_grammar.proofs.Laws.Spans.{inside}
 
 -- a byte that is not 0 lies within the text
 pub byte_within : (s : List ℕ) (i x : ℕ) → x ≡ get_or s i 0 → (x ≡ 0 → ⊥) → i < length s

@@ -7,7 +7,7 @@ use mathlib.Core.List.{List}
 use mir.Facts.{and_yes}
 use lib.Dec.{T, leb, leb→le}
 use lib.ListN.{length, get_or}
-use Rattle.text_grammar.specs.Laws.Spans.{inside}
+use Rattle.text_grammar.proofs.Laws.Spans.{inside}
 use Rattle.list_definitions.specs.Names.{name_bytes, is_capital}
 use Rattle.reader_definitions.specs.Reader.{letters_from}
 use Rattle.reader_lines.specs.Parts.{LettersRead}

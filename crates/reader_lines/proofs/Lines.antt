@@ -8,12 +8,12 @@ use borrow.Author.Tests.{eq-eqb, ne_eqb}
 use lib.ListN.{length, get_or}
 use lib.Dec.{lt→ltb}
 use Rattle.rungs.specs.Words.{operands}
-use Rattle.rungs.specs.Laws.Numbers.{Firsts, ◌then◌, past, every}
+use Rattle.rungs.proofs.Laws.Numbers.{Firsts, ◌then◌, past, every}
 use Rattle.text_grammar.specs.Grammar.{most_number}
 use Rattle.text_grammar.specs.Reader.{Parse, read, stuck, bind, followed}
 use Rattle.list_definitions.specs.Instruction.{Instr, LD, LDN, ST, STN, AND, ANDN, OR, ORN, XOR, XORN, NOT, JMP, JMPC, JMPCN, S, R, TON, Operand, table_index, no_operand, instruction_index, timer_number, operand, operand_number, instr_word, no_op, only_not, ops, sort_of, operand_sort, sort_number, same_sort}
 use Rattle.list_definitions.specs.Names.{Names}
-use Rattle.list_definitions.specs.Laws.Decoding.{decode_word, instr_decoded}
+use Rattle.list_definitions.proofs.Laws.Decoding.{decode_word, instr_decoded}
 use Rattle.reader_definitions.specs.Reader.{between, op_named, given, operand_from, instr_with, instr_named, instruction_from}
 use Rattle.reader_lines.specs.Parts.{LettersRead, op_case, OpFound, operand_case, OperandWithin, OperandParsed, line_case, LineParsed}
 use Rattle.reader_lines.specs.declared.OperandAt.{OperandAt}

@@ -12,7 +12,7 @@ use lib.Dec.{eqb}
 use lib.ListN.{length, get_or, take, drop, drop_of_length-le}
 use lib.Seq.{drop-cons, drop-drop}
 use Rattle.questions.specs.Bytes.{same_bytes}
-use Rattle.text_grammar.specs.Laws.Spans.{inside}
+use Rattle.text_grammar.proofs.Laws.Spans.{inside}
 use Rattle.list_definitions.specs.Names.{trimmed, name_bytes, most_op, names_from, names_in}
 use Rattle.reader_definitions.specs.Reader.{between, op_named}
 use Rattle.reader_lines.specs.Parts.{op_case, OpFound}

@@ -9,7 +9,7 @@ use Rattle.rungs.specs.Records.{RungRecord, most_records}
 use Rattle.rows.specs.declared.Rung.{Rung}
 use Rattle.rows.specs.Rows.{record_of, records_of, no_record, rung_at}
 use Rattle.rows.specs.Parts.{over_zeros, gathered, rows_of}
-use Rattle.rows.specs.Laws.Records.{records_length, records_at}
+use Rattle.rows.proofs.Laws.Records.{records_length, records_at}
 
 abbrev pub zeros : List ℕ
 zeros = replicate most_records 0

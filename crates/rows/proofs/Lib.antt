@@ -6,3 +6,4 @@ pub mod Loans
 pub mod Scatters
 pub mod Times
 pub mod Fields
+pub mod Laws

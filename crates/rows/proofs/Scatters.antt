@@ -8,7 +8,7 @@ use lib.ListN.{length, get_or, set, take, drop, length-map, get_or-map}
 use lib.Seq.{drop-cons, length_front, length-take-le}
 use Rattle.rungs.specs.Records.{RungRecord, fields_of, most_records, none_entered}
 use Rattle.rungs.specs.Buffers.{written}
-use Rattle.rungs.specs.Laws.Rows.{Even, row_length, row_at}
+use Rattle.rungs.proofs.Laws.Rows.{Even, row_length, row_at}
 use Rattle.rows.specs.declared.Rung.{Rung}
 use Rattle.rows.specs.declared.Rows.{Rows}
 use Rattle.rows.specs.Rows.{records_of, times_of, no_record, no_rung}

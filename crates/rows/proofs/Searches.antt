@@ -9,12 +9,12 @@ use lib.Dec.{ltb}
 use lib.ListN.{length, get_or}
 use borrow.Author.Tests.{ltb-true, ltb-false, lt-ltb, le-ltb, eq-eqb, ne_eqb}
 use Rattle.rungs.specs.Records.{RungRecord, labels, search, look_up}
-use Rattle.rungs.specs.Laws.Search.{search_within, search_before, search_at, look_found, look_missing}
+use Rattle.rungs.proofs.Laws.Search.{search_within, search_before, search_at, look_found, look_missing}
 use Rattle.rungs.specs.declared.Search.TheVariants.{Found, Missing}
 use Rattle.rows.specs.declared.Rung.{Rung}
 use Rattle.rows.specs.Rows.{record_of, records_of, rung_at}
 use Rattle.rows.specs.Parts.{next_found, search_told}
-use Rattle.rows.specs.Laws.Records.{labels_at, labels_length}
+use Rattle.rows.proofs.Laws.Records.{labels_at, labels_length}
 
 -- ---- what the tests tell
 

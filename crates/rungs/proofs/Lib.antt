@@ -2,3 +2,6 @@
 pub mod Copies
 pub mod Searches
 pub mod Zeros
+pub mod Laws
+pub mod Theorems
+pub mod Examples

@@ -8,7 +8,7 @@ use lib.ListN.{length, get_or, drop, drop_of_length-le}
 use lib.Seq.{drop-cons}
 use borrow.Author.Tests.{eq-eqb, ne_eqb}
 use Rattle.rungs.specs.Records.{search, look_up}
-use Rattle.rungs.specs.Laws.Search.{search_within, look_found, look_missing}
+use Rattle.rungs.proofs.Laws.Search.{search_within, look_found, look_missing}
 use Rattle.rungs.specs.declared.Search.TheVariants.{Found, Missing}
 
 module _ (l : ℕ) where

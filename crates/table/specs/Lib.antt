@@ -6,6 +6,4 @@ pub mod Questions
 pub mod Halt
 pub mod Writes
 pub mod TimerRecords
-pub mod Examples
 pub mod Parts
-pub mod Laws

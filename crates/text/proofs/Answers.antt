@@ -17,17 +17,17 @@ use Rattle.questions.specs.Refusals.{refusal_of}
 use Rattle.questions.specs.declared.Refusal.{Refusal as RefusalCase}
 use Rattle.questions.specs.declared.Refusal.TheVariants.{Variables, TextLength, Text, Sizes as SizesRefused, Buffer as BufferCase}
 use Rattle.rungs.specs.Records.{row_of, most_records, none_entered, lay, longest}
-use Rattle.rungs.specs.Laws.Layout.{lay_length}
+use Rattle.rungs.proofs.Laws.Layout.{lay_length}
 use Rattle.ladder_definitions.specs.Tree.{Ladder}
 use Rattle.ladder_definitions.specs.Kept.{Kept, rung_words, encode, decode}
 use Rattle.ladder_definitions.specs.Questions.{question4, sizes_in_range, question5, question6, question7, question8, question9, ladder_answer, ladder_questions, form_questions}
-use Rattle.ladder_definitions.specs.Laws.Accepting.{ladder_is}
+use Rattle.ladder_definitions.proofs.Laws.Accepting.{ladder_is}
 use Rattle.text_grammar.specs.Reader.{Parse, read, stuck, text_of}
 use Rattle.text_grammar.specs.Questions.{question3}
-use Rattle.text_grammar.specs.Theorems.{read_exactly, read_whole, scratch_always, decoded_always, kept_always}
+use Rattle.text_grammar.proofs.Theorems.{read_exactly, read_whole, scratch_always, decoded_always, kept_always}
 use Rattle.rungs.specs.Buffers.{Buffers, Columns, as_buffers, needs, written, written_over}
 use Rattle.rungs.specs.Parts.{put_all}
-use Rattle.rungs.specs.Laws.Filling.{taken_out, row_of_new, labels_count, offsets_count, lengths_count}
+use Rattle.rungs.proofs.Laws.Filling.{taken_out, row_of_new, labels_count, offsets_count, lengths_count}
 use Rattle.text_definitions.specs.Read.{text_ladder, kept_buffers, ReadCall, kept, refused, read_text, ReadDone, text_read_answer}
 use Rattle.text_lines.specs.Parts.{sizes_of, lines_parsed, kept_columns, LinesAreKept}
 use Rattle.text.specs.Parts.{fits, hand_over}

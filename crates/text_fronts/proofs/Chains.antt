@@ -9,10 +9,10 @@ use lib.Seq.{sets}
 use Rattle.ladder_definitions.specs.Tree.{Front, front_and, front_or}
 use Rattle.ladder_definitions.specs.Kept.{front_words}
 use Rattle.text_grammar.specs.Reader.{Parse, read, stuck, map_p, chain}
-use Rattle.text_grammar.specs.Laws.Spans.{inside}
+use Rattle.text_grammar.proofs.Laws.Spans.{inside}
 use Rattle.text_fronts.specs.Parts.{Inserted, PartRead}
 use Rattle.text_fronts.specs.declared.part.Parsed.TheVariants.{Read, Stuck}
-use Rattle.questions.specs.Laws.Stores.{sets_append}
+use Rattle.questions.proofs.Laws.Stores.{sets_append}
 use Rattle.text_fronts.proofs.Sets.{sets_over, before}
 use Rattle.text_fronts.proofs.Parts.{read_of, stuck_of, part_stuck, part_read}
 

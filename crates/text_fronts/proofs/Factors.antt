@@ -10,7 +10,7 @@ use Rattle.rungs.specs.Words.{word}
 use Rattle.ladder_definitions.specs.Tree.{contact, contactn, input, front_and, front_or, input_variable}
 use Rattle.ladder_definitions.specs.Kept.{input_word, front_words, input_kind}
 use Rattle.text_grammar.specs.Reader.{stuck, map_p, chain, followed, numeral_of, factor_by, factor_of, term_by, term_of, front_by, front_of}
-use Rattle.text_grammar.specs.Laws.Spans.{inside}
+use Rattle.text_grammar.proofs.Laws.Spans.{inside}
 use Rattle.text_fronts.specs.Parts.{PartRead, one_word, leaf_of}
 use Rattle.text_fronts.specs.declared.part.Parsed.{Parsed}
 use Rattle.text_fronts.specs.declared.part.Parsed.TheVariants.{Stuck}

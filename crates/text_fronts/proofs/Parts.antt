@@ -11,8 +11,8 @@ use Rattle.text_grammar.specs.Reader.{Parse, read, stuck, map_p, followed}
 use Rattle.text_grammar.specs.Numbers.{NumberRead}
 use Rattle.text_grammar.specs.declared.Numeral.{Numeral}
 use Rattle.text_grammar.specs.declared.Numeral.TheVariants.{Value, Missing}
-use Rattle.text_grammar.specs.Laws.Spans.{inside}
-use Rattle.text_grammar.specs.Laws.Parses.{same_tree, not_both}
+use Rattle.text_grammar.proofs.Laws.Spans.{inside}
+use Rattle.text_grammar.proofs.Laws.Parses.{same_tree, not_both}
 use Rattle.text_fronts.specs.Parts.{parsed_of, PartRead, one_word, leaf_of}
 use Rattle.text_fronts.specs.declared.part.Parsed.{Parsed}
 use Rattle.text_fronts.specs.declared.part.Parsed.TheVariants.{Read, Stuck}

@@ -1,3 +1,6 @@
 -- Laws that the proofs of functions cite.
 pub mod Bytes
 pub mod Numbers
+pub mod Laws
+pub mod Theorems
+pub mod Examples

@@ -5,6 +5,3 @@ pub mod Place
 pub mod Reader
 pub mod Questions
 pub mod Numbers
-pub mod Examples
-pub mod Theorems
-pub mod Laws

@@ -9,7 +9,7 @@ use lib.Dec.{eqb}
 use lib.ListN.{length, take, set, length-append, length-map}
 use lib.Seq.{sets}
 use Rattle.rungs.specs.Records.{RungRecord, labels, offsets, lay, longest}
-use Rattle.rungs.specs.Laws.Layout.{pieces_length, lay_length, flat_map_snoc, lay_snoc, longest_snoc}
+use Rattle.rungs.proofs.Laws.Layout.{pieces_length, lay_length, flat_map_snoc, lay_snoc, longest_snoc}
 use Rattle.ladder_definitions.specs.Tree.{Rung, Ladder}
 use Rattle.ladder_definitions.specs.Kept.{rung_words, encode}
 use Rattle.text_grammar.specs.Reader.{pick, Parse, read, stuck, map_p, bind, line_of, lines_of, text_of}
@@ -22,8 +22,8 @@ use Rattle.text_lines.specs.declared.LineParsed.TheVariants.{Read as LineReadCas
 use Rattle.text_lines.specs.declared.LineKept.{LineKept}
 use Rattle.text_lines.specs.declared.LineKept.TheVariants.{Read as LineKeptCase, Stuck as LineNotKept}
 use Rattle.text_lines.specs.declared.LinesParsed.TheVariants.{Read as LinesReadCase, Stuck as LinesStuckCase}
-use Rattle.text_grammar.specs.Laws.Parses.{same_tree, not_both, map_none, map_more}
-use Rattle.questions.specs.Laws.Stores.{sets_append}
+use Rattle.text_grammar.proofs.Laws.Parses.{same_tree, not_both, map_none, map_more}
+use Rattle.questions.proofs.Laws.Stores.{sets_append}
 use Rattle.text_fronts.proofs.Sets.{taken}
 
 -- ---- one rung more

@@ -12,15 +12,15 @@ use Rattle.text_grammar.specs.Reader.{Parse, read, stuck, map_p, bind, followed,
 use Rattle.text_grammar.specs.Numbers.{NumberRead}
 use Rattle.text_grammar.specs.declared.Numeral.{Numeral}
 use Rattle.text_grammar.specs.declared.Numeral.TheVariants.{Value, Missing}
-use Rattle.text_grammar.specs.Laws.Spans.{inside}
+use Rattle.text_grammar.proofs.Laws.Spans.{inside}
 use Rattle.text_fronts.specs.Parts.{PartRead}
 use Rattle.text_lines.specs.Parts.{rung_of, LineRead}
 use Rattle.text_fronts.specs.declared.part.Parsed.{Parsed}
 use Rattle.text_fronts.specs.declared.part.Parsed.TheVariants.{Read, Stuck}
 use Rattle.text_lines.specs.declared.LineParsed.TheVariants.{Read as LineReadCase, Stuck as LineStuckCase}
-use Rattle.text_grammar.specs.Laws.Parses.{same_tree, not_both, bind_stuck, bind_read}
+use Rattle.text_grammar.proofs.Laws.Parses.{same_tree, not_both, bind_stuck, bind_read}
 use Rattle.text_fronts.proofs.Parts.{followed_read, followed_short, followed_stuck, read_of, stuck_of, found, part_stuck, part_read}
-use Rattle.questions.specs.Laws.Stores.{sets_append}
+use Rattle.questions.proofs.Laws.Stores.{sets_append}
 
 -- a byte that is not 0 lies within the text
 pub byte_within : (s : List ℕ) (i x b : ℕ) → x ≡ get_or s i 0 → x ≡ b → 0 < b → i < length s

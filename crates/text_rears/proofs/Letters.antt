@@ -9,11 +9,11 @@ use lib.ListN.{length, get_or}
 use Rattle.rungs.specs.Words.{word, operands}
 use Rattle.ladder_definitions.specs.Tree.{Output, output}
 use Rattle.ladder_definitions.specs.Kept.{output_kind, output_word, output_sort, no_sort, kind_sorts, kind_sort, rear_words}
-use Rattle.ladder_definitions.specs.Theorems.{output_sorted}
-use Rattle.ladder_kinds.specs.Laws.Sorts.{no_sort_lem}
+use Rattle.ladder_definitions.proofs.Theorems.{output_sorted}
+use Rattle.ladder_kinds.proofs.Laws.Sorts.{no_sort_lem}
 use Rattle.text_grammar.specs.Reader.{output_at}
-use Rattle.text_grammar.specs.Laws.Letters.{Letter, letter, known_letter}
-use Rattle.text_grammar.specs.Laws.Spans.{inside}
+use Rattle.text_grammar.proofs.Laws.Letters.{Letter, letter, known_letter}
+use Rattle.text_grammar.proofs.Laws.Spans.{inside}
 use Rattle.text_fronts.specs.Parts.{one_word}
 use Rattle.text_rears.specs.Letters.{letter_kind}
 

@@ -11,10 +11,10 @@ use lib.Seq.{sets}
 use Rattle.ladder_definitions.specs.Tree.{Front, Rear, rear_and, rear_or}
 use Rattle.ladder_definitions.specs.Kept.{front_words, rear_words}
 use Rattle.text_grammar.specs.Reader.{pick, Parse, read, stuck, map_p, bind, followed, opens_factor, branch_by, rear_by}
-use Rattle.text_grammar.specs.Laws.Spans.{inside}
+use Rattle.text_grammar.proofs.Laws.Spans.{inside}
 use Rattle.text_fronts.specs.Parts.{PartRead, Inserted}
 use Rattle.text_fronts.specs.declared.part.Parsed.TheVariants.{Read, Stuck}
-use Rattle.questions.specs.Laws.Stores.{sets_append}
+use Rattle.questions.proofs.Laws.Stores.{sets_append}
 use Rattle.text_fronts.proofs.Sets.{before}
 use Rattle.text_fronts.proofs.Parts.{read_of, stuck_of, part_stuck, part_read}
 

@@ -8,20 +8,20 @@ use lib.Dec.{leb, leb→le}
 use mir.Facts.{and_yes}
 use lib.ListN.{length}
 use Rattle.questions.specs.Questions.{Answer, question1, question2}
-use Rattle.questions.specs.Laws.Answers.{first_yes, later_yes, ask_passed}
+use Rattle.questions.proofs.Laws.Answers.{first_yes, later_yes, ask_passed}
 use Rattle.questions.specs.Refusals.{refusal_of}
 use Rattle.questions.specs.declared.Refusal.{Refusal as RefusalCase}
 use Rattle.rungs.specs.Records.{RungRecord, most_records, none_entered}
 use Rattle.rungs.specs.Buffers.{Buffers, buffers, as_buffers, written}
-use Rattle.rungs.specs.Laws.Layout.{lay_length}
+use Rattle.rungs.proofs.Laws.Layout.{lay_length}
 use Rattle.rows.specs.Parts.{scattered}
-use Rattle.rows.specs.Laws.Written.{same_asked, few_written, within_written, fields, same_refused, same_written}
+use Rattle.rows.proofs.Laws.Written.{same_asked, few_written, within_written, fields, same_refused, same_written}
 use Rattle.ladder_definitions.specs.Tree.{Ladder}
 use Rattle.ladder_definitions.specs.Kept.{rung_words, encode}
 use Rattle.ladder_definitions.specs.Questions.{sizes_in_range, question5}
 use Rattle.text_grammar.specs.Questions.{question3}
 use Rattle.text_definitions.specs.Read.{text_ladder, kept, read_text, ReadDone, text_read_answer}
-use Rattle.text_definitions.specs.Laws.Reads.{not_both, before, asked, call_refused, call_kept_lem, all_yes, rungs_count}
+use Rattle.text_definitions.proofs.Laws.Reads.{not_both, before, asked, call_refused, call_kept_lem, all_yes, rungs_count}
 use Rattle.text_definitions.specs.declared.Counts.{Counts}
 use Rattle.text_definitions.specs.declared.TextRead.{TextRead}
 use Rattle.text_definitions.specs.declared.TextRead.TheVariants.{Kept as KeptCase, Refused as RefusedCase}

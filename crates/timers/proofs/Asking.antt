@@ -5,9 +5,9 @@ use Rattle.table.specs.Timer.{Timer}
 use Rattle.table.specs.Questions.{most_timers, timer_below, timer_variables, timers_in_range}
 use Rattle.table.specs.TimerRecords.{too_many, timers_in, whole, number_timers}
 use Rattle.timers.specs.Parts.{timer_at, other_variable}
-use Rattle.table.specs.Laws.TimerRecords.{whole_timers}
-use Rattle.timers.specs.Laws.Numbers.{whole_count, whole_length, timers_more}
-use Rattle.timers.specs.Laws.Columns.{too_many_lem}
+use Rattle.table.proofs.Laws.TimerRecords.{whole_timers}
+use Rattle.timers.proofs.Laws.Numbers.{whole_count, whole_length, timers_more}
+use Rattle.timers.proofs.Laws.Columns.{too_many_lem}
 
 -- ---- whole records from a place on
 

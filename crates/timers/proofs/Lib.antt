@@ -1,3 +1,4 @@
 pub mod Working
 pub mod Asking
 pub mod Packing
+pub mod Laws

@@ -6,16 +6,16 @@ use mathlib.Core.List.{flat_map}
 use lib.ListN.{get_elem?, length-map}
 use lib.Seq.{sets, sets-eq}
 use Rattle.questions.specs.Tests.{all}
-use Rattle.questions.specs.Laws.Stores.{sets_append}
-use Rattle.questions.specs.Laws.Tests.{none_some, all_head, all_tail}
+use Rattle.questions.proofs.Laws.Stores.{sets_append}
+use Rattle.questions.proofs.Laws.Tests.{none_some, all_head, all_tail}
 use Rattle.table.specs.Timer.{Timer}
 use Rattle.table.specs.Questions.{most_timers}
 use Rattle.table.specs.TimerRecords.{Columns, joined, numbers_of, timer_numbers, timers_in}
 use Rattle.timers.specs.Parts.{timer_at, flag_bytes, can_pack, Packable, Packed, Unpackable, Unpacked}
-use Rattle.timers.specs.Laws.Places.{record_there}
-use Rattle.timers.specs.Laws.Numbers.{numbers_length, five_length}
-use Rattle.timers.specs.Laws.Columns.{Lengths, one_length_lem, joined_length, column_timers_lem}
-use Rattle.timers.specs.Laws.Flags.{running_byte, done_byte, joined_bytes}
+use Rattle.timers.proofs.Laws.Places.{record_there}
+use Rattle.timers.proofs.Laws.Numbers.{numbers_length, five_length}
+use Rattle.timers.proofs.Laws.Columns.{Lengths, one_length_lem, joined_length, column_timers_lem}
+use Rattle.timers.proofs.Laws.Flags.{running_byte, done_byte, joined_bytes}
 
 -- ---- lengths
 

@@ -6,10 +6,10 @@ use Rattle.table.specs.Timer.{Timer, with, elapsed, started, tested, powered}
 use Rattle.table.specs.State.{state_with, write, set_timer, run_timer}
 use Rattle.table.specs.TimerRecords.{timers_in}
 use Rattle.table.specs.Parts.{TableChanged}
-use Rattle.table.specs.Laws.Timers.{powered_variable, timer_none, timer_some}
+use Rattle.table.proofs.Laws.Timers.{powered_variable, timer_none, timer_some}
 use Rattle.timers.specs.Parts.{timer_at, put_timer, StateChanged}
-use Rattle.timers.specs.Laws.Kept.{powered_preset}
-use Rattle.timers.specs.Laws.Places.{record_there, record_none, record_put}
+use Rattle.timers.proofs.Laws.Kept.{powered_preset}
+use Rattle.timers.proofs.Laws.Places.{record_there, record_none, record_put}
 
 pub elapsed_wraps : (tick start r : ℕ) → tick < 2 ^ 32 → start < 2 ^ 32 → r < 2 ^ 32 → (r + start) % 2 ^ 32 ≡ tick → r ≡ elapsed tick start
 unfolding elapsed

@@ -14,18 +14,18 @@ use Rattle.questions.specs.declared.Refusal.{Refusal as RefusalCase}
 use Rattle.questions.specs.declared.Refusal.TheVariants.{Buffer as BufferCase}
 use Rattle.rungs.specs.Records.{offsets, search}
 use Rattle.rungs.specs.Buffers.{Buffers, columns_of, as_buffers, needs, written}
-use Rattle.rungs.specs.Laws.Layout.{lay_length}
-use Rattle.rungs.specs.Laws.Filling.{written_sets, labels_count, offsets_count, lengths_count, times_count, short_words, short_labels, short_offsets, short_lengths, short_times, enough, put_written}
+use Rattle.rungs.proofs.Laws.Layout.{lay_length}
+use Rattle.rungs.proofs.Laws.Filling.{written_sets, labels_count, offsets_count, lengths_count, times_count, short_words, short_labels, short_offsets, short_lengths, short_times, enough, put_written}
 use Rattle.ladder_definitions.specs.Tree.{Ladder}
 use Rattle.ladder_definitions.specs.Kept.{Kept, kept_of}
 use Rattle.ladder_definitions.specs.Questions.{most_rungs, ladder_of, ladder_answer}
 use Rattle.ladder_definitions.specs.Held.{LadderHeld}
-use Rattle.ladder_definitions.specs.Laws.Accepting.{sized, accepted}
-use Rattle.ladder_definitions.specs.Laws.Held.{held, as_many}
+use Rattle.ladder_definitions.proofs.Laws.Accepting.{sized, accepted}
+use Rattle.ladder_definitions.proofs.Laws.Held.{held, as_many}
 use Rattle.list_definitions.specs.Instruction.{instr_word}
 use Rattle.translation_definitions.specs.Translate.{rung_code, list_records, translate}
 use Rattle.translation_definitions.specs.TranslateKept.{list_buffers, counts_of, translate_kept, translated_answer, TranslateDone}
-use Rattle.translation_definitions.specs.Laws.Answers.{call_refused, call_written}
+use Rattle.translation_definitions.proofs.Laws.Answers.{call_refused, call_written}
 use Rattle.translation_code.specs.Parts.{start_in}
 use Rattle.translation_layout.specs.Parts.{LadderReady, LaidOut, ListPut}
 use Rattle.translation_definitions.specs.declared.Translated.TheVariants.{Written as WrittenCase, Refused as RefusedCase}

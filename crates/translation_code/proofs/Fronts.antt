@@ -10,12 +10,12 @@ use Rattle.rungs.specs.Records.{search}
 use Rattle.ladder_definitions.specs.Tree.{Input, contact, contactn, Front, front_and, front_or, input_variable}
 use Rattle.ladder_definitions.specs.Kept.{input_kind, front_words}
 use Rattle.ladder_definitions.specs.Held.{FrontAt}
-use Rattle.ladder_definitions.specs.Laws.Trees.{inside, front_cases, that_input}
+use Rattle.ladder_definitions.proofs.Laws.Trees.{inside, front_cases, that_input}
 use Rattle.list_definitions.specs.Instruction.{Instr, LD, LDN, ST, AND, ANDN, OR, ORN, operand, op_of, operand_number, instr_word}
 use Rattle.translation_definitions.specs.Translate.{F, join}
 use Rattle.translation_code.specs.Parts.{CodePut, Within, OnePut, FrontPut, Joins, JoinPut, start_in}
 use Rattle.translation_code.specs.declared.Positions.{Positions}
-use Rattle.questions.specs.Laws.Stores.{sets_append}
+use Rattle.questions.proofs.Laws.Stores.{sets_append}
 
 -- ---- runs of instructions
 

@@ -7,7 +7,7 @@ use mathlib.Core.List.{List}
 use Rattle.rungs.specs.Words.{operands, word, number_of, operand_of}
 use Rattle.ladder_definitions.specs.Tree.{Output, coil, coiln, jump, jumpn, set_coil, reset_coil, timer, output_names, number}
 use Rattle.ladder_definitions.specs.Kept.{output_kind, name_sorts, name_sort}
-use Rattle.ladder_definitions.specs.Laws.Trees.{same_output}
+use Rattle.ladder_definitions.proofs.Laws.Trees.{same_output}
 use Rattle.ladder_kinds.specs.Kinds.{names_label}
 use Rattle.list_definitions.specs.Instruction.{operand, op_of, operand_number, instr_word}
 use Rattle.translation_definitions.specs.Translate.{output_code}

@@ -12,7 +12,7 @@ use Rattle.rungs.specs.Words.{word, number_of}
 use Rattle.ladder_definitions.specs.Tree.{Rear}
 use Rattle.ladder_definitions.specs.Questions.{most_words}
 use Rattle.ladder_definitions.specs.Kept.{output_sort, rear_and_sort, rear_or_sort, kind_sorts, kind_sort, rear_words, rung_words}
-use Rattle.ladder_definitions.specs.Laws.Trees.{inside, starts_rear, output_only, rear_and_only, rear_or_only, no_rear_lem, rung_only}
+use Rattle.ladder_definitions.proofs.Laws.Trees.{inside, starts_rear, output_only, rear_and_only, rear_or_only, no_rear_lem, rung_only}
 use Rattle.list_definitions.specs.Instruction.{Instr, LD, ST, AND, ANDN, op_of, operand, operand_number, instr_word}
 use Rattle.translation_definitions.specs.Translate.{R, rung_code, code_bound}
 use Rattle.translation_code.specs.Parts.{CodePut, Within, FrontPut, JoinPut, start_in, OutputInstruction, RearPut, RungPut}

@@ -6,10 +6,7 @@ pub mod BothAgree
 pub mod BothScans
 pub mod Calls
 pub mod Demand3
-pub mod Examples
 pub mod ManyScans
 pub mod RowsAgree
-pub mod Theorems
 pub mod Translate
 pub mod TranslateKept
-pub mod Laws

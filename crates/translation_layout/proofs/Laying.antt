@@ -7,20 +7,20 @@ use native.Mathlib.Numerals.{add-one}
 use native.Mathlib.Omega.{arith}
 use lib.ListN.{length, get_or, take, set, length-map, length-set}
 use lib.Seq.{sets, length-take-le, take_all}
-use Rattle.questions.specs.Laws.Answers.{vars_in_range_lem}
+use Rattle.questions.proofs.Laws.Answers.{vars_in_range_lem}
 use Rattle.rungs.specs.Records.{RungRecord, offsets, lay, start_of, longest}
-use Rattle.rungs.specs.Laws.Layout.{sizes, sizes_snoc, pieces_length, lay_length, lay_snoc, longest_snoc}
+use Rattle.rungs.proofs.Laws.Layout.{sizes, sizes_snoc, pieces_length, lay_length, lay_snoc, longest_snoc}
 use Rattle.ladder_definitions.specs.Tree.{Rung, Ladder}
 use Rattle.ladder_definitions.specs.Kept.{rung_words, encode}
 use Rattle.ladder_definitions.specs.Held.{RungAt, LadderHeld}
-use Rattle.ladder_definitions.specs.Laws.Held.{Apart, as_many, rung_at_lem}
-use Rattle.ladder_definitions.specs.Laws.Accepting.{sized}
+use Rattle.ladder_definitions.proofs.Laws.Held.{Apart, as_many, rung_at_lem}
+use Rattle.ladder_definitions.proofs.Laws.Accepting.{sized}
 use Rattle.translation_definitions.specs.Translate.{rung_code, list_records, translate}
 use Rattle.translation_code.specs.Parts.{CodePut, RungPut, start_in}
 use Rattle.translation_layout.specs.Parts.{LadderReady, LaidOut}
-use Rattle.translation_definitions.specs.Laws.Parts.{same_length}
+use Rattle.translation_definitions.proofs.Laws.Parts.{same_length}
 use Rattle.translation_code.specs.declared.Positions.{Positions}
-use Rattle.questions.specs.Laws.Stores.{sets_append}
+use Rattle.questions.proofs.Laws.Stores.{sets_append}
 
 -- ---- one rung more
 

@@ -9,17 +9,17 @@ use lib.Seq.{sets, length-sets}
 use Rattle.rungs.specs.Records.{RungRecord, lay, search, start_of, labels as labels_of, offsets as offsets_of}
 use Rattle.rungs.specs.Buffers.{Columns, columns_of, as_buffers}
 use Rattle.rungs.specs.Parts.{put_all}
-use Rattle.rungs.specs.Laws.Layout.{sizes, lay_labels, flat_map_snoc}
+use Rattle.rungs.proofs.Laws.Layout.{sizes, lay_labels, flat_map_snoc}
 use Rattle.ladder_definitions.specs.Tree.{Ladder}
 use Rattle.ladder_definitions.specs.Held.{LadderHeld}
-use Rattle.ladder_definitions.specs.Laws.Held.{many, as_many}
+use Rattle.ladder_definitions.proofs.Laws.Held.{many, as_many}
 use Rattle.list_definitions.specs.Instruction.{instr_word}
 use Rattle.translation_definitions.specs.Translate.{rung_code, list_records, translate}
 use Rattle.translation_definitions.specs.TranslateKept.{list_buffers}
 use Rattle.translation_code.specs.Parts.{RungPut, start_in}
 use Rattle.translation_layout.specs.Parts.{LadderReady, ListPut}
 use Rattle.translation_code.specs.declared.Positions.{Positions}
-use Rattle.questions.specs.Laws.Stores.{sets_append}
+use Rattle.questions.proofs.Laws.Stores.{sets_append}
 use Rattle.translation_layout.proofs.Laying.{size_of, firsts, Next, upto_one, stored_label, stored_offset, stored_length, in_ladder, next_of, few_rungs, Before, before_first, few_put, one_put, one_size, before_more, all_taken, all_firsts, code_length}
 
 -- the words of the list's first k rungs, whose jumps lead where `start` says

@@ -9,25 +9,25 @@ use lib.Dec.{leb, leb→le}
 use mir.Facts.{and_yes}
 use lib.ListN.{length, take}
 use Rattle.questions.specs.Questions.{Answer, Refusal, first_no, question13}
-use Rattle.questions.specs.Laws.Answers.{ask_passed}
+use Rattle.questions.proofs.Laws.Answers.{ask_passed}
 use Rattle.questions.specs.Refusals.{refusal_of}
 use Rattle.questions.specs.declared.Refusal.{Refusal as RefusalCase}
 use Rattle.rungs.specs.Records.{RungRecord, row_of, fields_of, most_records, none_entered}
 use Rattle.rungs.specs.Buffers.{Buffers, buffers, as_buffers, needs, written}
-use Rattle.rungs.specs.Laws.Rows.{row_fields}
-use Rattle.rungs.specs.Laws.Layout.{lay_length}
+use Rattle.rungs.proofs.Laws.Rows.{row_fields}
+use Rattle.rungs.proofs.Laws.Layout.{lay_length}
 use Rattle.rows.specs.Parts.{gathered, scattered}
-use Rattle.rows.specs.Laws.Gathered.{gathered_whole}
-use Rattle.rows.specs.Laws.Written.{same_asked, few_written, within_written, fields, same_refused, same_written, scattered_none, none_written}
+use Rattle.rows.proofs.Laws.Gathered.{gathered_whole}
+use Rattle.rows.proofs.Laws.Written.{same_asked, few_written, within_written, fields, same_refused, same_written, scattered_none, none_written}
 use Rattle.rows.specs.declared.Rows.{Rows}
 use Rattle.ladder_definitions.specs.Kept.{Kept}
 use Rattle.ladder_definitions.specs.Questions.{ladder_of, sizes_in_range, question5, ladder_answer}
-use Rattle.ladder_definitions.specs.Laws.Accepting.{accepted}
+use Rattle.ladder_definitions.proofs.Laws.Accepting.{accepted}
 use Rattle.list_definitions.specs.Instruction.{instr_word}
 use Rattle.list_definitions.specs.Machine.{InstructionList}
 use Rattle.translation_definitions.specs.Translate.{list_records, translate}
 use Rattle.translation_definitions.specs.TranslateKept.{counts_of, list_buffers, translated, translate_kept, counts_in, TranslateDone, translated_answer}
-use Rattle.translation_definitions.specs.Laws.Answers.{not_both, asked, call_refused, call_written, all_yes, counts_are}
+use Rattle.translation_definitions.proofs.Laws.Answers.{not_both, asked, call_refused, call_written, all_yes, counts_are}
 use Rattle.translation_definitions.specs.declared.Counts.{Counts as CountsStruct}
 use Rattle.translation_definitions.specs.declared.Translated.{Translated}
 use Rattle.translation_definitions.specs.declared.Translated.TheVariants.{Written as WrittenCase, Refused as RefusedCase}

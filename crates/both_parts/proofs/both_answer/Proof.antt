@@ -1,7 +1,7 @@
 -- `both_parts::both_answer` meets its contract: the questions in order. Assumes nothing.
 use mathlib.Core.Path.{sym, ◌∙◌}
 use borrow.Author.Tests.{not-true, not-false}
-use Rattle.questions.specs.Laws.Answers.{verdict_refused, verdict_accepted}
+use Rattle.questions.proofs.Laws.Answers.{verdict_refused, verdict_accepted}
 use Rattle.both_parts.proofs.Asking.{asked_refused, asked_ladder_timers, asked_list_timers, asked_ladder_copy, asked_list_copy, asked_instructions, asked_accepted}
 use borrow.Author.Rules.{rules}
 use Rattle.both_parts.proofs.both_answer.Statement.{statement}

@@ -1,7 +1,7 @@
 -- `ladder::ladder_answer` meets its contract: question 1, then questions 4 to 8, then 9. Assumes nothing.
 use mathlib.Core.Path.{sym, ◌∙◌}
 use borrow.Author.Tests.{not-true, not-false}
-use Rattle.questions.specs.Laws.Answers.{verdict_refused, verdict_accepted}
+use Rattle.questions.proofs.Laws.Answers.{verdict_refused, verdict_accepted}
 use Rattle.ladder.proofs.Answers.{refused1, refused_form, refused9, accepted9}
 use borrow.Author.Rules.{rules}
 use Rattle.ladder.proofs.ladder_answer.Statement.{statement}

@@ -2,7 +2,7 @@
 use native.Mathlib.Omega.{arith}
 use mathlib.Core.Path.{sym, ◌∙◌}
 use borrow.Author.Tests.{not-true, not-false}
-use Rattle.timers.specs.Laws.Columns.{can_pack_lem}
+use Rattle.timers.proofs.Laws.Columns.{can_pack_lem}
 use Rattle.ladder.proofs.Scans.{columns_refused1, columns_refused16, packed_fits, packed_long, part_fits, part_long, part_unpackable, columns_scanned}
 use borrow.Author.Rules.{rules}
 use Rattle.ladder.proofs.ladder_scan.Statement.{statement}

@@ -1,6 +1,6 @@
 -- `ladder::ladder_scan_packed` meets its contract: the questions' answer, and then the scan, which leaves as many numbers. Assumes nothing.
-use Rattle.questions.specs.Laws.Answers.{verdict_refused, verdict_accepted}
-use Rattle.ladder_scanning.specs.Laws.Scans.{scan_fits}
+use Rattle.questions.proofs.Laws.Answers.{verdict_refused, verdict_accepted}
+use Rattle.ladder_scanning.proofs.Laws.Scans.{scan_fits}
 use Rattle.ladder.proofs.Scans.{numbers_refused, scan_done}
 use borrow.Author.Rules.{rules}
 use Rattle.ladder.proofs.ladder_scan_packed.Statement.{statement}

@@ -1,7 +1,7 @@
 -- `ladder::scan_questions` meets its contract: questions 1, 16, 4 to 8, 17, 9, 11 and 12 in order. Assumes nothing.
 use mathlib.Core.Path.{sym, ◌∙◌}
 use borrow.Author.Tests.{not-true, not-false}
-use Rattle.questions.specs.Laws.Answers.{verdict_refused, verdict_accepted}
+use Rattle.questions.proofs.Laws.Answers.{verdict_refused, verdict_accepted}
 use Rattle.ladder.proofs.Answers.{scan_refused1, scan_refused16, scan_refused8, scan_refused17, asked17, scan_refused9, asked9, scan_refused11, scan_refused12, scan_accepted12}
 use borrow.Author.Rules.{rules}
 use Rattle.ladder.proofs.scan_questions.Statement.{statement}

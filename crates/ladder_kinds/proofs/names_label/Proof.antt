@@ -1,5 +1,5 @@
 -- `ladder_kinds::names_label` meets its contract: its tests are the sort's. Assumes nothing.
-use Rattle.ladder_kinds.specs.Laws.Sorts.{label_tests_lem}
+use Rattle.ladder_kinds.proofs.Laws.Sorts.{label_tests_lem}
 use Rattle.ladder_kinds.proofs.names_label.Statement.{statement}
 use Rattle.ladder_kinds.proofs.names_label.Tie as tie
 

@@ -1,5 +1,5 @@
 -- `ladder_kinds::names_variable` meets its contract: its tests are the sort's. Assumes nothing.
-use Rattle.ladder_kinds.specs.Laws.Sorts.{variable_tests_lem}
+use Rattle.ladder_kinds.proofs.Laws.Sorts.{variable_tests_lem}
 use Rattle.ladder_kinds.proofs.names_variable.Statement.{statement}
 use Rattle.ladder_kinds.proofs.names_variable.Tie as tie
 

@@ -3,10 +3,10 @@ use Prim.Native.Nat.{◌-◌}
 use native.Mathlib.Omega.{arith}
 use mathlib.Core.Path.{refl}
 use lib.ListN.{length}
-use Rattle.rungs.specs.Laws.Numbers.{none_to, past_all}
+use Rattle.rungs.proofs.Laws.Numbers.{none_to, past_all}
 use Rattle.ladder_definitions.specs.Kept.{kind_sorts, kind_sort}
 use Rattle.ladder_kinds.specs.Kinds.{sort_in}
-use Rattle.ladder_kinds.specs.Laws.Sorts.{no_sort_lem}
+use Rattle.ladder_kinds.proofs.Laws.Sorts.{no_sort_lem}
 use Rattle.ladder_kinds.proofs.sort_of.Statement.{statement}
 use Rattle.ladder_kinds.proofs.sort_of.Tie as tie
 

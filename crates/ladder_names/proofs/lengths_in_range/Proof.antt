@@ -2,7 +2,7 @@
 use Rattle.std.proofs.Common.{◌≡◌, ◌-◌, ◌≤◌, length, drop, sym, refl, ◌∙◌, arith, le-leb}
 use borrow.Author.Tests.{lt-leb}
 use Rattle.questions.specs.Tests.{all}
-use Rattle.questions.specs.Laws.Tests.{all_more, all_fails, all_ends}
+use Rattle.questions.proofs.Laws.Tests.{all_more, all_fails, all_ends}
 use Rattle.ladder_definitions.specs.Questions.{most_rung_words}
 use Rattle.ladder_names.specs.Asking.{length_in_range}
 use Rattle.ladder_names.proofs.lengths_in_range.Statement.{statement}

@@ -2,7 +2,7 @@
 use Rattle.std.proofs.Common.{◌≡◌, ◌-◌, ◌≤◌, length, drop, sym, refl, ◌∙◌, arith, rules}
 use borrow.Author.Tests.{not-true, not-false}
 use Rattle.questions.specs.Tests.{all}
-use Rattle.questions.specs.Laws.Tests.{all_more, all_fails, all_ends}
+use Rattle.questions.proofs.Laws.Tests.{all_more, all_fails, all_ends}
 use Rattle.ladder_names.specs.Asking.{word_leads}
 use Rattle.ladder_names.proofs.rung_leads.Statement.{statement}
 use Rattle.ladder_names.proofs.rung_leads.Tie as tie

@@ -1,6 +1,6 @@
 -- `ladder_names::word_leads` meets its contract: the operand is searched where the kind has a label. Assumes nothing.
 use Rattle.std.proofs.Common.{sym, ◌∙◌, rules}
-use Rattle.rungs.specs.Laws.Search.{ends_at}
+use Rattle.rungs.proofs.Laws.Search.{ends_at}
 use Rattle.ladder_names.proofs.Asked.{leads_label, leads_other}
 use Rattle.ladder_names.proofs.word_leads.Statement.{statement}
 use Rattle.ladder_names.proofs.word_leads.Tie as tie

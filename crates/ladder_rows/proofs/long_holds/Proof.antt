@@ -49,7 +49,7 @@ use denote.Triple.Walked.{says, Stays, stay_none_slice, walk_of, Goes-none_slice
 use denote.Exit.{yes}
 use Rattle.rungs.specs.Records.{RungRecord}
 use Rattle.rows.specs.Rows.{record_of, records_of, rung_at}
-use Rattle.rows.specs.Laws.Records.{records_at, records_length}
+use Rattle.rows.proofs.Laws.Records.{records_at, records_length}
 use Rattle.rows.specs.declared.Rung.{Rung}
 use Rattle.rows.specs.contracts.Rung as T
 use Rattle.rows.proofs.Rung.TheLaws as T'

@@ -55,7 +55,7 @@ use Rattle.table.specs.State.{State, state_with, state_of}
 use Rattle.table.specs.TimerRecords.{timers_in}
 use Rattle.rungs.specs.Records.{RungRecord, labels}
 use Rattle.rows.specs.Rows.{record_of, records_of, record_at, rung_at}
-use Rattle.rows.specs.Laws.Records.{records_at, records_length}
+use Rattle.rows.proofs.Laws.Records.{records_at, records_length}
 use Rattle.rows.specs.declared.Rung.{Rung}
 use Rattle.rows.specs.contracts.Rung as R
 use Rattle.rows.proofs.Rung.TheLaws as R'

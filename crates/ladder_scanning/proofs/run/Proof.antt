@@ -7,8 +7,8 @@ use lib.ListN.{length}
 use borrow.Author.Rules.{rules}
 use Rattle.table.specs.State.{state_with, state_of}
 use Rattle.table.specs.TimerRecords.{timers_in}
-use Rattle.rungs.specs.Laws.Search.{ends_at}
-use Rattle.ladder_scanning.specs.Laws.Scanning.{Scanning, scanning_first, scan_ended, scan_stopped, scan_onward, scan_jumped}
+use Rattle.rungs.proofs.Laws.Search.{ends_at}
+use Rattle.ladder_scanning.proofs.Laws.Scanning.{Scanning, scanning_first, scan_ended, scan_stopped, scan_onward, scan_jumped}
 use Rattle.ladder_scanning.proofs.run.Statement.{statement}
 use Rattle.ladder_scanning.proofs.run.Tie as tie
 

@@ -6,7 +6,7 @@ use lib.ListN.{length}
 use mathlib.Core.Path.{◌≡◌}
 use borrow.Author.Rules.{rules}
 use Rattle.ladder_kinds.specs.Kinds.{sort_in}
-use Rattle.ladder_definitions.specs.Laws.Trees.{inside_sort}
+use Rattle.ladder_definitions.proofs.Laws.Trees.{inside_sort}
 use Rattle.ladder_kinds.proofs.Arms.{told, not_front}
 use Rattle.ladder_scratch.proofs.Measures.{measured_input, measured_parts, measured_none}
 use borrow.Fn.Kinds.{In}

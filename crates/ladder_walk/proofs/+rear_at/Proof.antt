@@ -9,7 +9,7 @@ use mathlib.Core.Logic.{inl, inr}
 use Rattle.table.specs.State.{state_with}
 use Rattle.table.specs.TimerRecords.{timers_in}
 use Rattle.ladder_kinds.specs.Kinds.{sort_in}
-use Rattle.ladder_definitions.specs.Laws.Trees.{inside_sort}
+use Rattle.ladder_definitions.proofs.Laws.Trees.{inside_sort}
 use Rattle.ladder_kinds.proofs.Arms.{told, not_rear}
 use Rattle.ladder_walk.specs.Walking.{RearRun}
 use Rattle.ladder_walk.proofs.Walks.{ran_output, ran_or_jumped, ran_none, Walked, walked_none, walked_and, walked_or}

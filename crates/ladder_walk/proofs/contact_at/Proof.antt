@@ -1,7 +1,7 @@
 -- `ladder_walk::contact_at` meets its contract: where the position went on, the word is a contact. Assumes nothing.
 use native.Mathlib.Omega.{arith}
 use Rattle.ladder_definitions.specs.Kept.{input_kind}
-use Rattle.ladder_definitions.specs.Laws.Trees.{inside}
+use Rattle.ladder_definitions.proofs.Laws.Trees.{inside}
 use Rattle.ladder_walk.proofs.Walks.{worked_contact, worked_contactn, no_contact_lem}
 use borrow.Author.Rules.{rules}
 use Rattle.ladder_walk.proofs.contact_at.Statement.{statement}

@@ -4,7 +4,7 @@ use native.Mathlib.Omega.{arith}
 use mathlib.Core.Path.{◌≡◌}
 use borrow.Author.Rules.{rules}
 use Rattle.ladder_kinds.specs.Kinds.{sort_in}
-use Rattle.ladder_definitions.specs.Laws.Trees.{inside_sort}
+use Rattle.ladder_definitions.proofs.Laws.Trees.{inside_sort}
 use Rattle.ladder_kinds.proofs.Arms.{told}
 use Rattle.ladder_walk.proofs.Walks.{ran_rung, ran_output}
 use Rattle.ladder_walk.proofs.run_rung.Statement.{statement}

@@ -1,5 +1,5 @@
 -- `list::list_scan_packed` meets its contract: the questions in order, and then the scan. Assumes nothing.
-use Rattle.questions.specs.Laws.Answers.{verdict_refused, verdict_accepted}
+use Rattle.questions.proofs.Laws.Answers.{verdict_refused, verdict_accepted}
 use Rattle.list.proofs.Answers.{scan_refused, as_many, scanned_row}
 use borrow.Author.Rules.{rules}
 use Rattle.list.proofs.list_scan_packed.Statement.{statement}

@@ -1,8 +1,8 @@
 -- `list::listing` meets its contract: question 14, questions 1 and 10, the bytes counted over a buffer of none, question 13, and then the same function over
 -- the buffer. Assumes nothing.
 use mathlib.Core.Path.{sym, ◌∙◌}
-use Rattle.questions.specs.Laws.Answers.{verdict_refused, verdict_accepted}
-use Rattle.list_definitions.specs.Laws.Refusing.{listing_unnamed, listing_refused_lem}
+use Rattle.questions.proofs.Laws.Answers.{verdict_refused, verdict_accepted}
+use Rattle.list_definitions.proofs.Laws.Refusing.{listing_unnamed, listing_refused_lem}
 use Rattle.list.proofs.Answers.{accepted_range, table_long, row_short, row_written}
 use borrow.Author.Rules.{rules}
 use borrow.Author.Tests.{not-true, not-false}

@@ -2,8 +2,8 @@
 use mathlib.Core.Path.{refl}
 use mathlib.Core.Bool.{xor}
 use Rattle.table.specs.State.{value_at, value}
-use Rattle.table.specs.Laws.Moved.{sum_few, sum_if_few}
-use Rattle.rungs.specs.Laws.Numbers.{none_to}
+use Rattle.table.proofs.Laws.Moved.{sum_few, sum_if_few}
+use Rattle.rungs.proofs.Laws.Numbers.{none_to}
 use Rattle.list_definitions.specs.Instruction.{LD, LDN, ST, STN, AND, ANDN, OR, ORN, XOR, XORN, JMP, JMPC, JMPCN, S, R, TON, ops}
 use Rattle.list_definitions.specs.Machine.{does}
 use Rattle.list_instructions.proofs.Arms.{arm, arm_keeps, arm_writes, ran_few, arm_not, arm_other}

@@ -1,8 +1,8 @@
 -- `list_machine::run` meets its contract: the zeros, and then the scan. Assumes nothing.
 use mathlib.Core.Path.{◌∙◌}
 use borrow.Author.Rules.{rules}
-use Rattle.list_machine.specs.Laws.Entries.{all_zeros}
-use Rattle.list_machine.specs.Laws.Runs.{ran_over}
+use Rattle.list_machine.proofs.Laws.Entries.{all_zeros}
+use Rattle.list_machine.proofs.Laws.Runs.{ran_over}
 use Rattle.list_machine.proofs.run.Statement.{statement}
 use Rattle.list_machine.proofs.run.Tie as tie
 

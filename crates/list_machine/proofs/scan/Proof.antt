@@ -53,7 +53,7 @@ use Rattle.table.specs.State.{State, state_with, state_of}
 use Rattle.table.specs.TimerRecords.{timers_in}
 use Rattle.rungs.specs.Records.{none_entered}
 use Rattle.list_machine.specs.Parts.{Stepped, Followed, Ran, counted, first_machine, first_place, runs_on, halted_at}
-use Rattle.list_machine.specs.Laws.Runs.{Standing, StandingNeeds, standing_first, standing_needs, standing_next, standing_less, standing_ends}
+use Rattle.list_machine.proofs.Laws.Runs.{Standing, StandingNeeds, standing_first, standing_needs, standing_next, standing_less, standing_ends}
 use Rattle.list_definitions.specs.declared.ListScanned.{ListScanned}
 use Rattle.list_machine.specs.declared.Machine.{Machine}
 use Rattle.list_machine.specs.declared.Place.{Place}

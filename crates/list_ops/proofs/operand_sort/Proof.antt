@@ -2,7 +2,7 @@
 use mathlib.Core.Path.{refl}
 use Rattle.list_definitions.specs.Instruction.{only_not, ops, operand, sort_of, operand_sort}
 use Rattle.list_ops.specs.Sorts.{sort_in}
-use Rattle.list_ops.specs.Laws.Sorts.{table_tested, instruction_tested, latch_tested, none_tested}
+use Rattle.list_ops.proofs.Laws.Sorts.{table_tested, instruction_tested, latch_tested, none_tested}
 use Rattle.list_ops.proofs.operand_sort.Statement.{statement}
 use Rattle.list_ops.proofs.operand_sort.Tie as tie
 

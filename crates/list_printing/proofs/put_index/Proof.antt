@@ -1,5 +1,5 @@
 -- `list_printing::put_index` meets its contract: the space, the letter and the number are written one after the other. Assumes nothing.
-use Rattle.printing.specs.Laws.Puts.{put_then}
+use Rattle.printing.proofs.Laws.Puts.{put_then}
 use borrow.Author.Rules.{rules}
 use Rattle.list_printing.proofs.put_index.Statement.{statement}
 use Rattle.list_printing.proofs.put_index.Tie as tie

@@ -3,7 +3,7 @@
 use native.Mathlib.Omega.{arith}
 use borrow.Author.Rules.{rules}
 use Rattle.rungs.specs.Words.{number_of, operand_of}
-use Rattle.printing.specs.Laws.Puts.{put_then, put_as}
+use Rattle.printing.proofs.Laws.Puts.{put_then, put_as}
 use Rattle.list_printing.proofs.Printed.{name_reach, operand_long, word_op, word_line_lem}
 use Rattle.list_printing.proofs.put_instruction.Statement.{statement}
 use Rattle.list_printing.proofs.put_instruction.Tie as tie

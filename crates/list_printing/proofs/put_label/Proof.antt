@@ -1,7 +1,7 @@
 -- `list_printing::put_label` meets its contract: the letter, the number, the colon and the line's end are written one after the other. Assumes nothing.
 use native.Mathlib.Omega.{arith}
 use Rattle.list_definitions.specs.Listing.{label_line, ended}
-use Rattle.printing.specs.Laws.Puts.{put_then, decimal_long}
+use Rattle.printing.proofs.Laws.Puts.{put_then, decimal_long}
 use borrow.Author.Rules.{rules}
 use Rattle.list_printing.proofs.put_label.Statement.{statement}
 use Rattle.list_printing.proofs.put_label.Tie as tie

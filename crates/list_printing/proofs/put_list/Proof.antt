@@ -4,7 +4,7 @@ use Prim.Native.Nat.{◌-◌}
 use native.Mathlib.Omega.{arith}
 use lib.ListN.{length}
 use Rattle.list_definitions.specs.Names.{most_op, names_in}
-use Rattle.list_definitions.specs.Laws.Names.{name_short}
+use Rattle.list_definitions.proofs.Laws.Names.{name_short}
 use Rattle.list_printing.proofs.Printed.{Listing, listing_start, next_within, next_ready, listing_more, listing_end}
 use Rattle.list_printing.proofs.put_list.Statement.{statement}
 use Rattle.list_printing.proofs.put_list.Tie as tie

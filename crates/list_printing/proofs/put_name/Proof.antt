@@ -4,7 +4,7 @@ use native.Mathlib.Omega.{arith}
 use mathlib.Core.List.{[]}
 use lib.ListN.{get_or}
 use Rattle.list_definitions.specs.Names.{name_of, most_op, names_in}
-use Rattle.list_definitions.specs.Laws.Names.{name_short}
+use Rattle.list_definitions.proofs.Laws.Names.{name_short}
 use Rattle.list_printing.proofs.Printed.{Naming, naming_start, naming_end, table_stop, table_more}
 use Rattle.list_printing.proofs.put_name.Statement.{statement}
 use Rattle.list_printing.proofs.put_name.Tie as tie

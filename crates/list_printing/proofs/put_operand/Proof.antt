@@ -1,7 +1,7 @@
 -- `list_printing::put_operand` meets its contract: the sort of the op says what is written. Assumes nothing.
-use Rattle.printing.specs.Laws.Puts.{put_none, put_as}
+use Rattle.printing.proofs.Laws.Puts.{put_none, put_as}
 use Rattle.list_ops.specs.Sorts.{sort_in}
-use Rattle.list_ops.specs.Laws.Sorts.{sort_told}
+use Rattle.list_ops.proofs.Laws.Sorts.{sort_told}
 use Rattle.list_printing.proofs.Printed.{operand_none, operand_absent, operand_index, operand_timer, operand_variable, operand_scratch}
 use borrow.Author.Rules.{rules}
 use Rattle.list_printing.proofs.put_operand.Statement.{statement}

@@ -3,7 +3,7 @@
 use Prim.Native.Nat.{◌-◌}
 use native.Mathlib.Omega.{arith}
 use Rattle.list_definitions.specs.Names.{most_op, names_in}
-use Rattle.list_definitions.specs.Laws.Names.{name_short}
+use Rattle.list_definitions.proofs.Laws.Names.{name_short}
 use Rattle.list_printing.proofs.Printed.{Printing, printing_start, printing_more, printing_end}
 use Rattle.list_printing.proofs.put_rung.Statement.{statement}
 use Rattle.list_printing.proofs.put_rung.Tie as tie

@@ -6,7 +6,7 @@ use borrow.Author.Rules.{rules}
 use borrow.Author.Tests.{not-true, not-false}
 use lib.ListN.{length, drop}
 use Rattle.questions.specs.Tests.{all}
-use Rattle.questions.specs.Laws.Tests.{all_more, all_fails, all_ends}
+use Rattle.questions.proofs.Laws.Tests.{all_more, all_fails, all_ends}
 use Rattle.list_definitions.specs.Questions.{word_in_range}
 use Rattle.list_questions.proofs.code_in_range.Statement.{statement}
 use Rattle.list_questions.proofs.code_in_range.Tie as tie

@@ -41,7 +41,7 @@ use denote.Triple.Walked.{says, Stays, stay_none, stay_none_slice, gave_slice, w
 use denote.Exit.{yes}
 use Rattle.rows.specs.Rows.{records_of, times_of}
 use Rattle.rows.specs.Parts.{gathered, times_put}
-use Rattle.rows.specs.Laws.Records.{records_length, times_records}
+use Rattle.rows.proofs.Laws.Records.{records_length, times_records}
 use Rattle.rows.specs.declared.Rung.{Rung}
 use Rattle.rows.specs.declared.Rows.{Rows}
 use Rattle.table.specs.TimerRecords.{number_timers}

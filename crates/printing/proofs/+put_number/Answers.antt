@@ -1,6 +1,6 @@
 -- `printing::put_number` meets its contract: its digits but the last, by the same function over the tenth, and then the last.
 use Rattle.std.proofs.Common.{◌/◌, arith}
-use Rattle.printing.specs.Laws.Puts.{decimal_most, number_one, number_more}
+use Rattle.printing.proofs.Laws.Puts.{decimal_most, number_one, number_more}
 use Rattle.printing.proofs.+put_number.Goals as goal
 use Rattle.printing.proofs.+put_number.Goals.{then-n-ge10, else-n-ge10}
 

@@ -4,8 +4,8 @@ use native.Mathlib.Omega.{arith}
 use mathlib.Core.Path.{sym}
 use lib.Seq.{length-take-le}
 use Rattle.program_definitions.specs.Printout.{most_output}
-use Rattle.program_definitions.specs.Theorems.{list_output_short}
-use Rattle.program_definitions.specs.Laws.Outcomes.{placed_within}
+use Rattle.program_definitions.proofs.Theorems.{list_output_short}
+use Rattle.program_definitions.proofs.Laws.Outcomes.{placed_within}
 use borrow.Author.Rules.{rules}
 use Rattle.program_ladder_list.proofs.print.Statement.{statement}
 use Rattle.program_ladder_list.proofs.print.Tie as tie

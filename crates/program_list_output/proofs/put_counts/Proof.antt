@@ -2,7 +2,7 @@
 use Prim.Native.Nat.{◌≤◌}
 use native.Mathlib.Omega.{arith}
 use Rattle.questions.specs.Bytes.{bytes}
-use Rattle.printing.specs.Laws.Puts.{text_reach, number_reach}
+use Rattle.printing.proofs.Laws.Puts.{text_reach, number_reach}
 use Rattle.program_list_output.proofs.Counts.{counts_put}
 use borrow.Author.Rules.{rules}
 use Rattle.program_list_output.proofs.put_counts.Statement.{statement}

@@ -1,5 +1,5 @@
 -- `program_refusals::finish` meets its contract: what was placed stands, and a refusal's line is put. Assumes nothing.
-use Rattle.program_definitions.specs.Laws.Outcomes.{finish_placed, finish_refused}
+use Rattle.program_definitions.proofs.Laws.Outcomes.{finish_placed, finish_refused}
 use borrow.Author.Rules.{rules}
 use Rattle.program_refusals.proofs.finish.Statement.{statement}
 use Rattle.program_refusals.proofs.finish.Tie as tie

@@ -4,7 +4,7 @@ use native.Mathlib.Omega.{arith}
 use borrow.Author.Tests.{not-true, not-false}
 use Rattle.questions.specs.Bytes.{bytes}
 use Rattle.program_definitions.specs.Refusals.{line_ends_text}
-use Rattle.printing.specs.Laws.Puts.{text_reach}
+use Rattle.printing.proofs.Laws.Puts.{text_reach}
 use Rattle.program_refusals.proofs.Lines.{name_reach, explanation_long, errors_plain, errors_crlf}
 use borrow.Author.Rules.{rules}
 use Rattle.program_refusals.proofs.put_errors.Statement.{statement}

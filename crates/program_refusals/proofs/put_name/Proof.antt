@@ -1,6 +1,6 @@
 -- `program_refusals::put_name` meets its contract: the name, and a colon. Assumes nothing.
 use Rattle.questions.specs.Bytes.{bytes}
-use Rattle.printing.specs.Laws.Puts.{put_then}
+use Rattle.printing.proofs.Laws.Puts.{put_then}
 use borrow.Author.Rules.{rules}
 use Rattle.program_refusals.proofs.put_name.Statement.{statement}
 use Rattle.program_refusals.proofs.put_name.Tie as tie

@@ -1,8 +1,8 @@
 -- `program_refusals::put_placed` meets its contract: its three parts, one after the other. Assumes nothing.
 use Prim.Native.Nat.{◌≤◌}
 use native.Mathlib.Omega.{arith}
-use Rattle.printing.specs.Laws.Puts.{put_then}
-use Rattle.printing.specs.Laws.Puts.{text_reach, number_reach}
+use Rattle.printing.proofs.Laws.Puts.{put_then}
+use Rattle.printing.proofs.Laws.Puts.{text_reach, number_reach}
 use borrow.Author.Rules.{rules}
 use Rattle.program_refusals.proofs.put_placed.Statement.{statement}
 use Rattle.program_refusals.proofs.put_placed.Tie as tie

@@ -3,7 +3,7 @@ use Prim.Native.Nat.{◌≤◌}
 use native.Mathlib.Omega.{arith}
 use mathlib.Core.Path.{sym}
 use lib.Seq.{length-take-le}
-use Rattle.program_definitions.specs.Laws.Outcomes.{refusal_done, same_done}
+use Rattle.program_definitions.proofs.Laws.Outcomes.{refusal_done, same_done}
 use Rattle.program_scan_output.proofs.Scans.{read_room, read_refused_lem, read_kept, report_within}
 use borrow.Author.Rules.{rules}
 use Rattle.program_scan_output.proofs.report.Statement.{statement}

@@ -6,7 +6,7 @@ use mathlib.Core.Path.{◌≡◌, sym, ◌∙◌}
 use mathlib.Core.List.{List, ◌++◌}
 use lib.ListN.{length, take, drop}
 use lib.Seq.{length-take-le}
-use Rattle.program_definitions.specs.Laws.Outcomes.{text_done, refusal_done}
+use Rattle.program_definitions.proofs.Laws.Outcomes.{text_done, refusal_done}
 use Rattle.program_scan_output.proofs.Scans.{zeros, zeros_long, back_room, back_same, Copies}
 use Rattle.program_scan_output.proofs.Scans.{scans_vars, scans_timers, scans_room, scans_refused_lem, scans_reported}
 use borrow.Author.Rules.{rules}

@@ -2,7 +2,7 @@
 use mathlib.Core.Path.{refl, sym}
 use native.Mathlib.Omega.{arith}
 use lib.Seq.{length-take-le}
-use Rattle.program_definitions.specs.Laws.Outcomes.{same_done}
+use Rattle.program_definitions.proofs.Laws.Outcomes.{same_done}
 use Rattle.program_scan_output.proofs.Runs.{rest_same}
 use borrow.Author.Rules.{rules}
 use Rattle.program_scan_output.proofs.report_rest.Statement.{statement}

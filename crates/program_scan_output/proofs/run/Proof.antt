@@ -3,7 +3,7 @@ use mathlib.Core.Path.{refl, sym}
 use native.Mathlib.Omega.{arith}
 use lib.Seq.{length-take-le}
 use Rattle.program_scan_lines.proofs.Lines.{bytes_room}
-use Rattle.program_definitions.specs.Laws.Outcomes.{same_done}
+use Rattle.program_definitions.proofs.Laws.Outcomes.{same_done}
 use Rattle.program_scan_output.proofs.Runs.{run_same}
 use borrow.Author.Rules.{rules}
 use Rattle.program_scan_output.proofs.run.Statement.{statement}

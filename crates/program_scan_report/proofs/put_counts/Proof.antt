@@ -3,9 +3,9 @@ use Prim.Native.Nat.{◌≤◌}
 use native.Mathlib.Omega.{arith}
 use Rattle.questions.specs.Bytes.{bytes}
 use Rattle.list_definitions.specs.ListScan.{counts_in}
-use Rattle.printing.specs.Laws.Puts.{put_long, text_reach, number_reach}
+use Rattle.printing.proofs.Laws.Puts.{put_long, text_reach, number_reach}
 use Rattle.translation_definitions.specs.BothScans.{ends_in}
-use Rattle.program_definitions.specs.Laws.Bounds.{Fitting}
+use Rattle.program_definitions.proofs.Laws.Bounds.{Fitting}
 use Rattle.program_scan_report.proofs.Printing.{counts_put}
 use borrow.Author.Rules.{rules}
 use Rattle.program_scan_report.proofs.put_counts.Statement.{statement}

@@ -2,9 +2,9 @@
 use Prim.Native.Nat.{◌≤◌}
 use native.Mathlib.Omega.{arith}
 use Rattle.questions.specs.Bytes.{bytes}
-use Rattle.printing.specs.Laws.Puts.{text_reach}
+use Rattle.printing.proofs.Laws.Puts.{text_reach}
 use Rattle.translation_definitions.specs.BothScans.{ends_in}
-use Rattle.program_definitions.specs.Laws.Bounds.{word_short}
+use Rattle.program_definitions.proofs.Laws.Bounds.{word_short}
 use Rattle.program_scan_report.proofs.Printing.{ends_put}
 use borrow.Author.Rules.{rules}
 use Rattle.program_scan_report.proofs.put_ends.Statement.{statement}

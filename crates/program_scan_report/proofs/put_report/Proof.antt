@@ -3,7 +3,7 @@
 use Prim.Native.Nat.{◌≤◌}
 use native.Mathlib.Omega.{arith}
 use Rattle.list_definitions.specs.ListScan.{counts_in}
-use Rattle.printing.specs.Laws.Puts.{put_then}
+use Rattle.printing.proofs.Laws.Puts.{put_then}
 use Rattle.translation_definitions.specs.BothScans.{ends_in}
 use Rattle.program_definitions.specs.Scanout.{report_of}
 use Rattle.program_scan_report.proofs.Printing.{ends_reach, changed_reach, verdict_put}

@@ -2,7 +2,7 @@
 use Prim.Native.Nat.{◌*◌, ◌≤◌}
 use native.Mathlib.Omega.{arith}
 use Rattle.questions.specs.Bytes.{bytes}
-use Rattle.printing.specs.Laws.Puts.{text_reach, number_reach}
+use Rattle.printing.proofs.Laws.Puts.{text_reach, number_reach}
 use Rattle.timers.specs.Parts.{timer_at}
 use Rattle.program_scan_timers.proofs.Timers.{line_put, change_reach, small_fits}
 use borrow.Author.Rules.{rules}

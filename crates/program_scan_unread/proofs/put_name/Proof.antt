@@ -1,7 +1,7 @@
 -- `program_scan_unread::put_name` meets its contract. Assumes nothing.
 use native.Mathlib.Omega.{arith}
 use Rattle.questions.specs.Bytes.{bytes}
-use Rattle.printing.specs.Laws.Puts.{put_then}
+use Rattle.printing.proofs.Laws.Puts.{put_then}
 use borrow.Author.Rules.{rules}
 use Rattle.program_scan_unread.proofs.put_name.Statement.{statement}
 use Rattle.program_scan_unread.proofs.put_name.Tie as tie

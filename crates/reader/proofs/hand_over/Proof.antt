@@ -2,8 +2,8 @@
 use mathlib.Core.Path.{◌∙◌}
 use native.Mathlib.Omega.{arith}
 use borrow.Author.Rules.{rules}
-use Rattle.questions.specs.Laws.Answers.{verdict_refused, verdict_accepted}
-use Rattle.rungs.specs.Laws.Filling.{written_sets, written_all, short_words, short_labels, short_offsets, short_lengths}
+use Rattle.questions.proofs.Laws.Answers.{verdict_refused, verdict_accepted}
+use Rattle.rungs.proofs.Laws.Filling.{written_sets, written_all, short_words, short_labels, short_offsets, short_lengths}
 use Rattle.reader.proofs.Answers.{over_refused, over_short, over_times, over_written}
 use Rattle.reader.proofs.hand_over.Statement.{statement}
 use Rattle.reader.proofs.hand_over.Tie as tie

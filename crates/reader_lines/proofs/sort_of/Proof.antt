@@ -3,7 +3,7 @@ use borrow.Author.Rules.{rules}
 use mathlib.Core.Path.{ap}
 use Rattle.list_definitions.specs.Instruction.{sort_number}
 use Rattle.list_ops.specs.Sorts.{sort_in}
-use Rattle.list_ops.specs.Laws.Sorts.{sort_told}
+use Rattle.list_ops.proofs.Laws.Sorts.{sort_told}
 use Rattle.reader_lines.proofs.sort_of.Statement.{statement}
 use Rattle.reader_lines.proofs.sort_of.Tie as tie
 

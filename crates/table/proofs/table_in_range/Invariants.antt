@@ -7,7 +7,7 @@ use borrow.Author.Tests.{eq-eqb, ne_eqb, le-leb, lt-leb}
 use lib.Dec.{eqb}
 use lib.ListN.{length, drop}
 use Rattle.questions.specs.Tests.{all}
-use Rattle.questions.specs.Laws.Tests.{all_more, all_fails, all_ends}
+use Rattle.questions.proofs.Laws.Tests.{all_more, all_fails, all_ends}
 use Rattle.table.specs.State.{scratch_bytes}
 use Rattle.table.specs.Questions.{is_bit, table_in_range}
 use Rattle.table.proofs.table_in_range.Given as goal

@@ -3,7 +3,7 @@ use mathlib.Core.Path.{sym}
 use mathlib.Core.Bool.{xor}
 use native.Mathlib.Omega.{arith}
 use borrow.Author.Rules.{rules}
-use Rattle.table.specs.Laws.Moved.{turns_one, turns_same, turns_none}
+use Rattle.table.proofs.Laws.Moved.{turns_one, turns_same, turns_none}
 use Rattle.table.proofs.turned.Goals as goal
 
 pub returns-then-value-b : goal.returns-then-value-b

@@ -3,7 +3,7 @@ use mathlib.Core.Path.{refl}
 use native.Mathlib.Omega.{arith}
 use lib.Seq.{set_out}
 use borrow.Author.Rules.{rules}
-use Rattle.questions.specs.Laws.Tests.{bit_few}
+use Rattle.questions.proofs.Laws.Tests.{bit_few}
 use Rattle.table.specs.State.{written_at, turns, write}
 use Rattle.table.proofs.write.Goals as goal
 

@@ -1,9 +1,9 @@
 -- `text::hand_over` meets its contract: questions 4 to 9 by `ladder_answer`, question 13 buffer by buffer, and then five copies. Assumes nothing.
 use mathlib.Core.Path.{◌∙◌}
-use Rattle.questions.specs.Laws.Answers.{verdict_refused, verdict_accepted}
+use Rattle.questions.proofs.Laws.Answers.{verdict_refused, verdict_accepted}
 use native.Mathlib.Omega.{arith}
 use Rattle.text.proofs.Answers.{over_refused, over_short, over_kept}
-use Rattle.rungs.specs.Laws.Filling.{written_sets, written_all, short_words, short_labels, short_offsets, short_lengths, short_times, enough}
+use Rattle.rungs.proofs.Laws.Filling.{written_sets, written_all, short_words, short_labels, short_offsets, short_lengths, short_times, enough}
 use borrow.Author.Rules.{rules}
 use Rattle.text.proofs.hand_over.Statement.{statement}
 use Rattle.text.proofs.hand_over.Tie as tie

@@ -4,7 +4,7 @@ use mathlib.Core.Path.{sym, ◌∙◌}
 use borrow.Author.Rules.{rules}
 use native.Mathlib.Omega.{arith}
 use lib.ListN.{length}
-use Rattle.text_grammar.specs.Laws.Spans.{inside}
+use Rattle.text_grammar.proofs.Laws.Spans.{inside}
 use Rattle.text_grammar.specs.Reader.{factor_of, branch_by, branch_of, end_of, rear_by, rear_of}
 use Rattle.text_fronts.proofs.Parts.{found, renamed, closed, not_closed, inner_stuck}
 use Rattle.text_rears.proofs.Letters.{letter_requires}

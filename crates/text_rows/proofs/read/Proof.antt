@@ -43,7 +43,7 @@ use Rattle.rungs.specs.Records.{none_entered}
 use Rattle.rungs.specs.Buffers.{as_buffers, written}
 use Rattle.rows.specs.Rows.{records_of, times_of}
 use Rattle.rows.specs.Parts.{scattered}
-use Rattle.rows.specs.Laws.Records.{records_length, times_records}
+use Rattle.rows.proofs.Laws.Records.{records_length, times_records}
 use Rattle.rows.specs.declared.Rung.{Rung}
 use Rattle.rows.specs.declared.Rows.{Rows}
 use Rattle.text_definitions.specs.Read.{read_text, ReadDone}

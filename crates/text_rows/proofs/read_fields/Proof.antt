@@ -1,7 +1,7 @@
 -- `text_rows::read_fields` meets its contract: Read's promise on a copy of the fields is the promise on the row. Assumes nothing.
 use mathlib.Core.Path.{sym, ◌∙◌}
 use lib.Seq.{length-take-le}
-use Rattle.rows.specs.Laws.Written.{room_few}
+use Rattle.rows.proofs.Laws.Written.{room_few}
 use Rattle.text_rows.proofs.Answers.{read_refused_lem, read_kept}
 use borrow.Author.Rules.{rules}
 use Rattle.text_rows.proofs.read_fields.Statement.{statement}

@@ -1,6 +1,6 @@
 -- `translation::translate` meets its contract: questions 1 and 4 to 9 by `ladder_answer`, what the list takes, question 13 buffer by buffer, and then the list. Assumes nothing.
 use mathlib.Core.Path.{refl}
-use Rattle.questions.specs.Laws.Answers.{verdict_refused, verdict_accepted}
+use Rattle.questions.proofs.Laws.Answers.{verdict_refused, verdict_accepted}
 use Rattle.translation.proofs.Answers.{translate_refused_lem, ready, short_of_code, short_of_labels, short_of_offsets, short_of_lengths, short_of_times, translate_done}
 use borrow.Author.Rules.{rules}
 use Rattle.translation.proofs.translate.Statement.{statement}

@@ -4,7 +4,7 @@ use Prim.Native.Nat.{ℕ, ◌+◌, ◌-◌, ◌*◌, ◌<◌}
 use native.Mathlib.Omega.{arith}
 use mathlib.Core.Path.{◌∙◌}
 use lib.ListN.{length}
-use Rattle.ladder_definitions.specs.Laws.Trees.{inside}
+use Rattle.ladder_definitions.proofs.Laws.Trees.{inside}
 use Rattle.translation_code.proofs.Fronts.{front_contact, front_contactn, front_and_lem, front_or_lem, front_none, join_contact, join_contactn, join_through}
 use borrow.Fn.Kinds.{In}
 use borrow.Fn.PlainCycle.{Measures, is, falls, and}

@@ -5,7 +5,7 @@ use native.Mathlib.Omega.{arith}
 use mathlib.Core.Path.{ap}
 use lib.ListN.{length}
 use borrow.Author.Rules.{rules}
-use Rattle.ladder_definitions.specs.Laws.Trees.{starts_rear}
+use Rattle.ladder_definitions.proofs.Laws.Trees.{starts_rear}
 use Rattle.ladder_kinds.specs.Kinds.{sort_in}
 use Rattle.ladder_kinds.proofs.Arms.{told, not_rear}
 use Rattle.translation_code.proofs.Rears.{rear_inside, room_and, room_or, rear_output, rear_and_lem, rear_or_lem, rear_none}

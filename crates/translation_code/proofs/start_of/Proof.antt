@@ -1,6 +1,6 @@
 -- `translation_code::start_of` meets its contract. Assumes nothing.
 use native.Mathlib.Omega.{arith}
-use Rattle.rungs.specs.Laws.Search.{ends_at}
+use Rattle.rungs.proofs.Laws.Search.{ends_at}
 use Rattle.translation_code.proofs.Fronts.{start_read, start_none}
 use Rattle.translation_code.proofs.start_of.Statement.{statement}
 use Rattle.translation_code.proofs.start_of.Tie as tie

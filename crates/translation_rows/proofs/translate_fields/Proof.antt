@@ -2,7 +2,7 @@
 use mathlib.Core.Path.{sym, ◌∙◌}
 use lib.Seq.{length-take-le}
 use Rattle.rows.proofs.Fields.{within}
-use Rattle.rows.specs.Laws.Written.{room_few}
+use Rattle.rows.proofs.Laws.Written.{room_few}
 use Rattle.translation_rows.proofs.Answers.{long_refused, fields_done}
 use borrow.Author.Rules.{rules}
 use Rattle.translation_rows.proofs.translate_fields.Statement.{statement}
