@@ -1,5 +1,4 @@
 -- The sort of each case of the enum OperandSort. Assumes nothing.
-use Rattle.std.specs.Prelude.{[], ◌∷◌}
 use Rattle.list_definitions.specs.Instruction.{OperandSort, table_sort, nothing_sort, instruction_sort, timer_sort, no_sort}
 use Rattle.list_ops.specs.declared.OperandSort.{OperandSort as OperandSortCase}
 use Rattle.list_ops.specs.declared.OperandSort.TheVariants.{Table, Nothing, Instruction, Timer, NoOp}
