@@ -1,9 +1,9 @@
 // Standard input byte by byte, through a chunk that the caller lends.
 #![tactic(auto)]
 
-ghost use Rattle.std.specs.Prelude.{◌≤◌};
+ghost use Rattle.std.specs.Prelude.{◌≤◌, length};
 
-use libc::STDIN_FILENO;
+use std::io::{Read, Stdin};
 
 // No byte: the input's end, or a read that failed.
 pub const END: u32 = 256;
@@ -59,26 +59,30 @@ pub fn wide(byte: u8) -> u32 {
     byte as u32
 }
 
-// What a read's answer says of the input: it goes on, it is at its end, or the read failed.
-fn over_after(got: isize) -> u32 {
-    if got < 0 {
-        return FAILED;
-    }
+// What a read of so many bytes says of the input: it goes on, or it is at its end.
+fn over_after(got: usize) -> u32 {
     if got == 0 {
         return END;
     }
     0
 }
 
-// A read into the chunk.
-fn refill(chunk: &mut [u8], reading: Reading) -> Reading {
-    let got = libc::read(STDIN_FILENO, chunk);
+// The chunk holds so many bytes anew.
+fn filled(reading: Reading, end: usize, over: u32) -> Reading {
     Reading {
         at: 0,
-        end: io::count(got, chunk),
-        over: over_after(got),
+        end,
+        over,
         last: reading.last,
         crlf: reading.crlf,
+    }
+}
+
+// A read into the chunk.
+fn refill(mut stdin: Stdin, chunk: &mut [u8], reading: Reading) -> Reading {
+    match stdin.read(chunk) {
+        Ok(got) => filled(reading, got, over_after(got)),
+        Err(_) => filled(reading, 0, FAILED),
     }
 }
 
@@ -116,25 +120,25 @@ fn take(chunk: &[u8], reading: Reading) -> Taken {
 }
 
 // The next byte; a chunk that is used up is filled again, but not after the last read.
-pub fn next_byte(chunk: &mut [u8], reading: Reading) -> Taken {
+pub fn next_byte(stdin: Stdin, chunk: &mut [u8], reading: Reading) -> Taken {
     if reading.at < reading.end {
         return take(chunk, reading);
     }
     if 0 < reading.over {
         return none_left(reading);
     }
-    let filled = refill(chunk, reading);
-    take(chunk, filled)
+    let refilled = refill(stdin, chunk, reading);
+    take(chunk, refilled)
 }
 
 // Keeps the bytes that follow, as many as there is room for.
-pub fn keep_text(chunk: &mut [u8], from: Reading, text: &mut [u8]) -> TextKept
-    ensures* { do ⌜ result.kept ≤ (← (⟦text.len()⟧).entry) ⌝ }
+pub fn keep_text(stdin: Stdin, chunk: &mut [u8], from: Reading, text: &mut [u8]) -> TextKept
+    ensures { result.kept ≤ length text.old }
 {
     let mut reading = from;
     let mut kept: usize = 0;
     while kept < text.len() {
-        let taken = next_byte(chunk, reading);
+        let taken = next_byte(stdin, chunk, reading);
         reading = taken.reading;
         let byte = taken.byte;
         if 255 < byte {
