@@ -3,7 +3,7 @@ use Prim.Native.Nat.{ℕ, ◌+◌, ◌≤◌, ◌<◌}
 use native.Mathlib.Numerals.{add-one}
 use native.Mathlib.Omega.{arith}
 use mathlib.Core.Path.{◌≡◌, refl, sym, ap, ◌∙◌}
-use mathlib.Core.Bool.{Bool, true, false, ◌&&◌, and-false, and_true}
+use mathlib.Core.Bool.{Bool, true, false, ◌&&◌, and-false, and-true}
 use mathlib.Core.List.{List, [], ◌∷◌}
 use lib.Dec.{eqb, leb, ltb}
 use lib.ListN.{length, get_or, drop, drop_of_length-le}
@@ -58,7 +58,7 @@ LaidAlike end ls os ns = (start : ℕ) → (laid start end (fields_of ls os ns) 
 
 nil_laid : (end : ℕ) → LaidAlike end [] [] []
 unfolding LaidAlike laid all laid_pairs
-nil_laid end start = rw row_nil (and_true (eqb start end))
+nil_laid end start = rw row_nil (and-true (eqb start end))
 
 cons_laid : (end l o n : ℕ) (ls os ns : List ℕ) → Even (l ∷ ls) (o ∷ os) (n ∷ ns) → Even ls os ns → LaidAlike end ls os ns → LaidAlike end (l ∷ ls) (o ∷ os) (n ∷ ns)
 unfolding LaidAlike laid all laid_pairs

@@ -3,7 +3,7 @@ use Prim.Native.Nat.{ℕ, ◌+◌, ◌-◌, ◌≤◌, ◌<◌}
 use native.Mathlib.Omega.{arith}
 use native.Mathlib.Decide.{dec_lt}
 use mathlib.Core.Path.{◌≡◌, refl, sym, ap, ◌∙◌}
-use mathlib.Core.Bool.{Bool, true, false, not, ◌&&◌, ◌||◌, and_true}
+use mathlib.Core.Bool.{Bool, true, false, not, ◌&&◌, ◌||◌, and-true}
 use mathlib.Core.Option.{Option, none, some}
 use mathlib.Core.List.{List, [], ◌∷◌}
 use lib.Dec.{T, leb, ltb}
@@ -112,5 +112,5 @@ module _ {last : ℕ} {ws : List ℕ} {unknown : Bool} {i : ℕ} (h : Asking las
 
   pub asking_end : (records : ℕ) → last ≡ last_known records → length ws ≤ i → TimersAsked ws records (not unknown)
   asking_end records e l =
-      let none_left : (not unknown && all (λ w. leb w last) (drop i ws)) ≡ not unknown = rw (all_ends (λ w. leb w last) ws i l) (and_true (not unknown)) in
+      let none_left : (not unknown && all (λ w. leb w last) (drop i ws)) ≡ not unknown = rw (all_ends (λ w. leb w last) ws i l) (and-true (not unknown)) in
       record { same = λ is d. sym none_left ∙ (h.same ∙ (ap (λ m. all (λ w. leb w m) ws) e ∙ words_timed records ws is d)) }
