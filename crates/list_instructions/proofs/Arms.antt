@@ -1,5 +1,5 @@
 -- Laws of one instruction: what a word's op makes of its operand. Assumes nothing.
-use Prim.Native.Nat.{ℕ, zero, suc, ◌+◌, ◌-◌, ◌≤◌, ◌<◌}
+use Prim.Native.Nat.{ℕ, zero, suc, ◌+◌, ◌≤◌, ◌<◌}
 use native.Mathlib.Omega.{arith}
 use native.Mathlib.Decide.{dec_le}
 use mathlib.Core.Path.{◌≡◌, refl, sym, ap, ◌∙◌}
@@ -15,7 +15,6 @@ use Rattle.table.specs.Parts.{TableChanged}
 use Rattle.timers.specs.Parts.{StateChanged}
 use Rattle.timers.proofs.Laws.Kept.{timer_few}
 use Rattle.rungs.specs.Words.{number_of, operand_of}
-use Rattle.rungs.proofs.Laws.Numbers.{none_to, past_all}
 use Rattle.list_definitions.specs.Instruction.{Instr, NOT, no_op, only_not, ops, decode_instr}
 use Rattle.list_definitions.specs.Machine.{does}
 use Rattle.list_instructions.specs.Parts.{Did}
@@ -64,12 +63,10 @@ module _ {w : ℕ} {v : Bool} {straight : ℕ} {s : State} {r : Effect} {u : ℕ
       is_not i (suc x) p = absurd (none_some p)
 
   -- no instruction has another op
-  pub arm_other : none_to (number_of w) (length ops - 1) → {a : Bool} {j : ℕ} → r ≡ record { accumulator = a; index = j; moved = s.moved } → Did w v straight s r u
+  pub arm_other : (1 ≤ number_of w → number_of w < length ops → ⊥) → {a : Bool} {j : ℕ} → r ≡ record { accumulator = a; index = j; moved = s.moved } → Did w v straight s r u
   arm_other differs f = record {
     same = λ i d pc q.
-        let known = op_known w i d in
-        let past = past_all (number_of w) (length ops - 1) differs known.0 in
-        absurd (omega arith);
+        let known = op_known w i d in absurd (differs known.0 known.1);
     few = rw f (omega arith);
   }
 

@@ -3,11 +3,10 @@ use mathlib.Core.Path.{refl}
 use mathlib.Core.Bool.{xor}
 use Rattle.table.specs.State.{value_at, value}
 use Rattle.table.proofs.Laws.Moved.{sum_few, sum_if_few}
-use Rattle.rungs.proofs.Laws.Numbers.{none_to}
+use native.Mathlib.Omega.{arith}
 use Rattle.list_definitions.specs.Instruction.{LD, LDN, ST, STN, AND, ANDN, OR, ORN, XOR, XORN, JMP, JMPC, JMPCN, S, R, TON, ops}
 use Rattle.list_definitions.specs.Machine.{does}
 use Rattle.list_instructions.proofs.Arms.{arm, arm_keeps, arm_writes, ran_few, arm_not, arm_other}
-use borrow.Author.Rules.{rules}
 use Rattle.list_instructions.proofs.carry_out.Goals as goal
 
 pub value-requires : goal.value-requires
@@ -162,5 +161,5 @@ unfolding ops does
 returns-in-17 c = let ran = c.run_timer-sum.ensures in arm c.in-17.is TON refl c.after-in-17.ensures (ran_few _ _ _ _ _ _ _ _ _ _ ran) (λ pc q. rw (ran.same, q))
 
 pub returns-in_default : goal.returns-in_default
-unfolding ops none_to
-returns-in_default c = let h = c.in_default in ?
+unfolding ops
+returns-in_default c = arm_other (λ l h. omega arith) c.after-in_default.ensures
