@@ -1,20 +1,15 @@
--- What a `Rows` by value says of its arrays: each has 256 entries, as its type says, so as many as are kept of 256 or fewer records lie within it. Assumes nothing.
-use Prim.Native.Nat.{◌≤◌}
+-- What a `Rows` by value says of its arrays: each has 256 entries, as its type says.
 use native.Mathlib.Omega.{arith}
 use mathlib.Core.List.{List}
-use lib.ListN.{length, length-map}
+use lib.ListN.{length-map}
 use mir.Val.{Val}
 use denote.Laws.{Is}
 use Rattle.rows.specs.declared.Rows.{Rows}
 use Rattle.rows.specs.contracts.Rows as R
+use Rattle.rows.proofs.Scatters.{Full}
 
-pub record Within (rows : Rows) : Type 0 where
-  pub labels : rows.n ≤ length rows.labels
-  pub offsets : rows.n ≤ length rows.offsets
-  pub lengths : rows.n ≤ length rows.lengths
-
-pub within : (rows : Rows) (vs : List Val) → Is R.the_row rows vs → rows.n ≤ 256 → Within rows
-within rows vs is h =
+pub full : (rows : Rows) (vs : List Val) → Is R.the_row rows vs → Full rows
+full rows vs is =
     let a = length-map rows.labels (λ x. x) in
     let b = length-map rows.offsets (λ x. x) in
     let d = length-map rows.lengths (λ x. x) in

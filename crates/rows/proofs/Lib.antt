@@ -1,9 +1,7 @@
 -- Laws that the proofs of this crate's functions cite.
 pub mod Searches
 pub mod Gathers
-pub mod Arrays
-pub mod Loans
 pub mod Scatters
-pub mod Times
 pub mod Fields
+pub mod Times
 pub mod Laws

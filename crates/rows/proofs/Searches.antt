@@ -5,7 +5,7 @@ use native.Mathlib.Omega.{arith}
 use mathlib.Core.Bool.{Bool, true, false}
 use mathlib.Core.Path.{◌≡◌, refl, ap, sym, ◌∙◌}
 use mathlib.Core.List.{List}
-use lib.Dec.{ltb}
+use lib.Dec.{ltb, eqb}
 use lib.ListN.{length, get_or}
 use borrow.Author.Tests.{ltb-true, ltb-false, lt-ltb, le-ltb, eq-eqb, ne_eqb}
 use Rattle.rungs.specs.Records.{RungRecord, labels, search, look_up}
@@ -27,6 +27,15 @@ module _ (found i : ℕ) (r : RungRecord) (l : ℕ) where
   unfolding next_found
   next_later e = sym (ap (λ (t : Bool). elim t [ true ↦ i | false ↦ found ]) (ne_eqb r.label l e))
 
+  -- it ends at the record or where it would have ended
+  pub next_within : i < found → next_found found i r l ≤ found
+  unfolding next_found
+  next_within h = go (eqb r.label l)
+    where
+      go : (t : Bool) → elim t [ true ↦ i | false ↦ found ] ≤ found
+      go true = omega arith
+      go false = omega arith
+
 module _ (found looked n : ℕ) where
   pub told_found : found < n → Found found looked ≡ search_told found looked n
   unfolding search_told
@@ -47,10 +56,9 @@ unfoldable pub found : ℕ → ℕ → List Rung → ℕ
 found l i row = ended (ltb (search l (labels (records_of row))) i) (search l (labels (records_of row))) (length row)
 
 -- how many records have been looked at: none after the match
-pub record Looked (l : ℕ) (row : List Rung) : Type 0 where
-  pub at : ℕ
-  pub within : at ≤ length row
-  pub upto : at ≤ search l (labels (records_of row)) + 1
+pub record Looked (l : ℕ) (row : List Rung) (i : ℕ) : Type 0 where
+  pub within : i ≤ length row
+  pub upto : i ≤ search l (labels (records_of row)) + 1
 
 by_place : {P : Type 0} (a b : ℕ) → (a < b → P) → (b ≤ a → P) → P
 by_place {P} a b f g = go (ltb a b) refl
@@ -104,30 +112,30 @@ module _ (l : ℕ) (row : List Rung) where
           later (yes d) = absurd (e (sym (labels_at row i) ∙ ap (λ (k : ℕ). get_or ls k 0) (sym d) ∙ search_at l ls (let q = labels_length row in omega arith)))
           later (no d) = omega arith
 
-  unfoldable pub looked_none : Looked l row
-  looked_none = record { at = 0; within = omega arith; upto = omega arith }
+  pub looked_none : Looked l row 0
+  looked_none = record { within = omega arith; upto = omega arith }
 
-  module _ (i : Looked l row) where
-    unfoldable pub looked_next : i.at < found l i.at row → Looked l row
-    looked_next h =
-        let n = found_within i.at in
-        let u = unseen_yet i.at h in
-        record { at = i.at + 1; within = omega arith; upto = omega arith }
+  module _ (i : ℕ) (h : Looked l row i) where
+    pub looked_next : i < found l i row → Looked l row (i + 1)
+    looked_next less =
+        let n = found_within i in
+        let u = unseen_yet i less in
+        record { within = omega arith; upto = omega arith }
 
-    pub found_end : found l i.at row ≤ i.at → search_told (found l i.at row) i.at (length row) ≡ look_up l ls
-    found_end over = by_place end i.at there none
+    pub found_end : found l i row ≤ i → search_told (found l i row) i (length row) ≡ look_up l ls
+    found_end over = by_place end i there none
       where
-        there : end < i.at → search_told (found l i.at row) i.at (length row) ≡ look_up l ls
+        there : end < i → search_told (found l i row) i (length row) ≡ look_up l ls
         there seen =
-            let place : found l i.at row ≡ end = found_seen i.at seen in
-            let looked : i.at ≡ end + 1 = omega (arith, i.upto) in
+            let place : found l i row ≡ end = found_seen i seen in
+            let looked : i ≡ end + 1 = omega (arith, h.upto) in
             let q = labels_length row in
-            rw (place, looked) (sym (told_found end (end + 1) (length row) (omega (arith, i.within))) ∙ sym (look_found l ls (omega (arith, i.within))))
+            rw (place, looked) (sym (told_found end (end + 1) (length row) (omega (arith, h.within))) ∙ sym (look_found l ls (omega (arith, h.within))))
 
-        none : i.at ≤ end → search_told (found l i.at row) i.at (length row) ≡ look_up l ls
+        none : i ≤ end → search_told (found l i row) i (length row) ≡ look_up l ls
         none unseen =
-            let place : found l i.at row ≡ length row = found_unseen i.at unseen in
-            let looked : i.at ≡ length row = omega (arith, i.within) in
+            let place : found l i row ≡ length row = found_unseen i unseen in
+            let looked : i ≡ length row = omega (arith, h.within) in
             let q = labels_length row in
             let n = end_within in
             rw (place, looked) (sym (told_missing (length row) (length row) (length row) (omega arith)) ∙ ap (λ (k : ℕ). Missing k) (sym q) ∙ sym (look_missing l ls (omega arith)))

@@ -21,7 +21,7 @@ pub struct Rung {
 
 // The fields of a row's first records, no more than question 5 and question 10 take: `n` were lent, `kept` of them stand here. Times are
 // not gathered (02, Req 04: "Any value is taken").
-#[derive(Drop)]
+#[derive(Clone, Copy)]
 pub struct Rows {
     pub labels: [u16; MOST_RECORDS],
     pub offsets: [u32; MOST_RECORDS],

@@ -1,5 +1,4 @@
 -- `rows::next_found` meets its contract. One law for each return. Assumes nothing.
-use borrow.Author.Rules.{rules}
 use Rattle.rows.proofs.Searches.{next_here, next_later}
 use Rattle.rows.proofs.next_found.Goals as goal
 
