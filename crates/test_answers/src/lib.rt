@@ -2,6 +2,7 @@
 // number of times, on a fresh copy of what it changes. A malformed or oversized request ends the answers with a line that says so.
 #![tactic(auto)]
 
+use std::io::{Stdin, Stdout};
 use test_requests::{State, input};
 
 mod lists;
@@ -11,9 +12,16 @@ mod texts;
 mod translations;
 
 // One request: `turns` times its call, and the last answer.
-fn request(chunk: &mut [u8], room: &mut [u8], state: State, turns: u32) -> State {
+fn request(
+    stdin: Stdin,
+    chunk: &mut [u8],
+    stdout: Stdout,
+    room: &mut [u8],
+    state: State,
+    turns: u32,
+) -> State {
     let placed = state.placed;
-    let kind = input::number(chunk, state.input);
+    let kind = input::number(stdin, chunk, state.input);
     if kind.stop == input::NONE {
         return State {
             input: kind,
@@ -22,29 +30,29 @@ fn request(chunk: &mut [u8], room: &mut [u8], state: State, turns: u32) -> State
     }
     let number = kind.value;
     match number {
-        1 => texts::read_request(chunk, room, kind, placed, turns),
-        2 => translations::translate_request(chunk, room, kind, placed, turns),
-        3 => test_scan_answers::scan_request(chunk, room, kind, placed, turns),
-        4 => test_scan_answers::scan_request(chunk, room, kind, placed, turns),
-        5 => lists::listing_request(chunk, room, kind, placed, turns),
-        6 => searches::search_request(chunk, room, kind, placed, turns),
-        7 => readings::read_request(chunk, room, kind, placed, turns),
+        1 => texts::read_request(stdin, chunk, stdout, room, kind, placed, turns),
+        2 => translations::translate_request(stdin, chunk, stdout, room, kind, placed, turns),
+        3 => test_scan_answers::scan_request(stdin, chunk, stdout, room, kind, placed, turns),
+        4 => test_scan_answers::scan_request(stdin, chunk, stdout, room, kind, placed, turns),
+        5 => lists::listing_request(stdin, chunk, stdout, room, kind, placed, turns),
+        6 => searches::search_request(stdin, chunk, stdout, room, kind, placed, turns),
+        7 => readings::read_request(stdin, chunk, stdout, room, kind, placed, turns),
         _ => test_requests::refuse(placed),
     }
 }
 
 // All requests, up to the first bad one, in as many turns as no run uses up. Gives how many bytes of the room wait to be written.
-pub fn answer_all(chunk: &mut [u8], room: &mut [u8]) -> usize {
+pub fn answer_all(stdin: Stdin, chunk: &mut [u8], stdout: Stdout, room: &mut [u8]) -> usize {
     let mut state = test_requests::begin();
     let mut left: u64 = 4000000000;
     while 0 < left {
-        state = request(chunk, room, state, 1);
+        state = request(stdin, chunk, stdout, room, state, 1);
         let input = state.input;
         if input.stop == input::NONE {
             return state.placed;
         }
         if input.stop == input::BAD {
-            return test_requests::put_bad(room, state.placed);
+            return test_requests::put_bad(stdout, room, state.placed);
         }
         left -= 1;
     }
@@ -52,20 +60,20 @@ pub fn answer_all(chunk: &mut [u8], room: &mut [u8]) -> usize {
 }
 
 // The number of turns, and one request.
-pub fn answer_turns(chunk: &mut [u8], room: &mut [u8]) -> usize {
+pub fn answer_turns(stdin: Stdin, chunk: &mut [u8], stdout: Stdout, room: &mut [u8]) -> usize {
     let begun = test_requests::begin();
-    let turns = input::number(chunk, begun.input);
+    let turns = input::number(stdin, chunk, begun.input);
     if !input::is_line_end(turns) {
-        return test_requests::put_bad(room, 0);
+        return test_requests::put_bad(stdout, room, 0);
     }
     let state = State {
         input: turns,
         placed: 0,
     };
-    let answered = request(chunk, room, state, turns.value);
+    let answered = request(stdin, chunk, stdout, room, state, turns.value);
     let input = answered.input;
     if input.stop == input::BAD {
-        return test_requests::put_bad(room, answered.placed);
+        return test_requests::put_bad(stdout, room, answered.placed);
     }
     answered.placed
 }

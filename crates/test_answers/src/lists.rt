@@ -2,21 +2,28 @@
 ghost use Rattle.std.specs.Prelude.{◌≡◌, length};
 
 use list_definitions::Listed;
+use std::io::{Stdin, Stdout};
 use test_requests::input::{Input, Lent};
 use test_requests::{State, input, output};
 
-fn put_listed(room: &mut [u8], placed: usize, answer: Listed) -> usize {
+fn put_listed(stdout: Stdout, room: &mut [u8], placed: usize, answer: Listed) -> usize {
     match answer {
         Listed::Written(bytes) => {
-            let ended = output::put_number(room, placed, 1);
-            output::put_next(room, ended, bytes as u64)
+            let ended = output::put_number(stdout, room, placed, 1);
+            output::put_next(stdout, room, ended, bytes as u64)
         }
-        Listed::Refused(refusal) => output::put_head(room, placed, output::refused_head(refusal)),
+        Listed::Refused(refusal) => output::put_head(
+            stdout,
+            room,
+            placed,
+            output::refused_head(refusal),
+        ),
     }
 }
 
 // Calls Listing on what was read, and puts the answer.
 fn answer_listing(
+    stdout: Stdout,
     room: &mut [u8],
     placed: usize,
     vars: u32,
@@ -35,9 +42,9 @@ fn answer_listing(
         answer = list::listing(vars, code, labels, offsets, lengths, times, names, out);
         left -= 1;
     }
-    let ended = put_listed(room, placed, answer);
-    let shown = output::put_buffer(room, ended, out);
-    output::put_byte(room, shown, b'\n')
+    let ended = put_listed(stdout, room, placed, answer);
+    let shown = output::put_buffer(stdout, room, ended, out);
+    output::put_byte(stdout, room, shown, b'\n')
 }
 
 // The filling of a listing buffer.
@@ -49,7 +56,9 @@ fn blank_listing() -> [u8; 70000]
 
 // Listing of a list that was read, from the room for it on, with the name table that follows.
 fn listing_lent(
+    stdin: Stdin,
     chunk: &mut [u8],
+    stdout: Stdout,
     room: &mut [u8],
     placed: usize,
     lent: Lent,
@@ -62,8 +71,8 @@ fn listing_lent(
 ) -> State {
     let mut out = blank_listing();
     let mut names = [0u8; 120];
-    let room_for_bytes = input::limited(chunk, lent.input, 70000);
-    let filled = input::read_names(chunk, room_for_bytes, &mut names);
+    let room_for_bytes = input::limited(stdin, chunk, lent.input, 70000);
+    let filled = input::read_names(stdin, chunk, room_for_bytes, &mut names);
     let input = filled.input;
     if !input::is_line_end(input) {
         return test_requests::refuse(placed);
@@ -71,6 +80,7 @@ fn listing_lent(
     let bytes = room_for_bytes.value as usize;
     let t = filled.count;
     let answered = answer_listing(
+        stdout,
         room,
         placed,
         lent.vars,
@@ -91,7 +101,9 @@ fn listing_lent(
 
 // Listing, from the number after its kind on.
 pub fn listing_request(
+    stdin: Stdin,
     chunk: &mut [u8],
+    stdout: Stdout,
     room: &mut [u8],
     begun: Input,
     placed: usize,
@@ -103,6 +115,7 @@ pub fn listing_request(
     let mut lengths = [0u32; 400];
     let mut times = [0u32; 400];
     let lent = input::read_lent(
+        stdin,
         chunk,
         begun,
         &mut code,
@@ -114,7 +127,9 @@ pub fn listing_request(
     let n = lent.words;
     let m = lent.records;
     listing_lent(
+        stdin,
         chunk,
+        stdout,
         room,
         placed,
         lent,

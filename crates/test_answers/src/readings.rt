@@ -2,11 +2,13 @@
 ghost use Rattle.std.specs.Prelude.{◌≤◌};
 
 use crate::translations;
+use std::io::{Stdin, Stdout};
 use test_requests::input::Input;
 use test_requests::{State, input, output};
 
 // Calls the reader on what was read, and puts the answer.
 fn answer_reader(
+    stdout: Stdout,
     room: &mut [u8],
     placed: usize,
     vars: u32,
@@ -25,14 +27,15 @@ fn answer_reader(
         answer = reader::read_list(vars, text, names, code, labels, offsets, lengths, times);
         left -= 1;
     }
-    let ended = translations::put_translated(room, placed, answer);
-    let shown = output::put_words(room, ended, code);
-    let laid = output::put_records(room, shown, labels, offsets, lengths, times);
-    output::put_byte(room, laid, b'\n')
+    let ended = translations::put_translated(stdout, room, placed, answer);
+    let shown = output::put_words(stdout, room, ended, code);
+    let laid = output::put_records(stdout, room, shown, labels, offsets, lengths, times);
+    output::put_byte(stdout, room, laid, b'\n')
 }
 
 // Calls the reader with buffers for so many instructions and records.
 fn answer_with_room(
+    stdout: Stdout,
     room: &mut [u8],
     placed: usize,
     vars: u32,
@@ -50,6 +53,7 @@ fn answer_with_room(
     let mut lengths = [4294967295u32; 400];
     let mut times = [4294967295u32; 400];
     answer_reader(
+        stdout,
         room,
         placed,
         vars,
@@ -66,7 +70,9 @@ fn answer_with_room(
 
 // The list reader, from the number after its kind on.
 pub fn read_request(
+    stdin: Stdin,
     chunk: &mut [u8],
+    stdout: Stdout,
     room: &mut [u8],
     begun: Input,
     placed: usize,
@@ -74,11 +80,11 @@ pub fn read_request(
 ) -> State {
     let mut bytes = [0u8; 70000];
     let mut names = [0u8; 120];
-    let vars = input::more(chunk, begun);
-    let filled = input::read_text(chunk, vars, &mut bytes);
-    let room_for_code = input::limited(chunk, filled.input, 20000);
-    let room_for_records = input::limited(chunk, room_for_code, 400);
-    let named = input::read_names(chunk, room_for_records, &mut names);
+    let vars = input::more(stdin, chunk, begun);
+    let filled = input::read_text(stdin, chunk, vars, &mut bytes);
+    let room_for_code = input::limited(stdin, chunk, filled.input, 20000);
+    let room_for_records = input::limited(stdin, chunk, room_for_code, 400);
+    let named = input::read_names(stdin, chunk, room_for_records, &mut names);
     let input = named.input;
     if !input::is_line_end(input) {
         return test_requests::refuse(placed);
@@ -86,6 +92,7 @@ pub fn read_request(
     let t = filled.count;
     let a = named.count;
     let answered = answer_with_room(
+        stdout,
         room,
         placed,
         vars.value,

@@ -1,37 +1,47 @@
 // The search for a label (kind 6).
 use rungs::Search;
+use std::io::{Stdin, Stdout};
 use test_requests::input::Input;
 use test_requests::{State, input, output};
 
-fn put_search(room: &mut [u8], placed: usize, answer: Search) -> usize {
+fn put_search(stdout: Stdout, room: &mut [u8], placed: usize, answer: Search) -> usize {
     match answer {
         Search::Found { place, looked } => {
-            let found = output::put_number(room, placed, 1);
-            let at = output::put_next(room, found, place as u64);
-            output::put_next(room, at, looked as u64)
+            let found = output::put_number(stdout, room, placed, 1);
+            let at = output::put_next(stdout, room, found, place as u64);
+            output::put_next(stdout, room, at, looked as u64)
         }
         Search::Missing { looked } => {
-            let missing = output::put_number(room, placed, 2);
-            output::put_next(room, missing, looked as u64)
+            let missing = output::put_number(stdout, room, placed, 2);
+            output::put_next(stdout, room, missing, looked as u64)
         }
     }
 }
 
 // Searches the labels that were read for one, and puts the last answer.
-fn answer_search(room: &mut [u8], placed: usize, labels: &[u16], label: u32, turns: u32) -> usize {
+fn answer_search(
+    stdout: Stdout,
+    room: &mut [u8],
+    placed: usize,
+    labels: &[u16],
+    label: u32,
+    turns: u32,
+) -> usize {
     let mut answer = Search::Missing { looked: 0 };
     let mut left = turns;
     while 0 < left {
         answer = rungs::search_label(labels, label);
         left -= 1;
     }
-    let told = put_search(room, placed, answer);
-    output::put_byte(room, told, b'\n')
+    let told = put_search(stdout, room, placed, answer);
+    output::put_byte(stdout, room, told, b'\n')
 }
 
 // The search, from the number after its kind on.
 pub fn search_request(
+    stdin: Stdin,
     chunk: &mut [u8],
+    stdout: Stdout,
     room: &mut [u8],
     begun: Input,
     placed: usize,
@@ -42,6 +52,7 @@ pub fn search_request(
     let mut lengths = [0u32; 400];
     let mut times = [0u32; 400];
     let laid = input::read_rows(
+        stdin,
         chunk,
         begun,
         &mut labels,
@@ -49,12 +60,12 @@ pub fn search_request(
         &mut lengths,
         &mut times,
     );
-    let label = input::more(chunk, laid.input);
+    let label = input::more(stdin, chunk, laid.input);
     if !input::is_line_end(label) {
         return test_requests::refuse(placed);
     }
     let m = laid.count;
-    let answered = answer_search(room, placed, &labels[..m], label.value, turns);
+    let answered = answer_search(stdout, room, placed, &labels[..m], label.value, turns);
     State {
         input: label,
         placed: answered,

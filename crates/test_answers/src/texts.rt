@@ -1,6 +1,7 @@
 // Read (kind 1).
 ghost use Rattle.std.specs.Prelude.{◌≤◌};
 
+use std::io::{Stdin, Stdout};
 use test_requests::input::Input;
 use test_requests::output::Head;
 use test_requests::{State, input, output};
@@ -19,6 +20,7 @@ fn read_head(answer: TextRead) -> Head {
 
 // Calls Read on what was read, and puts the answer.
 fn answer_read(
+    stdout: Stdout,
     room: &mut [u8],
     placed: usize,
     vars: u32,
@@ -36,14 +38,15 @@ fn answer_read(
         answer = text::read(vars, text, words, labels, offsets, lengths, times);
         left -= 1;
     }
-    let ended = output::put_head(room, placed, read_head(answer));
-    let shown = output::put_words(room, ended, words);
-    let laid = output::put_records(room, shown, labels, offsets, lengths, times);
-    output::put_byte(room, laid, b'\n')
+    let ended = output::put_head(stdout, room, placed, read_head(answer));
+    let shown = output::put_words(stdout, room, ended, words);
+    let laid = output::put_records(stdout, room, shown, labels, offsets, lengths, times);
+    output::put_byte(stdout, room, laid, b'\n')
 }
 
 // Calls Read with buffers for so many words and records.
 fn answer_with_room(
+    stdout: Stdout,
     room: &mut [u8],
     placed: usize,
     vars: u32,
@@ -60,6 +63,7 @@ fn answer_with_room(
     let mut lengths = [4294967295u32; 400];
     let mut times = [4294967295u32; 400];
     answer_read(
+        stdout,
         room,
         placed,
         vars,
@@ -75,22 +79,25 @@ fn answer_with_room(
 
 // Read, from the number after its kind on.
 pub fn read_request(
+    stdin: Stdin,
     chunk: &mut [u8],
+    stdout: Stdout,
     room: &mut [u8],
     begun: Input,
     placed: usize,
     turns: u32,
 ) -> State {
     let mut bytes = [0u8; 70000];
-    let vars = input::more(chunk, begun);
-    let filled = input::read_text(chunk, vars, &mut bytes);
-    let room_for_words = input::limited(chunk, filled.input, 20000);
-    let room_for_records = input::limited(chunk, room_for_words, 400);
+    let vars = input::more(stdin, chunk, begun);
+    let filled = input::read_text(stdin, chunk, vars, &mut bytes);
+    let room_for_words = input::limited(stdin, chunk, filled.input, 20000);
+    let room_for_records = input::limited(stdin, chunk, room_for_words, 400);
     if !input::is_line_end(room_for_records) {
         return test_requests::refuse(placed);
     }
     let t = filled.count;
     let answered = answer_with_room(
+        stdout,
         room,
         placed,
         vars.value,

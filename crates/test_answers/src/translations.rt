@@ -1,20 +1,21 @@
 // Translate (kind 2).
 ghost use Rattle.std.specs.Prelude.{◌≤◌};
 
+use std::io::{Stdin, Stdout};
 use test_requests::input::{Input, Lent};
 use test_requests::{State, input, output};
 use translation_definitions::Translated;
 
-pub fn put_translated(room: &mut [u8], placed: usize, answer: Translated) -> usize {
+pub fn put_translated(stdout: Stdout, room: &mut [u8], placed: usize, answer: Translated) -> usize {
     match answer {
         Translated::Written(counts) => {
-            let ended = output::put_number(room, placed, 1);
-            let first = output::put_next(room, ended, counts.instructions as u64);
-            let second = output::put_next(room, first, counts.rungs as u64);
-            output::put_next(room, second, counts.longest as u64)
+            let ended = output::put_number(stdout, room, placed, 1);
+            let first = output::put_next(stdout, room, ended, counts.instructions as u64);
+            let second = output::put_next(stdout, room, first, counts.rungs as u64);
+            output::put_next(stdout, room, second, counts.longest as u64)
         }
         Translated::Refused(refusal) => {
-            output::put_head(room, placed, output::refused_head(refusal))
+            output::put_head(stdout, room, placed, output::refused_head(refusal))
         }
     }
 }
@@ -30,6 +31,7 @@ pub fn none_translated() -> Translated {
 
 // Calls Translate on what was read, and puts the last answer.
 fn answer_translate(
+    stdout: Stdout,
     room: &mut [u8],
     placed: usize,
     vars: u32,
@@ -63,14 +65,23 @@ fn answer_translate(
         );
         left -= 1;
     }
-    let ended = put_translated(room, placed, answer);
-    let shown = output::put_words(room, ended, code);
-    let laid = output::put_records(room, shown, new_labels, new_offsets, new_lengths, new_times);
-    output::put_byte(room, laid, b'\n')
+    let ended = put_translated(stdout, room, placed, answer);
+    let shown = output::put_words(stdout, room, ended, code);
+    let laid = output::put_records(
+        stdout,
+        room,
+        shown,
+        new_labels,
+        new_offsets,
+        new_lengths,
+        new_times,
+    );
+    output::put_byte(stdout, room, laid, b'\n')
 }
 
 // Calls Translate with buffers for so many instructions and records.
 fn answer_with_room(
+    stdout: Stdout,
     room: &mut [u8],
     placed: usize,
     vars: u32,
@@ -91,6 +102,7 @@ fn answer_with_room(
     let mut new_lengths = [4294967295u32; 400];
     let mut new_times = [4294967295u32; 400];
     answer_translate(
+        stdout,
         room,
         placed,
         vars,
@@ -110,7 +122,9 @@ fn answer_with_room(
 
 // Translate of a ladder that was read, from the room for instructions on.
 fn translate_lent(
+    stdin: Stdin,
     chunk: &mut [u8],
+    stdout: Stdout,
     room: &mut [u8],
     placed: usize,
     lent: Lent,
@@ -121,12 +135,13 @@ fn translate_lent(
     times: &[u32],
     turns: u32,
 ) -> State {
-    let room_for_code = input::limited(chunk, lent.input, 20000);
-    let room_for_records = input::limited(chunk, room_for_code, 400);
+    let room_for_code = input::limited(stdin, chunk, lent.input, 20000);
+    let room_for_records = input::limited(stdin, chunk, room_for_code, 400);
     if !input::is_line_end(room_for_records) {
         return test_requests::refuse(placed);
     }
     let answered = answer_with_room(
+        stdout,
         room,
         placed,
         lent.vars,
@@ -147,7 +162,9 @@ fn translate_lent(
 
 // Translate, from the number after its kind on.
 pub fn translate_request(
+    stdin: Stdin,
     chunk: &mut [u8],
+    stdout: Stdout,
     room: &mut [u8],
     begun: Input,
     placed: usize,
@@ -159,6 +176,7 @@ pub fn translate_request(
     let mut lengths = [0u32; 400];
     let mut times = [0u32; 400];
     let lent = input::read_lent(
+        stdin,
         chunk,
         begun,
         &mut words,
@@ -170,7 +188,9 @@ pub fn translate_request(
     let n = lent.words;
     let m = lent.records;
     translate_lent(
+        stdin,
         chunk,
+        stdout,
         room,
         placed,
         lent,

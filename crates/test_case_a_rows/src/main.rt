@@ -6,10 +6,10 @@
 #![tactic(auto)]
 
 use ladder_definitions::LadderScanned;
-use libc::STDOUT_FILENO;
 use list_definitions::{ListScanned, Listed};
 use rows::Rung;
 use rungs::Search;
+use std::io::Stdout;
 use test_requests::output;
 use test_row_output::{Times, VARS};
 use text_definitions::TextRead;
@@ -260,6 +260,7 @@ fn long_times_of(row: [Rung; LONG_RUNGS]) -> Times {
 
 // What the five calls answered and left. The ladder's row has Read's times, which no scan has changed.
 fn put_answers(
+    stdout: Stdout,
     room: &mut [u8],
     placed: usize,
     answers: Answers,
@@ -276,21 +277,34 @@ fn put_answers(
     let listed = answers.listed;
     let row = answers.row;
     let code_row = answers.code_row;
-    let after_made = test_row_output::put_made(room, placed, read, translated);
-    let after_ladder = test_row_output::put_ladder_scan(room, after_made, ladder, ladder_table);
-    let after_row = test_row_output::put_left(room, after_ladder, times_of(row), ladder_timers);
-    let after_list = test_row_output::put_list_scan(room, after_row, list, list_table);
+    let after_made = test_row_output::put_made(stdout, room, placed, read, translated);
+    let after_ladder = test_row_output::put_ladder_scan(
+        stdout,
+        room,
+        after_made,
+        ladder,
+        ladder_table,
+    );
+    let after_row = test_row_output::put_left(
+        stdout,
+        room,
+        after_ladder,
+        times_of(row),
+        ladder_timers,
+    );
+    let after_list = test_row_output::put_list_scan(stdout, room, after_row, list, list_table);
     let after_code_row = test_row_output::put_left(
+        stdout,
         room,
         after_list,
         times_of(code_row),
         list_timers,
     );
-    test_row_output::put_listed(room, after_code_row, listed, lines)
+    test_row_output::put_listed(stdout, room, after_code_row, listed, lines)
 }
 
 // Runs the five calls on a text, with only v0 true, and puts what they answered.
-fn put_case(room: &mut [u8], placed: usize, names: &[u8], text: &[u8]) -> usize {
+fn put_case(stdout: Stdout, room: &mut [u8], placed: usize, names: &[u8], text: &[u8]) -> usize {
     let mut ladder_table = [0u8; TABLE_BYTES];
     let mut list_table = [0u8; TABLE_BYTES];
     let mut ladder_timers = TIMERS;
@@ -308,6 +322,7 @@ fn put_case(room: &mut [u8], placed: usize, names: &[u8], text: &[u8]) -> usize 
         &mut lines,
     );
     put_answers(
+        stdout,
         room,
         placed,
         answers,
@@ -321,6 +336,7 @@ fn put_case(room: &mut [u8], placed: usize, names: &[u8], text: &[u8]) -> usize 
 
 // What the four calls answered and left. A refused List scan leaves the times as they were.
 fn put_long_answers(
+    stdout: Stdout,
     room: &mut [u8],
     placed: usize,
     answers: LongAnswers,
@@ -333,20 +349,22 @@ fn put_long_answers(
     let list = answers.list;
     let listed = answers.listed;
     let row = answers.row;
-    let after_translated = test_row_output::put_translated(room, placed, translated);
+    let after_translated = test_row_output::put_translated(stdout, room, placed, translated);
     let after_ladder = test_row_output::put_ladder_scan(
+        stdout,
         room,
         after_translated,
         ladder,
         ladder_table,
     );
-    let after_list = test_row_output::put_list_scan(room, after_ladder, list, list_table);
-    let after_row = test_row_output::put_times(room, after_list, long_times_of(row));
-    test_row_output::put_listed(room, after_row, listed, lines)
+    let after_list = test_row_output::put_list_scan(stdout, room, after_ladder, list, list_table);
+    let after_row = test_row_output::put_times(stdout, room, after_list, long_times_of(row));
+    test_row_output::put_listed(stdout, room, after_row, listed, lines)
 }
 
 // Runs the four calls over a row of 300 records, and puts what they answered.
 fn put_long(
+    stdout: Stdout,
     room: &mut [u8],
     placed: usize,
     ladder_timers: &mut [u32],
@@ -373,65 +391,128 @@ fn put_long(
         &mut lines,
     );
     let rungs = test_row_output::put_count(
+        stdout,
         room,
         placed,
         b"300 records, the last of length",
         last as u64,
     );
-    let head = test_row_output::put_count(room, rungs, b", timers", ladder_timers.len() as u64 / 5);
-    put_long_answers(room, head, answers, &ladder_table, &list_table, &lines)
+    let head = test_row_output::put_count(
+        stdout,
+        room,
+        rungs,
+        b", timers",
+        ladder_timers.len() as u64 / 5,
+    );
+    put_long_answers(
+        stdout,
+        room,
+        head,
+        answers,
+        &ladder_table,
+        &list_table,
+        &lines,
+    )
 }
 
 // Searches a row of 300 records, and puts what was told.
-fn put_long_search(room: &mut [u8], placed: usize, label: u32) -> usize {
-    let told = test_row_output::put_search(room, placed, label, search_long(twice_row(), label));
-    output::put_byte(room, told, b'\n')
+fn put_long_search(stdout: Stdout, room: &mut [u8], placed: usize, label: u32) -> usize {
+    let told = test_row_output::put_search(
+        stdout,
+        room,
+        placed,
+        label,
+        search_long(twice_row(), label),
+    );
+    output::put_byte(stdout, room, told, b'\n')
 }
 
 // The first record's label, one that two records have, the last record's, and one that none has.
-fn put_searches(room: &mut [u8], placed: usize) -> usize {
-    let first = put_long_search(room, placed, 0);
-    let twice = put_long_search(room, first, TWICE as u32);
-    let last = put_long_search(room, twice, LONG_RUNGS as u32 - 1);
-    put_long_search(room, last, AGAIN as u32)
+fn put_searches(stdout: Stdout, room: &mut [u8], placed: usize) -> usize {
+    let first = put_long_search(stdout, room, placed, 0);
+    let twice = put_long_search(stdout, room, first, TWICE as u32);
+    let last = put_long_search(stdout, room, twice, LONG_RUNGS as u32 - 1);
+    put_long_search(stdout, room, last, AGAIN as u32)
 }
 
 // Case A, and the ladders with set and reset coils and with timers.
-fn put_cases(room: &mut [u8], names: &[u8]) -> usize {
-    let case_a = put_case(room, 0, names, b"10:c0|c1&n2>o1|c3&j20\n20:n3>o4\n");
-    let latched = put_case(room, case_a, names, b"10:c0|c1&n2>s1|c3&r4\n20:n3>r0\n");
-    put_case(room, latched, names, b"10:c0|c1&n2>t0|c3&t1\n20:n3>o4\n")
+fn put_cases(stdout: Stdout, room: &mut [u8], names: &[u8]) -> usize {
+    let case_a = put_case(stdout, room, 0, names, b"10:c0|c1&n2>o1|c3&j20\n20:n3>o4\n");
+    let latched = put_case(
+        stdout,
+        room,
+        case_a,
+        names,
+        b"10:c0|c1&n2>s1|c3&r4\n20:n3>r0\n",
+    );
+    put_case(
+        stdout,
+        room,
+        latched,
+        names,
+        b"10:c0|c1&n2>t0|c3&t1\n20:n3>o4\n",
+    )
 }
 
 // Rows of 300 records with two timer records, the other row with a name table of zeros.
-fn put_refused(room: &mut [u8], placed: usize, names: &[u8], zeros: &[u8]) -> usize {
+fn put_refused(
+    stdout: Stdout,
+    room: &mut [u8],
+    placed: usize,
+    names: &[u8],
+    zeros: &[u8],
+) -> usize {
     let mut ladder_timers = TIMERS;
     let mut list_timers = TIMERS;
-    let laid = put_long(room, placed, &mut ladder_timers, &mut list_timers, names, 2);
-    put_long(room, laid, &mut ladder_timers, &mut list_timers, zeros, 1)
+    let laid = put_long(
+        stdout,
+        room,
+        placed,
+        &mut ladder_timers,
+        &mut list_timers,
+        names,
+        2,
+    );
+    put_long(
+        stdout,
+        room,
+        laid,
+        &mut ladder_timers,
+        &mut list_timers,
+        zeros,
+        1,
+    )
 }
 
 // A row of 300 records with 33 timer records.
-fn put_many_timers(room: &mut [u8], placed: usize, names: &[u8]) -> usize {
+fn put_many_timers(stdout: Stdout, room: &mut [u8], placed: usize, names: &[u8]) -> usize {
     let mut ladder_timers = [0u32; MANY_TIMER_NUMBERS];
     let mut list_timers = [0u32; MANY_TIMER_NUMBERS];
-    put_long(room, placed, &mut ladder_timers, &mut list_timers, names, 1)
+    put_long(
+        stdout,
+        room,
+        placed,
+        &mut ladder_timers,
+        &mut list_timers,
+        names,
+        1,
+    )
 }
 
-fn put_all(room: &mut [u8]) -> usize {
+fn put_all(stdout: Stdout, room: &mut [u8]) -> usize {
     let zeros = [0u8; NAME_TABLE_BYTES];
     let mut names = zeros;
     list_names::put_fixed_names(&mut names);
-    let cases = put_cases(room, &names);
-    let refused = put_refused(room, cases, &names, &zeros);
-    let many = put_many_timers(room, refused, &names);
-    put_searches(room, many)
+    let cases = put_cases(stdout, room, &names);
+    let refused = put_refused(stdout, room, cases, &names, &zeros);
+    let many = put_many_timers(stdout, room, refused, &names);
+    put_searches(stdout, room, many)
 }
 
-fn main() {
+fn main(rt: HostRuntime) {
     let mut room = [0u8; ROOM];
-    let placed = put_all(&mut room);
+    let placed = put_all(rt.stdout(), &mut room);
     if placed <= ROOM {
-        io::write_all(STDOUT_FILENO, &room[..placed]);
+        output::write(rt.stdout(), &room, placed);
     }
 }

@@ -4,6 +4,7 @@ ghost use Rattle.std.specs.Prelude.{◌≤◌, length};
 use crate::input;
 use crate::input::{Counted, Input};
 use program_chunks::{END, LF, Reading};
+use std::io::Stdin;
 
 // The input after a case, how many bytes its name line has (0 where there is no case), and how many its own input.
 #[derive(Clone, Copy)]
@@ -23,14 +24,21 @@ fn at_byte(reading: Reading) -> Input {
 }
 
 // The bytes that follow, up to `most` of them, the input's end, or a last byte, which is taken too.
-fn take_bytes(chunk: &mut [u8], from: Input, room: &mut [u8], most: usize, last: u32) -> Counted
+fn take_bytes(
+    stdin: Stdin,
+    chunk: &mut [u8],
+    from: Input,
+    room: &mut [u8],
+    most: usize,
+    last: u32,
+) -> Counted
     requires { most ≤ length room.old }
     ensures { result.count ≤ most }
 {
     let mut reading = input::reading_of(from);
     let mut count: usize = 0;
     while count < most {
-        let taken = program_chunks::next_byte(chunk, reading);
+        let taken = program_chunks::next_byte(stdin, chunk, reading);
         reading = taken.reading;
         let byte = taken.byte;
         if 255 < byte {
@@ -65,22 +73,28 @@ fn at_most(count: usize, most: usize) -> usize
 }
 
 // A line with a number, and so many bytes, as far as there is room.
-fn take_counted(chunk: &mut [u8], from: Input, room: &mut [u8]) -> Counted
-    ensures* { do ⌜ result.count ≤ (← (⟦room.len()⟧).entry) ⌝ }
+fn take_counted(stdin: Stdin, chunk: &mut [u8], from: Input, room: &mut [u8]) -> Counted
+    ensures { result.count ≤ length room.old }
 {
-    let counted = input::number(chunk, from);
+    let counted = input::number(stdin, chunk, from);
     let most = at_most(counted.value as usize, room.len());
-    take_bytes(chunk, counted, room, most, END)
+    take_bytes(stdin, chunk, counted, room, most, END)
 }
 
 // The next case: its name line, with the line feed, and its own input, each as far as there is room.
-pub fn read_case(chunk: &mut [u8], from: Input, name: &mut [u8], bytes: &mut [u8]) -> Case
-    ensures* { do ⌜ result.bytes ≤ (← (⟦bytes.len()⟧).entry) ⌝ }
+pub fn read_case(
+    stdin: Stdin,
+    chunk: &mut [u8],
+    from: Input,
+    name: &mut [u8],
+    bytes: &mut [u8],
+) -> Case
+    ensures { result.bytes ≤ length bytes.old }
 {
-    let named = take_bytes(chunk, from, name, name.len(), LF);
-    let filled = take_counted(chunk, named.input, bytes);
+    let named = take_bytes(stdin, chunk, from, name, name.len(), LF);
+    let filled = take_counted(stdin, chunk, named.input, bytes);
     let rest = filled.input;
-    let after = program_chunks::next_byte(chunk, input::reading_of(rest));
+    let after = program_chunks::next_byte(stdin, chunk, input::reading_of(rest));
     Case {
         input: at_byte(after.reading),
         name: named.count,

@@ -2,6 +2,7 @@
 ghost use Rattle.std.specs.Prelude.{◌≤◌};
 
 use program_chunks::{END, Reading};
+use std::io::Stdin;
 
 // What ended a number: one of these bytes, the input's end, or nothing good, such as a read that failed. NONE is the input's end where no
 // number began.
@@ -95,12 +96,12 @@ pub fn reading_of(input: Input) -> Reading {
 }
 
 // The number that begins here, and what ends it.
-pub fn number(chunk: &mut [u8], from: Input) -> Input {
+pub fn number(stdin: Stdin, chunk: &mut [u8], from: Input) -> Input {
     let mut reading = reading_of(from);
     let mut value: u32 = 0;
     let mut digits: u32 = 0;
     while digits < 4000000000 {
-        let taken = program_chunks::next_byte(chunk, reading);
+        let taken = program_chunks::next_byte(stdin, chunk, reading);
         reading = taken.reading;
         let digit = digit_of(taken.byte);
         if 9 < digit {
@@ -125,18 +126,18 @@ pub fn number(chunk: &mut [u8], from: Input) -> Input {
 }
 
 // The next number of the line. Where the last one was not followed by a space there is none.
-pub fn more(chunk: &mut [u8], input: Input) -> Input {
+pub fn more(stdin: Stdin, chunk: &mut [u8], input: Input) -> Input {
     if input.stop != SPACE {
         return failed();
     }
-    number(chunk, input)
+    number(stdin, chunk, input)
 }
 
 // The same, of a number that may not be above `most`.
-pub fn limited(chunk: &mut [u8], input: Input, most: u32) -> Input
+pub fn limited(stdin: Stdin, chunk: &mut [u8], input: Input, most: u32) -> Input
     ensures { result.value ≤ most }
 {
-    let got = more(chunk, input);
+    let got = more(stdin, chunk, input);
     if most < got.value {
         return failed();
     }
@@ -174,40 +175,41 @@ fn set_byte(bytes: &mut [u8], i: usize, value: u32) {
 }
 
 // The next number of the line, as a word at a place.
-fn read_item(chunk: &mut [u8], input: Input, words: &mut [u32], i: usize) -> Input {
-    let item = more(chunk, input);
+fn read_item(stdin: Stdin, chunk: &mut [u8], input: Input, words: &mut [u32], i: usize) -> Input {
+    let item = more(stdin, chunk, input);
     set_word(words, i, item.value);
     item
 }
 
-fn read_words(chunk: &mut [u8], from: Input, words: &mut [u32], n: usize) -> Input {
+fn read_words(stdin: Stdin, chunk: &mut [u8], from: Input, words: &mut [u32], n: usize) -> Input {
     let mut input = from;
     let mut i: usize = 0;
     while i < n {
-        input = read_item(chunk, input, words, i);
+        input = read_item(stdin, chunk, input, words, i);
         i += 1;
     }
     input
 }
 
-fn read_bytes(chunk: &mut [u8], from: Input, bytes: &mut [u8], n: usize) -> Input {
+fn read_bytes(stdin: Stdin, chunk: &mut [u8], from: Input, bytes: &mut [u8], n: usize) -> Input {
     let mut input = from;
     let mut i: usize = 0;
     while i < n {
-        input = limited(chunk, input, 255);
+        input = limited(stdin, chunk, input, 255);
         set_byte(bytes, i, input.value);
         i += 1;
     }
     input
 }
 
-fn read_label(chunk: &mut [u8], input: Input, labels: &mut [u16], i: usize) -> Input {
-    let label = limited(chunk, input, 65535);
+fn read_label(stdin: Stdin, chunk: &mut [u8], input: Input, labels: &mut [u16], i: usize) -> Input {
+    let label = limited(stdin, chunk, input, 65535);
     set_label(labels, i, label.value);
     label
 }
 
 fn read_record(
+    stdin: Stdin,
     chunk: &mut [u8],
     input: Input,
     labels: &mut [u16],
@@ -216,13 +218,14 @@ fn read_record(
     times: &mut [u32],
     i: usize,
 ) -> Input {
-    let label = read_label(chunk, input, labels, i);
-    let offset = read_item(chunk, label, offsets, i);
-    let length = read_item(chunk, offset, lengths, i);
-    read_item(chunk, length, times, i)
+    let label = read_label(stdin, chunk, input, labels, i);
+    let offset = read_item(stdin, chunk, label, offsets, i);
+    let length = read_item(stdin, chunk, offset, lengths, i);
+    read_item(stdin, chunk, length, times, i)
 }
 
 fn read_records(
+    stdin: Stdin,
     chunk: &mut [u8],
     from: Input,
     labels: &mut [u16],
@@ -234,26 +237,27 @@ fn read_records(
     let mut input = from;
     let mut i: usize = 0;
     while i < n {
-        input = read_record(chunk, input, labels, offsets, lengths, times, i);
+        input = read_record(stdin, chunk, input, labels, offsets, lengths, times, i);
         i += 1;
     }
     input
 }
 
 // Up to 20,000 words, their count first.
-fn read_code(chunk: &mut [u8], input: Input, code: &mut [u32]) -> Counted
+fn read_code(stdin: Stdin, chunk: &mut [u8], input: Input, code: &mut [u32]) -> Counted
     ensures { result.count ≤ 20000 }
 {
-    let counted = limited(chunk, input, 20000);
+    let counted = limited(stdin, chunk, input, 20000);
     let count = counted.value as usize;
     Counted {
-        input: read_words(chunk, counted, code, count),
+        input: read_words(stdin, chunk, counted, code, count),
         count,
     }
 }
 
 // Up to 400 records, their count first.
 pub fn read_rows(
+    stdin: Stdin,
     chunk: &mut [u8],
     input: Input,
     labels: &mut [u16],
@@ -263,59 +267,62 @@ pub fn read_rows(
 ) -> Counted
     ensures { result.count ≤ 400 }
 {
-    let counted = limited(chunk, input, 400);
+    let counted = limited(stdin, chunk, input, 400);
     let count = counted.value as usize;
     Counted {
-        input: read_records(chunk, counted, labels, offsets, lengths, times, count),
+        input: read_records(
+            stdin, chunk, counted, labels, offsets, lengths, times, count,
+        ),
         count,
     }
 }
 
 // Up to 1,100 bytes, their count first.
-pub fn read_table(chunk: &mut [u8], input: Input, table: &mut [u8]) -> Counted
+pub fn read_table(stdin: Stdin, chunk: &mut [u8], input: Input, table: &mut [u8]) -> Counted
     ensures { result.count ≤ 1100 }
 {
-    let counted = limited(chunk, input, 1100);
+    let counted = limited(stdin, chunk, input, 1100);
     let count = counted.value as usize;
     Counted {
-        input: read_bytes(chunk, counted, table, count),
+        input: read_bytes(stdin, chunk, counted, table, count),
         count,
     }
 }
 
 // Up to 70,000 bytes, their count first.
-pub fn read_text(chunk: &mut [u8], input: Input, text: &mut [u8]) -> Counted
+pub fn read_text(stdin: Stdin, chunk: &mut [u8], input: Input, text: &mut [u8]) -> Counted
     ensures { result.count ≤ 70000 }
 {
-    let counted = limited(chunk, input, 70000);
+    let counted = limited(stdin, chunk, input, 70000);
     let count = counted.value as usize;
     Counted {
-        input: read_bytes(chunk, counted, text, count),
+        input: read_bytes(stdin, chunk, counted, text, count),
         count,
     }
 }
 
 // Up to 120 bytes of a name table, their count first.
-pub fn read_names(chunk: &mut [u8], input: Input, names: &mut [u8]) -> Counted
+pub fn read_names(stdin: Stdin, chunk: &mut [u8], input: Input, names: &mut [u8]) -> Counted
     ensures { result.count ≤ 120 }
 {
-    let counted = limited(chunk, input, 120);
+    let counted = limited(stdin, chunk, input, 120);
     let count = counted.value as usize;
     Counted {
-        input: read_bytes(chunk, counted, names, count),
+        input: read_bytes(stdin, chunk, counted, names, count),
         count,
     }
 }
 
 // The next number of the line, 0 or 1, as a byte at a place.
-fn read_flag(chunk: &mut [u8], input: Input, flags: &mut [u8], i: usize) -> Input {
-    let flag = limited(chunk, input, 1);
+fn read_flag(stdin: Stdin, chunk: &mut [u8], input: Input, flags: &mut [u8], i: usize) -> Input {
+    let flag = limited(stdin, chunk, input, 1);
     set_byte(flags, i, flag.value);
     flag
 }
 
 // A timer's numbers, before its flags.
 fn read_delay(
+    stdin: Stdin,
     chunk: &mut [u8],
     input: Input,
     preset: &mut [u32],
@@ -323,23 +330,25 @@ fn read_delay(
     variable: &mut [u16],
     i: usize,
 ) -> Input {
-    let ticks = read_item(chunk, input, preset, i);
-    let started = read_item(chunk, ticks, start, i);
-    read_label(chunk, started, variable, i)
+    let ticks = read_item(stdin, chunk, input, preset, i);
+    let started = read_item(stdin, chunk, ticks, start, i);
+    read_label(stdin, chunk, started, variable, i)
 }
 
 fn read_flags(
+    stdin: Stdin,
     chunk: &mut [u8],
     input: Input,
     running: &mut [u8],
     done: &mut [u8],
     i: usize,
 ) -> Input {
-    let runs = read_flag(chunk, input, running, i);
-    read_flag(chunk, runs, done, i)
+    let runs = read_flag(stdin, chunk, input, running, i);
+    read_flag(stdin, chunk, runs, done, i)
 }
 
 fn read_timer(
+    stdin: Stdin,
     chunk: &mut [u8],
     input: Input,
     preset: &mut [u32],
@@ -349,11 +358,12 @@ fn read_timer(
     done: &mut [u8],
     i: usize,
 ) -> Input {
-    let named = read_delay(chunk, input, preset, start, variable, i);
-    read_flags(chunk, named, running, done, i)
+    let named = read_delay(stdin, chunk, input, preset, start, variable, i);
+    read_flags(stdin, chunk, named, running, done, i)
 }
 
 fn read_timer_records(
+    stdin: Stdin,
     chunk: &mut [u8],
     from: Input,
     preset: &mut [u32],
@@ -366,7 +376,9 @@ fn read_timer_records(
     let mut input = from;
     let mut i: usize = 0;
     while i < n {
-        input = read_timer(chunk, input, preset, start, variable, running, done, i);
+        input = read_timer(
+            stdin, chunk, input, preset, start, variable, running, done, i,
+        );
         i += 1;
     }
     input
@@ -374,6 +386,7 @@ fn read_timer_records(
 
 // Up to 40 timers, their count first.
 pub fn read_timers(
+    stdin: Stdin,
     chunk: &mut [u8],
     input: Input,
     preset: &mut [u32],
@@ -384,11 +397,11 @@ pub fn read_timers(
 ) -> Counted
     ensures { result.count ≤ 40 }
 {
-    let counted = limited(chunk, input, 40);
+    let counted = limited(stdin, chunk, input, 40);
     let count = counted.value as usize;
     Counted {
         input: read_timer_records(
-            chunk, counted, preset, start, variable, running, done, count,
+            stdin, chunk, counted, preset, start, variable, running, done, count,
         ),
         count,
     }
@@ -396,6 +409,7 @@ pub fn read_timers(
 
 // Variables, words and records.
 pub fn read_lent(
+    stdin: Stdin,
     chunk: &mut [u8],
     input: Input,
     code: &mut [u32],
@@ -406,9 +420,9 @@ pub fn read_lent(
 ) -> Lent
     ensures { (result.words ≤ 20000) × (result.records ≤ 400) }
 {
-    let vars = more(chunk, input);
-    let coded = read_code(chunk, vars, code);
-    let laid = read_rows(chunk, coded.input, labels, offsets, lengths, times);
+    let vars = more(stdin, chunk, input);
+    let coded = read_code(stdin, chunk, vars, code);
+    let laid = read_rows(stdin, chunk, coded.input, labels, offsets, lengths, times);
     let rest = laid.input;
     Lent {
         input: rest,

@@ -2,6 +2,7 @@
 #![tactic(auto)]
 
 use input::Input;
+use std::io::Stdout;
 
 pub mod cases;
 pub mod input;
@@ -36,8 +37,8 @@ pub fn refuse(placed: usize) -> State {
 }
 
 // The line that ends a program at a bad request.
-pub fn put_bad(room: &mut [u8], placed: usize) -> usize {
-    output::put_text(room, placed, b"bad request\n")
+pub fn put_bad(stdout: Stdout, room: &mut [u8], placed: usize) -> usize {
+    output::put_text(stdout, room, placed, b"bad request\n")
 }
 
 // The bytes into others, as far as these reach.

@@ -1,9 +1,9 @@
 // Writes numbers, one space apart, into a room that goes to standard output whenever it is full.
 ghost use Rattle.std.specs.Prelude.{◌≤◌, length};
 
-use libc::STDOUT_FILENO;
 use program_chunks::wide;
 use questions::Refusal;
+use std::io::Stdout;
 
 // The numbers that begin an answer.
 #[derive(Clone, Copy)]
@@ -13,13 +13,18 @@ pub struct Head {
     pub second: u64,
 }
 
+// Writes the bytes out. A test program has nobody to tell that it could not: its output is then short.
+fn write_out(stdout: Stdout, bytes: &[u8]) {
+    let _ = stdout.write_all(bytes);
+}
+
 // Puts a byte into the room, which is written out first where it is full, and gives the place after it.
-pub fn put_byte(room: &mut [u8], placed: usize, byte: u8) -> usize {
+pub fn put_byte(stdout: Stdout, room: &mut [u8], placed: usize, byte: u8) -> usize {
     if placed < room.len() {
         room[placed] = byte;
         return placed + 1;
     }
-    io::write_all(STDOUT_FILENO, room);
+    write_out(stdout, room);
     if 0 < room.len() {
         room[0] = byte;
         return 1;
@@ -28,43 +33,60 @@ pub fn put_byte(room: &mut [u8], placed: usize, byte: u8) -> usize {
 }
 
 // Writes out the first n bytes.
-pub fn write(bytes: &[u8], n: usize) {
+pub fn write(stdout: Stdout, bytes: &[u8], n: usize) {
     if n <= bytes.len() {
-        io::write_all(STDOUT_FILENO, &bytes[..n]);
+        write_out(stdout, &bytes[..n]);
     }
 }
 
-pub fn put_text(room: &mut [u8], from: usize, text: &[u8]) -> usize {
+pub fn put_text(stdout: Stdout, room: &mut [u8], from: usize, text: &[u8]) -> usize {
     let mut placed = from;
     let mut i: usize = 0;
     while i < text.len() {
-        placed = put_byte(room, placed, text[i]);
+        placed = put_byte(stdout, room, placed, text[i]);
         i += 1;
     }
     placed
 }
 
-pub fn put_number(room: &mut [u8], placed: usize, value: u64) -> usize {
-    let mut digits = [0u8; 20];
-    let n = io::decimal(value, &mut digits);
-    put_text(room, placed, &digits[..n])
+// A number's digits at the buffer's end, and where they begin.
+fn put_digits(value: u64, digits: &mut [u8; 20]) -> usize
+    ensures { result ≤ 20 }
+{
+    let mut rest = value;
+    let mut at: usize = 20;
+    while 0 < at {
+        at -= 1;
+        digits[at] = b'0' + (rest % 10) as u8;
+        rest /= 10;
+        if rest == 0 {
+            return at;
+        }
+    }
+    at
+}
+
+pub fn put_number(stdout: Stdout, room: &mut [u8], placed: usize, value: u64) -> usize {
+    let mut digits = [b'0'; 20];
+    let at = put_digits(value, &mut digits);
+    put_text(stdout, room, placed, &digits[at..])
 }
 
 // A space and a number.
-pub fn put_next(room: &mut [u8], placed: usize, value: u64) -> usize {
-    let after = put_byte(room, placed, b' ');
-    put_number(room, after, value)
+pub fn put_next(stdout: Stdout, room: &mut [u8], placed: usize, value: u64) -> usize {
+    let after = put_byte(stdout, room, placed, b' ');
+    put_number(stdout, room, after, value)
 }
 
 // The first n bytes, each after a space.
-pub fn put_bytes(room: &mut [u8], from: usize, bytes: &[u8], n: usize) -> usize {
+pub fn put_bytes(stdout: Stdout, room: &mut [u8], from: usize, bytes: &[u8], n: usize) -> usize {
     let mut placed = from;
     let mut i: usize = 0;
     while i < n {
         if bytes.len() <= i {
             return placed;
         }
-        placed = put_next(room, placed, wide(bytes[i]) as u64);
+        placed = put_next(stdout, room, placed, wide(bytes[i]) as u64);
         i += 1;
     }
     placed
@@ -85,11 +107,11 @@ fn reach(bytes: &[u8]) -> usize
 }
 
 // A buffer that was filled before the call: how many items, these, and how many follow.
-pub fn put_buffer(room: &mut [u8], placed: usize, bytes: &[u8]) -> usize {
+pub fn put_buffer(stdout: Stdout, room: &mut [u8], placed: usize, bytes: &[u8]) -> usize {
     let k = reach(bytes);
-    let counted = put_next(room, placed, k as u64);
-    let shown = put_bytes(room, counted, bytes, k);
-    put_next(room, shown, (bytes.len() - k) as u64)
+    let counted = put_next(stdout, room, placed, k as u64);
+    let shown = put_bytes(stdout, room, counted, bytes, k);
+    put_next(stdout, room, shown, (bytes.len() - k) as u64)
 }
 
 fn wide_label(label: u16) -> u32 {
@@ -128,22 +150,22 @@ fn words_reach(words: &[u32]) -> usize
 }
 
 // The first n words, each after a space.
-pub fn put_items(room: &mut [u8], from: usize, words: &[u32], n: usize) -> usize {
+pub fn put_items(stdout: Stdout, room: &mut [u8], from: usize, words: &[u32], n: usize) -> usize {
     let mut placed = from;
     let mut i: usize = 0;
     while i < n {
-        placed = put_next(room, placed, word_at(words, i) as u64);
+        placed = put_next(stdout, room, placed, word_at(words, i) as u64);
         i += 1;
     }
     placed
 }
 
 // A buffer of words that was filled before the call: how many items, these, and how many follow.
-pub fn put_words(room: &mut [u8], placed: usize, words: &[u32]) -> usize {
+pub fn put_words(stdout: Stdout, room: &mut [u8], placed: usize, words: &[u32]) -> usize {
     let k = words_reach(words);
-    let counted = put_next(room, placed, k as u64);
-    let shown = put_items(room, counted, words, k);
-    put_next(room, shown, (words.len() - k) as u64)
+    let counted = put_next(stdout, room, placed, k as u64);
+    let shown = put_items(stdout, room, counted, words, k);
+    put_next(stdout, room, shown, (words.len() - k) as u64)
 }
 
 fn is_record(labels: &[u16], offsets: &[u32], lengths: &[u32], times: &[u32], i: usize) -> bool {
@@ -175,6 +197,7 @@ fn records_reach(labels: &[u16], offsets: &[u32], lengths: &[u32], times: &[u32]
 
 // The same of a buffer of records.
 pub fn put_records(
+    stdout: Stdout,
     room: &mut [u8],
     from: usize,
     labels: &[u16],
@@ -183,16 +206,16 @@ pub fn put_records(
     times: &[u32],
 ) -> usize {
     let k = records_reach(labels, offsets, lengths, times);
-    let mut placed = put_next(room, from, k as u64);
+    let mut placed = put_next(stdout, room, from, k as u64);
     let mut i: usize = 0;
     while i < k {
-        placed = put_next(room, placed, label_at(labels, i) as u64);
-        placed = put_next(room, placed, word_at(offsets, i) as u64);
-        placed = put_next(room, placed, word_at(lengths, i) as u64);
-        placed = put_next(room, placed, word_at(times, i) as u64);
+        placed = put_next(stdout, room, placed, label_at(labels, i) as u64);
+        placed = put_next(stdout, room, placed, word_at(offsets, i) as u64);
+        placed = put_next(stdout, room, placed, word_at(lengths, i) as u64);
+        placed = put_next(stdout, room, placed, word_at(times, i) as u64);
         i += 1;
     }
-    put_next(room, placed, (labels.len() - k) as u64)
+    put_next(stdout, room, placed, (labels.len() - k) as u64)
 }
 
 fn byte_at(bytes: &[u8], i: usize) -> u32 {
@@ -200,6 +223,7 @@ fn byte_at(bytes: &[u8], i: usize) -> u32 {
 }
 
 fn put_timer(
+    stdout: Stdout,
     room: &mut [u8],
     placed: usize,
     preset: &[u32],
@@ -209,15 +233,16 @@ fn put_timer(
     done: &[u8],
     i: usize,
 ) -> usize {
-    let ticks = put_next(room, placed, word_at(preset, i) as u64);
-    let started = put_next(room, ticks, word_at(start, i) as u64);
-    let named = put_next(room, started, label_at(variable, i) as u64);
-    let runs = put_next(room, named, byte_at(running, i) as u64);
-    put_next(room, runs, byte_at(done, i) as u64)
+    let ticks = put_next(stdout, room, placed, word_at(preset, i) as u64);
+    let started = put_next(stdout, room, ticks, word_at(start, i) as u64);
+    let named = put_next(stdout, room, started, label_at(variable, i) as u64);
+    let runs = put_next(stdout, room, named, byte_at(running, i) as u64);
+    put_next(stdout, room, runs, byte_at(done, i) as u64)
 }
 
 // The first n timers, each number after a space.
 pub fn put_timers(
+    stdout: Stdout,
     room: &mut [u8],
     from: usize,
     preset: &[u32],
@@ -230,7 +255,9 @@ pub fn put_timers(
     let mut placed = from;
     let mut i: usize = 0;
     while i < n {
-        placed = put_timer(room, placed, preset, start, variable, running, done, i);
+        placed = put_timer(
+            stdout, room, placed, preset, start, variable, running, done, i,
+        );
         i += 1;
     }
     placed
@@ -244,8 +271,8 @@ pub fn refused_head(refusal: Refusal) -> Head {
     }
 }
 
-pub fn put_head(room: &mut [u8], placed: usize, head: Head) -> usize {
-    let ended = put_number(room, placed, head.ending);
-    let first = put_next(room, ended, head.first);
-    put_next(room, first, head.second)
+pub fn put_head(stdout: Stdout, room: &mut [u8], placed: usize, head: Head) -> usize {
+    let ended = put_number(stdout, room, placed, head.ending);
+    let first = put_next(stdout, room, ended, head.first);
+    put_next(stdout, room, first, head.second)
 }

@@ -5,6 +5,7 @@ use ladder_definitions::LadderScanned;
 use list_definitions::{ListScanned, Listed};
 use questions::Refusal;
 use rungs::Search;
+use std::io::Stdout;
 use test_requests::output;
 use text_definitions::TextRead;
 use translation_definitions::Translated;
@@ -20,157 +21,211 @@ pub struct Times {
 }
 
 // A text and a number after it.
-pub fn put_count(room: &mut [u8], placed: usize, text: &[u8], value: u64) -> usize {
-    let end = output::put_text(room, placed, text);
-    output::put_next(room, end, value)
+pub fn put_count(stdout: Stdout, room: &mut [u8], placed: usize, text: &[u8], value: u64) -> usize {
+    let end = output::put_text(stdout, room, placed, text);
+    output::put_next(stdout, room, end, value)
 }
 
-fn put_refusal(room: &mut [u8], placed: usize, refusal: Refusal) -> usize {
+fn put_refusal(stdout: Stdout, room: &mut [u8], placed: usize, refusal: Refusal) -> usize {
     let head = output::refused_head(refusal);
-    let number = put_count(room, placed, b" refused", head.first);
-    put_count(room, number, b" place", head.second)
+    let number = put_count(stdout, room, placed, b" refused", head.first);
+    put_count(stdout, room, number, b" place", head.second)
 }
 
-fn put_read(room: &mut [u8], placed: usize, answer: TextRead) -> usize {
-    let name = output::put_text(room, placed, b"read");
+fn put_read(stdout: Stdout, room: &mut [u8], placed: usize, answer: TextRead) -> usize {
+    let name = output::put_text(stdout, room, placed, b"read");
     match answer {
         TextRead::Kept(counts) => {
-            let words = put_count(room, name, b" words", counts.words as u64);
-            put_count(room, words, b" rungs", counts.rungs as u64)
+            let words = put_count(stdout, room, name, b" words", counts.words as u64);
+            put_count(stdout, room, words, b" rungs", counts.rungs as u64)
         }
-        TextRead::Refused(refusal) => put_refusal(room, name, refusal),
+        TextRead::Refused(refusal) => put_refusal(stdout, room, name, refusal),
     }
 }
 
-pub fn put_translated(room: &mut [u8], placed: usize, answer: Translated) -> usize {
-    let name = output::put_text(room, placed, b"\ntranslate");
+pub fn put_translated(stdout: Stdout, room: &mut [u8], placed: usize, answer: Translated) -> usize {
+    let name = output::put_text(stdout, room, placed, b"\ntranslate");
     match answer {
         Translated::Written(counts) => {
-            let instructions = put_count(room, name, b" instructions", counts.instructions as u64);
-            let rungs = put_count(room, instructions, b" rungs", counts.rungs as u64);
-            put_count(room, rungs, b" longest", counts.longest as u64)
+            let instructions = put_count(
+                stdout,
+                room,
+                name,
+                b" instructions",
+                counts.instructions as u64,
+            );
+            let rungs = put_count(stdout, room, instructions, b" rungs", counts.rungs as u64);
+            put_count(stdout, room, rungs, b" longest", counts.longest as u64)
         }
-        Translated::Refused(refusal) => put_refusal(room, name, refusal),
+        Translated::Refused(refusal) => put_refusal(stdout, room, name, refusal),
     }
 }
 
 // The counts that both scans answer.
-fn put_counts(room: &mut [u8], placed: usize, rungs: u32, moved: u32) -> usize {
-    let after_rungs = put_count(room, placed, b" rungs", rungs as u64);
-    put_count(room, after_rungs, b" moved", moved as u64)
+fn put_counts(stdout: Stdout, room: &mut [u8], placed: usize, rungs: u32, moved: u32) -> usize {
+    let after_rungs = put_count(stdout, room, placed, b" rungs", rungs as u64);
+    put_count(stdout, room, after_rungs, b" moved", moved as u64)
 }
 
-fn put_ladder(room: &mut [u8], placed: usize, answer: LadderScanned) -> usize {
-    let name = output::put_text(room, placed, b"\nladder scan");
+fn put_ladder(stdout: Stdout, room: &mut [u8], placed: usize, answer: LadderScanned) -> usize {
+    let name = output::put_text(stdout, room, placed, b"\nladder scan");
     match answer {
         LadderScanned::Ended(counts) => {
-            let ended = output::put_text(room, name, b" ended,");
-            put_counts(room, ended, counts.rungs, counts.moved)
+            let ended = output::put_text(stdout, room, name, b" ended,");
+            put_counts(stdout, room, ended, counts.rungs, counts.moved)
         }
         LadderScanned::Stopped(counts) => {
-            let stopped = output::put_text(room, name, b" stopped,");
-            put_counts(room, stopped, counts.rungs, counts.moved)
+            let stopped = output::put_text(stdout, room, name, b" stopped,");
+            put_counts(stdout, room, stopped, counts.rungs, counts.moved)
         }
-        LadderScanned::Refused(refusal) => put_refusal(room, name, refusal),
+        LadderScanned::Refused(refusal) => put_refusal(stdout, room, name, refusal),
     }
 }
 
-fn put_list_counts(room: &mut [u8], placed: usize, counts: list_definitions::Counts) -> usize {
-    let shared = put_counts(room, placed, counts.rungs, counts.moved);
-    put_count(room, shared, b" instructions", counts.instructions as u64)
+fn put_list_counts(
+    stdout: Stdout,
+    room: &mut [u8],
+    placed: usize,
+    counts: list_definitions::Counts,
+) -> usize {
+    let shared = put_counts(stdout, room, placed, counts.rungs, counts.moved);
+    put_count(
+        stdout,
+        room,
+        shared,
+        b" instructions",
+        counts.instructions as u64,
+    )
 }
 
-fn put_list(room: &mut [u8], placed: usize, answer: ListScanned) -> usize {
-    let name = output::put_text(room, placed, b"\nlist scan");
+fn put_list(stdout: Stdout, room: &mut [u8], placed: usize, answer: ListScanned) -> usize {
+    let name = output::put_text(stdout, room, placed, b"\nlist scan");
     match answer {
         ListScanned::Ended(counts) => {
-            let ended = output::put_text(room, name, b" ended,");
-            put_list_counts(room, ended, counts)
+            let ended = output::put_text(stdout, room, name, b" ended,");
+            put_list_counts(stdout, room, ended, counts)
         }
         ListScanned::Stopped(counts) => {
-            let stopped = output::put_text(room, name, b" stopped,");
-            put_list_counts(room, stopped, counts)
+            let stopped = output::put_text(stdout, room, name, b" stopped,");
+            put_list_counts(stdout, room, stopped, counts)
         }
-        ListScanned::Refused(refusal) => put_refusal(room, name, refusal),
+        ListScanned::Refused(refusal) => put_refusal(stdout, room, name, refusal),
     }
 }
 
 // The variables of a table.
-fn put_variables(room: &mut [u8], placed: usize, table: &[u8]) -> usize {
-    let name = output::put_text(room, placed, b"\nvariables");
-    output::put_bytes(room, name, table, VARS as usize)
+fn put_variables(stdout: Stdout, room: &mut [u8], placed: usize, table: &[u8]) -> usize {
+    let name = output::put_text(stdout, room, placed, b"\nvariables");
+    output::put_bytes(stdout, room, name, table, VARS as usize)
 }
 
-pub fn put_times(room: &mut [u8], placed: usize, times: Times) -> usize {
-    let first = put_count(room, placed, b"\ntimes", times.first as u64);
-    output::put_next(room, first, times.last as u64)
+pub fn put_times(stdout: Stdout, room: &mut [u8], placed: usize, times: Times) -> usize {
+    let first = put_count(stdout, room, placed, b"\ntimes", times.first as u64);
+    output::put_next(stdout, room, first, times.last as u64)
 }
 
 // The numbers of timer records.
-fn put_timers(room: &mut [u8], placed: usize, timers: &[u32]) -> usize {
-    let name = output::put_text(room, placed, b"\ntimers");
-    output::put_items(room, name, timers, timers.len())
+fn put_timers(stdout: Stdout, room: &mut [u8], placed: usize, timers: &[u32]) -> usize {
+    let name = output::put_text(stdout, room, placed, b"\ntimers");
+    output::put_items(stdout, room, name, timers, timers.len())
 }
 
 // The first `bytes` bytes of the listing.
-fn put_lines(room: &mut [u8], placed: usize, listing: &[u8], bytes: usize) -> usize {
+fn put_lines(
+    stdout: Stdout,
+    room: &mut [u8],
+    placed: usize,
+    listing: &[u8],
+    bytes: usize,
+) -> usize {
     if bytes <= listing.len() {
-        return output::put_text(room, placed, &listing[..bytes]);
+        return output::put_text(stdout, room, placed, &listing[..bytes]);
     }
     placed
 }
 
-pub fn put_listed(room: &mut [u8], placed: usize, answer: Listed, listing: &[u8]) -> usize {
-    let name = output::put_text(room, placed, b"\nlisting");
+pub fn put_listed(
+    stdout: Stdout,
+    room: &mut [u8],
+    placed: usize,
+    answer: Listed,
+    listing: &[u8],
+) -> usize {
+    let name = output::put_text(stdout, room, placed, b"\nlisting");
     match answer {
         Listed::Written(bytes) => {
-            let counted = put_count(room, name, b" bytes", bytes as u64);
-            let line = output::put_byte(room, counted, b'\n');
-            put_lines(room, line, listing, bytes)
+            let counted = put_count(stdout, room, name, b" bytes", bytes as u64);
+            let line = output::put_byte(stdout, room, counted, b'\n');
+            put_lines(stdout, room, line, listing, bytes)
         }
         Listed::Refused(refusal) => {
-            let refused = put_refusal(room, name, refusal);
-            output::put_byte(room, refused, b'\n')
+            let refused = put_refusal(stdout, room, name, refusal);
+            output::put_byte(stdout, room, refused, b'\n')
         }
     }
 }
 
 // What Ladder scan answered and left.
 pub fn put_ladder_scan(
+    stdout: Stdout,
     room: &mut [u8],
     placed: usize,
     answer: LadderScanned,
     table: &[u8],
 ) -> usize {
-    let answered = put_ladder(room, placed, answer);
-    put_variables(room, answered, table)
+    let answered = put_ladder(stdout, room, placed, answer);
+    put_variables(stdout, room, answered, table)
 }
 
 // What List scan answered and left.
-pub fn put_list_scan(room: &mut [u8], placed: usize, answer: ListScanned, table: &[u8]) -> usize {
-    let answered = put_list(room, placed, answer);
-    put_variables(room, answered, table)
+pub fn put_list_scan(
+    stdout: Stdout,
+    room: &mut [u8],
+    placed: usize,
+    answer: ListScanned,
+    table: &[u8],
+) -> usize {
+    let answered = put_list(stdout, room, placed, answer);
+    put_variables(stdout, room, answered, table)
 }
 
 // What Read and Translate answered.
-pub fn put_made(room: &mut [u8], placed: usize, read: TextRead, translated: Translated) -> usize {
-    let after_read = put_read(room, placed, read);
-    put_translated(room, after_read, translated)
+pub fn put_made(
+    stdout: Stdout,
+    room: &mut [u8],
+    placed: usize,
+    read: TextRead,
+    translated: Translated,
+) -> usize {
+    let after_read = put_read(stdout, room, placed, read);
+    put_translated(stdout, room, after_read, translated)
 }
 
 // The times entered of a row and the numbers of timer records that a scan left.
-pub fn put_left(room: &mut [u8], placed: usize, times: Times, timers: &[u32]) -> usize {
-    let after_times = put_times(room, placed, times);
-    put_timers(room, after_times, timers)
+pub fn put_left(
+    stdout: Stdout,
+    room: &mut [u8],
+    placed: usize,
+    times: Times,
+    timers: &[u32],
+) -> usize {
+    let after_times = put_times(stdout, room, placed, times);
+    put_timers(stdout, room, after_times, timers)
 }
 
-pub fn put_search(room: &mut [u8], placed: usize, label: u32, answer: Search) -> usize {
-    let name = put_count(room, placed, b"search", label as u64);
+pub fn put_search(
+    stdout: Stdout,
+    room: &mut [u8],
+    placed: usize,
+    label: u32,
+    answer: Search,
+) -> usize {
+    let name = put_count(stdout, room, placed, b"search", label as u64);
     match answer {
         Search::Found { place, looked } => {
-            let found = put_count(room, name, b" place", place as u64);
-            put_count(room, found, b" looked", looked as u64)
+            let found = put_count(stdout, room, name, b" place", place as u64);
+            put_count(stdout, room, found, b" looked", looked as u64)
         }
-        Search::Missing { looked } => put_count(room, name, b" none looked", looked as u64),
+        Search::Missing { looked } => put_count(stdout, room, name, b" none looked", looked as u64),
     }
 }

@@ -2,32 +2,34 @@
 // watchdog, the timers and the tick.
 #![tactic(auto)]
 
+use std::io::{Stdin, Stdout};
 use test_requests::input::{Input, Lent};
 use test_requests::{State, input, output};
 use turns::{LADDER, Scanned};
 
 mod turns;
 
-fn put_scanned(room: &mut [u8], placed: usize, answer: Scanned) -> usize {
-    let ended = output::put_number(room, placed, answer.ending);
-    let first = output::put_next(room, ended, answer.first);
-    let second = output::put_next(room, first, answer.second);
+fn put_scanned(stdout: Stdout, room: &mut [u8], placed: usize, answer: Scanned) -> usize {
+    let ended = output::put_number(stdout, room, placed, answer.ending);
+    let first = output::put_next(stdout, room, ended, answer.first);
+    let second = output::put_next(stdout, room, first, answer.second);
     if answer.numbers == 2 {
         return second;
     }
-    output::put_next(room, second, answer.third)
+    output::put_next(stdout, room, second, answer.third)
 }
 
 // The times entered, which only a List scan changes.
-fn put_times(room: &mut [u8], placed: usize, kind: u32, times: &[u32]) -> usize {
+fn put_times(stdout: Stdout, room: &mut [u8], placed: usize, kind: u32, times: &[u32]) -> usize {
     if kind == LADDER {
         return placed;
     }
-    output::put_items(room, placed, times, times.len())
+    output::put_items(stdout, room, placed, times, times.len())
 }
 
 // Makes the scan, and puts the answer.
 fn answer_scan(
+    stdout: Stdout,
     room: &mut [u8],
     placed: usize,
     kind: u32,
@@ -51,10 +53,11 @@ fn answer_scan(
         kind, vars, words, labels, offsets, lengths, times, table, watchdog, preset, start,
         variable, running, done, tick, turns,
     );
-    let ended = put_scanned(room, placed, answer);
-    let shown = output::put_bytes(room, ended, table, table.len());
-    let counted = put_times(room, shown, kind, times);
+    let ended = put_scanned(stdout, room, placed, answer);
+    let shown = output::put_bytes(stdout, room, ended, table, table.len());
+    let counted = put_times(stdout, room, shown, kind, times);
     let timed = output::put_timers(
+        stdout,
         room,
         counted,
         preset,
@@ -64,12 +67,14 @@ fn answer_scan(
         done,
         preset.len(),
     );
-    output::put_byte(room, timed, b'\n')
+    output::put_byte(stdout, room, timed, b'\n')
 }
 
 // The scan of what was read, from the tick on.
 fn scan_timed(
+    stdin: Stdin,
     chunk: &mut [u8],
+    stdout: Stdout,
     room: &mut [u8],
     placed: usize,
     from: Input,
@@ -89,13 +94,13 @@ fn scan_timed(
     done: &mut [u8],
     turns: u32,
 ) -> State {
-    let tick = input::more(chunk, from);
+    let tick = input::more(stdin, chunk, from);
     if !input::is_line_end(tick) {
         return test_requests::refuse(placed);
     }
     let answered = answer_scan(
-        room, placed, kind, vars, words, labels, offsets, lengths, times, table, watchdog, preset,
-        start, variable, running, done, tick.value, turns,
+        stdout, room, placed, kind, vars, words, labels, offsets, lengths, times, table, watchdog,
+        preset, start, variable, running, done, tick.value, turns,
     );
     State {
         input: tick,
@@ -105,7 +110,9 @@ fn scan_timed(
 
 // The scan of what was read, from the timers on.
 fn scan_watched(
+    stdin: Stdin,
     chunk: &mut [u8],
+    stdout: Stdout,
     room: &mut [u8],
     placed: usize,
     from: Input,
@@ -125,6 +132,7 @@ fn scan_watched(
     let mut running = [0u8; 40];
     let mut done = [0u8; 40];
     let timed = input::read_timers(
+        stdin,
         chunk,
         from,
         &mut preset,
@@ -135,7 +143,9 @@ fn scan_watched(
     );
     let k = timed.count;
     scan_timed(
+        stdin,
         chunk,
+        stdout,
         room,
         placed,
         timed.input,
@@ -159,7 +169,9 @@ fn scan_watched(
 
 // The scan of a ladder or a list that was read, from the table on.
 fn scan_lent(
+    stdin: Stdin,
     chunk: &mut [u8],
+    stdout: Stdout,
     room: &mut [u8],
     placed: usize,
     kind: u32,
@@ -172,11 +184,13 @@ fn scan_lent(
     turns: u32,
 ) -> State {
     let mut table = [0u8; 1100];
-    let filled = input::read_table(chunk, lent.input, &mut table);
-    let watchdog = input::more(chunk, filled.input);
+    let filled = input::read_table(stdin, chunk, lent.input, &mut table);
+    let watchdog = input::more(stdin, chunk, filled.input);
     let t = filled.count;
     scan_watched(
+        stdin,
         chunk,
+        stdout,
         room,
         placed,
         watchdog,
@@ -194,7 +208,9 @@ fn scan_lent(
 
 // A scan of this kind, from the number after the kind on.
 pub fn scan_request(
+    stdin: Stdin,
     chunk: &mut [u8],
+    stdout: Stdout,
     room: &mut [u8],
     begun: Input,
     placed: usize,
@@ -207,6 +223,7 @@ pub fn scan_request(
     let mut times = [0u32; 400];
     let kind = begun.value;
     let lent = input::read_lent(
+        stdin,
         chunk,
         begun,
         &mut words,
@@ -218,7 +235,9 @@ pub fn scan_request(
     let n = lent.words;
     let m = lent.records;
     scan_lent(
+        stdin,
         chunk,
+        stdout,
         room,
         placed,
         kind,

@@ -3,9 +3,9 @@
 
 use test_requests::output;
 
-fn main() {
+fn main(rt: HostRuntime) {
     let mut chunk = [0u8; 65536];
     let mut room = [0u8; 65536];
-    let placed = test_answers::answer_turns(&mut chunk, &mut room);
-    output::write(&room, placed);
+    let placed = test_answers::answer_turns(rt.stdin(), &mut chunk, rt.stdout(), &mut room);
+    output::write(rt.stdout(), &room, placed);
 }
