@@ -2,7 +2,7 @@
 -- Assumes nothing.
 use Rattle.std.proofs.Common.{◌≡◌, ℕ, zero, suc, ◌+◌, ◌-◌, ◌*◌, ◌/◌, ◌%◌, ◌^◌, ◌<◌, ◌≤◌, Bool, true, false, not, ◌&&◌, ◌||◌, T, eqb, ltb, leb, List, [], ◌∷◌, ◌++◌, map, length, get_or, take, drop, sym, refl, ap, ◌∙◌, true≢false, append_assoc, append-nil, add-one, arith, ltb→lt, length-append, length-drop, length-take-le, drop-cons, get_or-take, drop-drop, below_more, le-ltb, lt-ltb, eq-eqb, ne_eqb, le-leb}
 use native.Mathlib.Decide.{dec_lt}
-use mathlib.Core.Bool.{and_assoc, and_true, and-false, or-true}
+use mathlib.Core.Bool.{and_assoc, and-true, and-false, or-true}
 use mathlib.Core.Option.{none, some}
 use mathlib.Core.List.{flat_map}
 use lib.ListN.{length-map}
@@ -79,7 +79,7 @@ module _ {A : Type 0} (test : A → Bool) where
     }
 
     pub asked_end : length xs ≤ i → b ≡ all test xs
-    asked_end h = sym (and_true b) ∙ (rw (all_ends test xs i h) at a.same)
+    asked_end h = sym (and-true b) ∙ (rw (all_ends test xs i h) at a.same)
 
 all_map : {A B : Type 0} (test : B → Bool) (f : A → B) (xs : List A) → all test (map f xs) ≡ all (λ x. test (f x)) xs
 unfolding all
@@ -97,7 +97,7 @@ pub record Tests (test : ℕ → Bool) (inputs : Input → Bool) (outputs : Outp
 module _ {test : ℕ → Bool} {inputs : Input → Bool} {outputs : Output → Bool} (t : Tests test inputs outputs) where
   front_tested : (f : Front) → T (front_all input_fits f) → all test (front_words f) ≡ front_all inputs f
   unfolding front_words front_all all name_sort name_sorts
-  front_tested (input i) h = rw (t.of_input i h) (and_true (inputs i))
+  front_tested (input i) h = rw (t.of_input i h) (and-true (inputs i))
   front_tested (front_and f g) h =
       let b = and_yes (front_all input_fits f) (front_all input_fits g) h in
       rw (t.of_root (front_kind (front_and f g)) refl, all_both test (front_words f) (front_words g), front_tested f b.0, front_tested g b.1)
@@ -107,7 +107,7 @@ module _ {test : ℕ → Bool} {inputs : Input → Bool} {outputs : Output → B
 
   rear_tested : (r : Rear) → T (rear_all input_fits output_fits r) → all test (rear_words r) ≡ rear_all inputs outputs r
   unfolding rear_words rear_all all name_sort name_sorts
-  rear_tested (output o) h = rw (t.of_output o h) (and_true (outputs o))
+  rear_tested (output o) h = rw (t.of_output o h) (and-true (outputs o))
   rear_tested (rear_and f r) h =
       let b = and_yes (front_all input_fits f) (rear_all input_fits output_fits r) h in
       rw (t.of_root (rear_kind (rear_and f r)) refl, all_both test (front_words f) (rear_words r), front_tested f b.0, rear_tested r b.1)

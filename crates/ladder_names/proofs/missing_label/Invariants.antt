@@ -1,0 +1,12 @@
+-- `ladder_names::missing_label` meets its contract. The loop's invariant: the words from `from` on are those of the rungs from `k` on,
+-- and the rungs before passed. Assumes nothing.
+use Rattle.std.proofs.Common.{◌-◌, length}
+use Rattle.ladder_definitions.specs.Questions.{rung_leads}
+use Rattle.ladder_names.proofs.Asked.{Walked}
+use Rattle.ladder_names.proofs.missing_label.Given as goal
+
+abbrev pub invariant-loop-k : goal.invariant-loop-k
+invariant-loop-k l = Walked (rung_leads l.labels) l.words l.lengths l.from l.k
+
+abbrev pub decreases-loop-k : goal.decreases-loop-k
+decreases-loop-k l = length l.lengths - l.k
