@@ -1,13 +1,7 @@
 -- `list_questions::code_in_range` meets its contract. The loop's invariant: the words from `i` on are in range just when all are. Assumes nothing.
-use mathlib.Core.Path.{◌≡◌, refl, sym, ◌∙◌}
-use Prim.Native.Nat.{◌≤◌, ◌-◌}
+use mathlib.Core.Path.{refl, sym, ◌∙◌}
 use native.Mathlib.Omega.{arith}
-use borrow.Author.Rules.{rules}
-use borrow.Author.Tests.{not-true, not-false}
-use lib.ListN.{length, drop}
-use Rattle.questions.specs.Tests.{all}
 use Rattle.questions.proofs.Laws.Tests.{all_more, all_fails, all_ends}
-use Rattle.list_definitions.specs.Questions.{word_in_range}
 use Rattle.list_questions.proofs.code_in_range.Goals as goal
 
 pub loop-i-init : goal.loop-i-init

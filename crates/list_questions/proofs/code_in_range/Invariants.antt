@@ -1,12 +1,8 @@
 -- `list_questions::code_in_range` meets its contract. The loop's invariant: the words from `i` on are in range just when all are. Assumes nothing.
-use mathlib.Core.Path.{◌≡◌, refl, sym, ◌∙◌}
+use mathlib.Core.Path.{◌≡◌}
 use Prim.Native.Nat.{◌≤◌, ◌-◌}
-use native.Mathlib.Omega.{arith}
-use borrow.Author.Rules.{rules}
-use borrow.Author.Tests.{not-true, not-false}
 use lib.ListN.{length, drop}
 use Rattle.questions.specs.Tests.{all}
-use Rattle.questions.proofs.Laws.Tests.{all_more, all_fails, all_ends}
 use Rattle.list_definitions.specs.Questions.{word_in_range}
 use Rattle.list_questions.proofs.code_in_range.Given as goal
 
@@ -15,4 +11,3 @@ invariant-loop-i l = (l.i ≤ length l.code) × (all (word_in_range l.size (leng
 
 abbrev pub decreases-loop-i : goal.decreases-loop-i
 decreases-loop-i l = length l.code - l.i
-

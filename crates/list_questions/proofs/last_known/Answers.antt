@@ -1,5 +1,4 @@
 -- `list_questions::last_known` meets its contract: a law for fewer records than numbers, and one for the others. Assumes nothing.
-use borrow.Author.Rules.{rules}
 use Rattle.list_questions.proofs.Timers.{last_few, last_many}
 use Rattle.list_questions.proofs.last_known.Goals as goal
 

@@ -1,7 +1,5 @@
 -- `list_questions::list_in_range` meets its contract: the tests of question 10 one after the other, a law for each. Assumes nothing.
 use mathlib.Core.Path.{sym, ◌∙◌}
-use borrow.Author.Rules.{rules}
-use borrow.Author.Tests.{not-true, not-false}
 use Rattle.list_questions.proofs.Ranges.{no_code, much_code, uneven_first, uneven_second, no_records, many_records, not_laid_lem, all_words}
 use Rattle.list_questions.proofs.list_in_range.Goals as goal
 

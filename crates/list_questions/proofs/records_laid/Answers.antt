@@ -1,11 +1,8 @@
 -- `list_questions::records_laid` meets its contract. The loop's invariant: the records from `i` on are laid from `start` just when all are laid.
 -- A record's offset is below 2^32, and so is `start` once the two are equal, so no sum wraps. Assumes nothing.
 use mathlib.Core.Path.{refl, sym, ◌∙◌}
-use Prim.Native.Nat.{◌-◌}
 use native.Mathlib.Omega.{arith}
-use borrow.Author.Rules.{rules}
-use lib.ListN.{length}
-use Rattle.list_questions.proofs.Ranges.{Laying, laid_off, laid_empty, laid_more, laid_done}
+use Rattle.list_questions.proofs.Ranges.{laid_off, laid_empty, laid_more, laid_done}
 use Rattle.list_questions.proofs.records_laid.Goals as goal
 
 pub loop-i-init : goal.loop-i-init

@@ -1,9 +1,5 @@
 -- `list_questions::timers_known` meets its contract. The loop's invariant: no word so far is unknown, and none from `i` on, just when none is. Assumes nothing.
-use Prim.Native.Nat.{◌-◌}
-use native.Mathlib.Omega.{arith}
-use borrow.Author.Rules.{rules}
-use lib.ListN.{length}
-use Rattle.list_questions.proofs.Timers.{Asking, asking_start, asking_more, asking_end}
+use Rattle.list_questions.proofs.Timers.{asking_start, asking_more, asking_end}
 use Rattle.list_questions.proofs.timers_known.Goals as goal
 
 pub loop-i-init : goal.loop-i-init

@@ -1,7 +1,6 @@
 -- `list_questions::word_in_range` meets its contract: the sort of the op says what its operand is asked. Assumes nothing.
 use Rattle.list_ops.specs.Sorts.{sort_in}
 use Rattle.list_ops.proofs.Laws.Sorts.{sort_in_range, word_told}
-use borrow.Author.Rules.{rules}
 use Rattle.list_questions.proofs.word_in_range.Goals as goal
 
 pub returns-in-Table : goal.returns-in-Table

@@ -1,0 +1,8 @@
+-- `list_machine::stepped` meets its contract: what the instruction does, and the counts. Assumes nothing.
+use mathlib.Core.Path.{refl}
+use Rattle.list_machine.proofs.Steps.{stepped}
+use borrow.Author.Rules.{rules}
+use Rattle.list_machine.proofs.stepped.Goals as goal
+
+pub returns : goal.returns
+returns c = stepped _ _ _ _ _ _ refl c.carry_out-effect.ensures
