@@ -3,6 +3,7 @@
 
 use program_chunks::{LF, Reading};
 use program_numbers::FirstLine;
+use std::io::Stdin;
 
 // A line that is a number, or not, and the reading after it.
 #[derive(Clone, Copy)]
@@ -12,12 +13,12 @@ pub struct Line {
 }
 
 // A line, byte by byte, in as many turns as no run uses up.
-pub fn number_line(chunk: &mut [u8], from: Reading) -> Line {
+pub fn number_line(stdin: Stdin, chunk: &mut [u8], from: Reading) -> Line {
     let mut line = program_numbers::begin();
     let mut reading = from;
     let mut left: u64 = 18446744073709551615;
     while 0 < left {
-        let taken = program_chunks::next_byte(chunk, reading);
+        let taken = program_chunks::next_byte(stdin, chunk, reading);
         reading = taken.reading;
         let byte = taken.byte;
         if byte == LF {
