@@ -113,6 +113,8 @@ module _ (seen : ℕ → Bool) where
   unfolding unless_jumped unless_jumped_writes
   unless_agree (onward s) (onward t) a b next more (onwards p) e h = let z = h s t p in record { runs = z.runs; writes = rw (e, z.writes) refl }
   unless_agree (jumped l s) (jumped m t) a b next more (jumps p) e h = record { runs = jumps p; writes = rw e refl }
+  unless_agree (onward s) (jumped m t) a b next more x e h = elim x [ ]
+  unless_agree (jumped l s) (onward t) a b next more x e h = elim x [ ]
 
   rear_agree : (r : Rear) (q : Bool) (s t : State) → T (all seen (rear_contacts r)) → Agree s t
       → Lockstep (run_rear r q s) (run_rear r q t) (rear_writes r q s) (rear_writes r q t)
@@ -145,6 +147,8 @@ module _ (seen : ℕ → Bool) where
   unfolding follow left
   follow_agree gs rest (onward s) (onward t) (onwards p) = (refl, p)
   follow_agree gs rest (jumped l s) (jumped m t) (jumps p) = (refl, p)
+  follow_agree gs rest (onward s) (jumped m t) x = elim x [ ]
+  follow_agree gs rest (jumped l s) (onward t) x = elim x [ ]
 
   from_agree : (gs : Ladder) (n k : ℕ) (rest : Ladder) (s t : State) → T (all (contacts_pass seen) gs) → T (all (contacts_pass seen) rest) → Agree s t
       → ScansAgree (scan_from gs n k rest s) (scan_from gs n k rest t) (writes_from gs n rest s) (writes_from gs n rest t)
