@@ -4,7 +4,6 @@ use native.Mathlib.Nat.{add-zero}
 use mathlib.Core.Path.{◌≡◌, refl, sym}
 use mathlib.Core.List.{List}
 use lib.Seq.{set-get_or}
-use borrow.Author.Rules.{rules}
 use Rattle.list_machine.specs.Parts.{counted}
 use Rattle.list_machine.proofs.count_entry.Goals as goal
 

@@ -1,5 +1,4 @@
 -- `list_machine::first_place` meets its contract: whether the first record begins at index 0. Assumes nothing.
-use borrow.Author.Rules.{rules}
 use Rattle.list_machine.specs.Parts.{first_place}
 use Rattle.list_machine.proofs.first_place.Goals as goal
 

@@ -1,7 +1,7 @@
 -- `list_machine::seek` meets its contract. The loop's invariant: the place lies between `low` and `high`, which come nearer by halves. Assumes nothing.
 use Prim.Native.Nat.{◌+◌, ◌-◌, ◌/◌}
 use native.Mathlib.Omega.{arith}
-use Rattle.list_machine.proofs.Laws.Seeks.{Between, between_all, go_up, go_down, sought}
+use Rattle.list_machine.proofs.Laws.Seeks.{between_all, go_up, go_down, sought}
 use Rattle.list_machine.proofs.seek.Goals as goal
 
 pub loop-low-init : goal.loop-low-init

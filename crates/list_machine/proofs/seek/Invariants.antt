@@ -1,7 +1,6 @@
 -- `list_machine::seek` meets its contract. The loop's invariant: the place lies between `low` and `high`, which come nearer by halves. Assumes nothing.
-use Prim.Native.Nat.{◌+◌, ◌-◌, ◌/◌}
-use native.Mathlib.Omega.{arith}
-use Rattle.list_machine.proofs.Laws.Seeks.{Between, between_all, go_up, go_down, sought}
+use Prim.Native.Nat.{◌-◌}
+use Rattle.list_machine.proofs.Laws.Seeks.{Between}
 use Rattle.list_machine.proofs.seek.Given as goal
 
 abbrev pub invariant-loop-low : goal.invariant-loop-low
@@ -9,4 +8,3 @@ invariant-loop-low l = Between l.offsets l.index l.low l.high
 
 abbrev pub decreases-loop-low : goal.decreases-loop-low
 decreases-loop-low l = l.high - l.low
-

@@ -1,6 +1,5 @@
 -- `list_machine::starts_here` meets its contract: the two tests, one after the other. Assumes nothing.
 use native.Mathlib.Omega.{arith}
-use borrow.Author.Rules.{rules}
 use borrow.Author.Tests.{lt-ltb, le-ltb, eq-eqb, ne_eqb}
 use Rattle.list_machine.specs.Parts.{starts_here}
 use Rattle.list_machine.proofs.starts_here.Goals as goal

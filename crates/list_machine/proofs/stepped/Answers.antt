@@ -1,7 +1,6 @@
 -- `list_machine::stepped` meets its contract: what the instruction does, and the counts. Assumes nothing.
 use mathlib.Core.Path.{refl}
 use Rattle.list_machine.proofs.Steps.{stepped}
-use borrow.Author.Rules.{rules}
 use Rattle.list_machine.proofs.stepped.Goals as goal
 
 pub returns : goal.returns
