@@ -5,7 +5,6 @@ pub mod Names
 pub mod Timed
 pub mod Refusing
 pub mod Watchdog
-pub mod Words
 pub mod Writes
 pub mod Times
 pub mod Answers

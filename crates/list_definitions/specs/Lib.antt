@@ -1,5 +1,6 @@
--- Lists. Definitions: Instruction, Machine, Writes, Questions, Names, and the calls List scan and Listing: ListScan, Listing. Worked lists: Examples. What is
+-- Lists. Definitions: Instruction, Decoding, Machine, Writes, Questions, Names, and the calls List scan and Listing: ListScan, Listing. Worked lists: Examples. What is
 -- proved of the definitions: Theorems, with Standing. Laws, which no contract cites: Laws.
+pub mod Decoding
 pub mod Instruction
 pub mod ListScan
 pub mod Listing

@@ -11,7 +11,7 @@ use Rattle.rungs.specs.Records.{laid, fields_of, most_records}
 use Rattle.rungs.proofs.Laws.Rows.{Even, row_even, row_length}
 use Rattle.list_definitions.specs.Instruction.{decode_code, code_of}
 use Rattle.list_definitions.specs.Questions.{most_instructions, list_in_range}
-use Rattle.list_definitions.proofs.Laws.Words.{instr_of, Decodes}
+use Rattle.list_definitions.specs.Decoding.{instr_of, Decodes}
 use Rattle.list_definitions.proofs.Laws.InRange.{list_in_range_lem}
 
 pub record ListAccepted (vars : ℕ) (ws ls os ns : List ℕ) : Type 0 where

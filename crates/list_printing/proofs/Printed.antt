@@ -27,7 +27,7 @@ use Rattle.rungs.proofs.Laws.Layout.{laid_next_lem, laid_most}
 use Rattle.list_printing.proofs.Accepting.{ListAccepted, list_accepted}
 use Rattle.printing.specs.Put.{Put}
 use Rattle.printing.proofs.Laws.Puts.{put_then, put_as, Left, all_left, left_none, left_more, decimal_long}
-use Rattle.list_definitions.proofs.Laws.Words.{instr_of, Decodes}
+use Rattle.list_definitions.specs.Decoding.{instr_of, Decodes}
 use Rattle.list_printing.specs.Parts.{word_line, word_lines, operand_in, operand_by, RungReady}
 
 -- The names.

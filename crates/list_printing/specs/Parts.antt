@@ -4,7 +4,7 @@ use mathlib.Core.List.{List, [], flat_map}
 use Rattle.list_definitions.specs.Instruction.{Operand, table_index, no_operand, instruction_index, timer_number, OperandSort, table_sort, nothing_sort, instruction_sort, timer_sort, no_sort, operand_sort}
 use Rattle.list_definitions.specs.Names.{Names}
 use Rattle.list_definitions.specs.Listing.{operand_text, instr_line, ended}
-use Rattle.list_definitions.proofs.Laws.Words.{instr_of, Decodes}
+use Rattle.list_definitions.specs.Decoding.{instr_of, Decodes}
 
 -- the lines of some words
 unfoldable pub word_line : Names → ℕ → ℕ → List ℕ

@@ -12,7 +12,7 @@ ghost use Rattle.list_definitions.specs.ListScan.{list_of};
 ghost use Rattle.list_definitions.specs.Names.{name_of, most_op, name_bytes, names_in};
 ghost use Rattle.list_definitions.specs.Listing.{label_line, ended, listing_text};
 ghost use Rattle.printing.specs.Put.{Put};
-ghost use Rattle.list_definitions.proofs.Laws.Words.{Decodes};
+ghost use Rattle.list_definitions.specs.Decoding.{Decodes};
 ghost use Rattle.list_printing.specs.Parts.{operand_by, word_line, word_lines, RungReady};
 
 use list_names::NAME_BYTES;

@@ -20,7 +20,7 @@ use Rattle.list_definitions.specs.Machine.{ListResult, scan_list}
 use Rattle.list_definitions.specs.Questions.{records_laid, list_in_range, question10, question17}
 use Rattle.list_definitions.specs.ListScan.{ListCounts, ListScanCall, counts_of, scanned, refused, list_of, scan_ends, scan_questions, call_list_scan}
 use Rattle.list_definitions.specs.Writes.{list_writes}
-use Rattle.list_definitions.proofs.Laws.Words.{instr_of}
+use Rattle.list_definitions.specs.Decoding.{instr_of}
 use Rattle.list_definitions.proofs.Laws.InRange.{InRange, list_in_range_lem}
 use Rattle.list_definitions.proofs.Laws.Times.{each_time, times_sum}
 use Rattle.list_definitions.proofs.Laws.Watchdog.{list_within}

@@ -9,7 +9,7 @@ use Rattle.table.specs.State.{table_size}
 use Rattle.rungs.specs.Records.{RungRecord, laid, most_records}
 use Rattle.list_definitions.specs.Instruction.{Instr, decode_instr, decode_code, code_of}
 use Rattle.list_definitions.specs.Questions.{word_in_range, most_instructions, records_laid, list_in_range}
-use Rattle.list_definitions.proofs.Laws.Words.{instr_of, Decodes}
+use Rattle.list_definitions.specs.Decoding.{instr_of, Decodes}
 
 word_decodes : (size n w : ℕ) → T (word_in_range size n w) → Decodes w
 unfolding word_in_range

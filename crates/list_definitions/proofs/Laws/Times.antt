@@ -1,5 +1,5 @@
 -- The times entered: one for each record, none more than the instructions carried out, and together the rungs entered (02, Req 04). Assumes nothing.
-use Prim.Native.Nat.{ℕ, zero, suc, ◌+◌, ◌≤◌, ◌<◌}
+use Prim.Native.Nat.{ℕ, zero, suc, ◌+◌, ◌<◌}
 use Rattle.std.proofs.Common.{add-zero, arith, ◌∙◌, ne_eqb, eqb→eq, ltb→lt}
 use Rattle.std.specs.Prelude.{◌≡◌, Bool, true, false, ◌||◌, T, eqb, ltb, length, replicate}
 use Rattle.std.proofs.Math.Path.{refl, ap}

@@ -16,7 +16,7 @@ use Rattle.rungs.specs.Records.{RungRecord, laid, most_records}
 use Rattle.list_definitions.specs.Instruction.{Instr, Operand, table_index, no_operand, instruction_index, timer_number, operand, instr_word, decode_instr, code_of, instr_fits}
 use Rattle.list_definitions.specs.Machine.{InstructionList}
 use Rattle.list_definitions.specs.ListScan.{list_of}
-use Rattle.list_definitions.proofs.Laws.Words.{instr_of}
+use Rattle.list_definitions.specs.Decoding.{instr_of}
 use Rattle.list_definitions.specs.Questions.{operand_in_range, instr_in_range, word_in_range, most_instructions, records_laid, list_in_range, question10}
 use Rattle.list_definitions.specs.Names.{Names}
 use Rattle.list_definitions.specs.Listing.{listing_text}

@@ -1,5 +1,5 @@
--- The instruction of a word that holds one: what laws and parts ask of words. Assumes nothing.
-use Rattle.std.specs.Prelude.{ℕ, ◌≡◌, [], ◌∷◌}
+-- The instruction of a word that holds one: what laws, parts and contracts ask of words. Assumes nothing.
+use Rattle.std.specs.Prelude.{ℕ, ◌≡◌}
 use Rattle.std.proofs.Math.Option.{none, some}
 use Rattle.list_definitions.specs.Instruction.{Instr, NOT, decode_instr}
 
