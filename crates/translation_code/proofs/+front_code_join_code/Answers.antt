@@ -1,9 +1,6 @@
 -- `translation_code::front_code` and `join_code` meet their contracts: the word's kind forces the tree's root, and the parts' code is put by the same functions,
--- from later words. The measure is twice what is left of the words, and one more where a front is joined. Assumes nothing.
-use Prim.Native.Nat.{ℕ, ◌+◌, ◌-◌, ◌*◌, ◌<◌}
+-- from later words. The measure is twice what is left of the words, and one more where a front is joined.
 use native.Mathlib.Omega.{arith}
-use mathlib.Core.Path.{◌∙◌}
-use lib.ListN.{length}
 use Rattle.ladder_definitions.proofs.Laws.Trees.{inside}
 use Rattle.translation_code.proofs.Fronts.{front_contact, front_contactn, front_and_lem, front_or_lem, front_none, join_contact, join_contactn, join_through}
 use Rattle.translation_code.proofs.+front_code_join_code.Goals as goal
@@ -132,4 +129,3 @@ join_code-returns-in_default t c =
     join_through _ _ _ _ c.word_at-word.ensures _ _ _ _ _ _ _ _
     (λ l h. omega arith) c.put_instruction.ensures
     c.front_code-inner.ensures c.put_instruction-in_default.ensures
-

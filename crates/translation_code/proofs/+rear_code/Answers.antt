@@ -1,11 +1,9 @@
 -- `translation_code::rear_code` meets its contract: the sort of the word's kind forces the tree's root, and the parts' instructions are put from
--- later words. The measure is what is left of the words. Assumes nothing.
-use Prim.Native.Nat.{ℕ, ◌-◌, ◌<◌}
+-- later words. The measure is what is left of the words.
 use native.Mathlib.Omega.{arith}
 use mathlib.Core.Path.{ap}
-use lib.ListN.{length}
-use borrow.Author.Rules.{rules}
 use Rattle.ladder_definitions.proofs.Laws.Trees.{starts_rear}
+use Rattle.ladder_kinds.specs.Kinds.{sort_in}
 use Rattle.ladder_kinds.proofs.Arms.{told, not_rear}
 use Rattle.translation_code.proofs.Rears.{rear_inside, room_and, room_or, rear_output, rear_and_lem, rear_or_lem, rear_none}
 use Rattle.translation_code.proofs.+rear_code.Goals as goal
@@ -32,7 +30,7 @@ pub rear_code-requires : goal.rear_code-requires
 unfolding sort_in
 rear_code-requires t c =
     room_and _ _ _ _ _ _ _ c.word_at-word.ensures
-    c.requires
+    (c.decreases, c.requires)
     _ (told _ _ c.sort_of.ensures _ c.in-RearAnd.is) c.join_code-joined.ensures.within
 
 pub overflow_add-at-in-RearOr : goal.overflow_add-at-in-RearOr
@@ -51,7 +49,7 @@ pub overflow_add-put-in-RearOr : goal.overflow_add-put-in-RearOr
 unfolding sort_in
 overflow_add-put-in-RearOr t c =
     let h = room_or _ _ _ _ _ _ _ c.word_at-word.ensures
-    c.requires
+    (c.decreases, c.requires)
     _ (told _ _ c.sort_of.ensures _ c.in-RearOr.is) c.rear_code-first.ensures.within in
     omega (arith, h.1.3)
 
@@ -59,7 +57,7 @@ pub rear_code-requires-in-RearOr : goal.rear_code-requires-in-RearOr
 unfolding sort_in
 rear_code-requires-in-RearOr t c =
     room_or _ _ _ _ _ _ _ c.word_at-word.ensures
-    c.requires
+    (c.decreases, c.requires)
     _ (told _ _ c.sort_of.ensures _ c.in-RearOr.is) c.rear_code-first.ensures.within
 
 pub returns-in-Output : goal.returns-in-Output
@@ -85,9 +83,7 @@ returns-in-RearOr t c =
     c.put_instruction-in-RearOr.ensures
     c.rear_code-in-RearOr.ensures
 
--- note: keys ['match', 'keys4'] In_default
 pub returns-in_default : goal.returns-in_default
 returns-in_default t c =
     rear_none _ _ _ _ _ _ _ _ c.word_at-word.ensures _
-    (not_rear _ _ c.sort_of.ensures c.in_default.KEYS)
-
+    (not_rear _ _ c.sort_of.ensures c.in_default.not-Output c.in_default.not-RearAnd c.in_default.not-RearOr)

@@ -1,7 +1,6 @@
--- `translation_code::output_code` meets its contract: the op is that of the kind, and the operand that of what the output names. Assumes nothing.
+-- `translation_code::output_code` meets its contract: the op is that of the kind, and the operand that of what the output names.
 use mathlib.Core.Path.{refl, sym, ◌∙◌}
 use mathlib.Core.Bool.{true, false}
-use borrow.Author.Rules.{rules}
 use Rattle.translation_code.proofs.Outputs.{instruction_made}
 use Rattle.translation_code.proofs.output_code.Goals as goal
 

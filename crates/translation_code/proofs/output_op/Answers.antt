@@ -1,4 +1,4 @@
--- `translation_code::output_op` meets its contract: each kind of output has its arm's op. Assumes nothing.
+-- `translation_code::output_op` meets its contract: each kind of output has its arm's op.
 use mathlib.Core.Path.{◌≡◌}
 use native.Mathlib.Omega.{arith}
 use Rattle.ladder_definitions.specs.Tree.{Output, coil, coiln, jump, jumpn, set_coil, reset_coil, timer}

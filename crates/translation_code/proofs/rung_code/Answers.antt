@@ -1,5 +1,4 @@
--- `translation_code::rung_code` meets its contract: the instructions of the front, and then those of the rear. Assumes nothing.
-use borrow.Author.Rules.{rules}
+-- `translation_code::rung_code` meets its contract: the instructions of the front, and then those of the rear.
 use Rattle.translation_code.proofs.Rears.{rung_put}
 use Rattle.translation_code.proofs.rung_code.Goals as goal
 

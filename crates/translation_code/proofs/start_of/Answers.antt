@@ -1,4 +1,4 @@
--- `translation_code::start_of` meets its contract. Assumes nothing.
+-- `translation_code::start_of` meets its contract.
 use native.Mathlib.Omega.{arith}
 use Rattle.rungs.proofs.Laws.Search.{ends_at}
 use Rattle.translation_code.proofs.Fronts.{start_read, start_none}
@@ -17,8 +17,7 @@ pub returns-then-rung-starts : goal.returns-then-rung-starts
 returns-then-rung-starts c = (start_read _ _ _ _ (ends_at _ _ _ _ c.search_label.ensures c.place_of-rung.ensures), omega (arith, c.type_inv.starts c.place_of-rung.result))
 
 pub returns-else-rung-starts : goal.returns-else-rung-starts
-returns-else-rung-starts c =
-    (
+returns-else-rung-starts c = (
   start_none c.args.labels.now c.args.starts.now _ _
       (ends_at _ _ _ _ c.search_label.ensures c.place_of-rung.ensures) (omega arith),
   omega arith,
