@@ -1,6 +1,6 @@
 -- What the functions of this crate promise to each other. Nothing here is a sentence of document 01. Assumes nothing.
 use Rattle.std.specs.Prelude.{ℕ, ◌+◌, ◌-◌, ◌*◌, ◌≤◌, ◌<◌, length, get_or}
-use mathlib.Core.List.{List, [], flat_map}
+use mathlib.Core.List.{List, flat_map}
 use Rattle.list_definitions.specs.Instruction.{Operand, table_index, no_operand, instruction_index, timer_number, OperandSort, table_sort, nothing_sort, instruction_sort, timer_sort, no_sort, operand_sort}
 use Rattle.list_definitions.specs.Names.{Names}
 use Rattle.list_definitions.specs.Listing.{operand_text, instr_line, ended}
