@@ -5,7 +5,6 @@ use Rattle.ladder_definitions.specs.Tree.{Rung, Ladder, Front, Rear}
 use Rattle.ladder_definitions.specs.Kept.{rung_words, front_words, rear_words}
 use Rattle.ladder_definitions.specs.Held.{RungAt, LadderHeld, FrontAt, RearAt}
 use Rattle.ladder_definitions.specs.Questions.{rung_scratch, scratch_in_range, join_scratch, front_scratch, rear_scratch}
-use Rattle.ladder_definitions.specs.Meaning.{onward}
 use Rattle.ladder_scratch.specs.declared.Taken.{Taken}
 
 -- the rung whose n words begin at a position
