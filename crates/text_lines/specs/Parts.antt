@@ -1,5 +1,5 @@
 -- What the functions of this crate promise to each other. Nothing here is a sentence of document 01. Assumes nothing.
-use Rattle.std.specs.Prelude.{ℕ, ◌+◌, ◌≤◌, ◌<◌, max, ◌≡◌, List, [], ◌∷◌, length, set}
+use Rattle.std.specs.Prelude.{ℕ, ◌+◌, ◌≤◌, ◌<◌, max, ◌≡◌, List, length, set}
 use Rattle.std.proofs.lemmas.List.Edits.{sets}
 use Rattle.questions.specs.Bytes.{byte}
 use Rattle.rungs.specs.Records.{longest}
