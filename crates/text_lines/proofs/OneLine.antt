@@ -28,6 +28,15 @@ byte_within s i x b q h pos = inside s i (omega arith)
 
 -- ---- a rung
 
+-- a front and a rear with as many brackets open as may be
+pub front_full : (k : ℕ) (s : List ℕ) (at : ℕ) (r : Parsed) (put : ℕ) (e x : List ℕ) → PartRead front_words (front_of k s at) s at r put e x → k ≡ 15
+    → PartRead front_words (front_of 15 s at) s at r put e x
+front_full k s at r put e x f h = subst (λ (d : ℕ). PartRead front_words (front_of d s at) s at r put e x) h f
+
+pub rear_full : (k : ℕ) (s : List ℕ) (at : ℕ) (r : Parsed) (put : ℕ) (e x : List ℕ) → PartRead rear_words (rear_of k s at) s at r put e x → k ≡ 15
+    → PartRead rear_words (rear_of 15 s at) s at r put e x
+rear_full k s at r put e x f h = subst (λ (d : ℕ). PartRead rear_words (rear_of d s at) s at r put e x) h f
+
 rung_of_lem : ℕ → List ℕ → ℕ → Front → Parse Rung
 rung_of_lem label s n f = map_p (rung label f) (followed s (byte "\n") (rear_of 15 s n))
 
