@@ -3,13 +3,13 @@ use Prim.Native.Nat.{ℕ, ◌≤◌, ◌<◌}
 use native.Mathlib.Omega.{arith}
 use mathlib.Core.Path.{◌≡◌, refl, sym, ap, subst, ◌∙◌}
 use mathlib.Core.Bool.{true, false, ◌&&◌, and-false}
-use mathlib.Core.List.{List, [], ◌∷◌, ◌++◌}
+use mathlib.Core.List.{List, ◌++◌}
 use lib.Dec.{leb}
 use lib.ListN.{length, take}
 use lib.Seq.{length-take-le, take_at}
 use borrow.Author.Tests.{lt-leb}
-use denote.Enum.Declared.{tag_of}
-use types.Run.{OneOf, miss}
+use mir.Val.{Val}
+use denote.Laws.{Is}
 use Rattle.questions.specs.Questions.{ask, first_no, vars_in_range, question1}
 use Rattle.questions.specs.Refusals.{refusal_of}
 use Rattle.questions.specs.declared.Refusal.{Refusal}
@@ -23,6 +23,8 @@ use Rattle.rows.specs.Parts.{gathered, times_put}
 use Rattle.rows.proofs.Laws.Gathered.{gathered_whole}
 use Rattle.rows.proofs.Laws.Written.{times_put_all}
 use Rattle.rows.specs.declared.Rows.{Rows}
+use Rattle.rows.specs.contracts.Rows as R
+use Rattle.rows.proofs.Fields.{full}
 use Rattle.list_definitions.specs.Questions.{most_instructions, list_in_range, question10, list_answer}
 use Rattle.list_definitions.specs.ListScan.{ListScanCall, scan_ends, scan_questions, call_list_scan, list_scanned_answer, ListScanNumbers}
 use Rattle.list_definitions.specs.Listing.{listing, ListingDone}
@@ -33,7 +35,6 @@ use Rattle.list_definitions.specs.declared.Listed.{Listed}
 use Rattle.list_definitions.specs.declared.Listed.TheVariants.{Refused as RefusedListing}
 use Rattle.list_definitions.specs.declared.ListScanned.{ListScanned}
 use Rattle.list_definitions.specs.declared.ListScanned.TheVariants.{Ended, Stopped, Refused as RefusedScan}
-use Rattle.list_definitions.specs.contracts.ListScanned.{the_type}
 use Rattle.list.proofs.Answers.{scan_refused}
 use Rattle.list_rows.specs.Parts.{LongRefused, LongScanRefused, FieldsScanned, RowListed}
 
@@ -89,6 +90,10 @@ rows_whole rows rs e h =
     let l = n_lent rows rs e in
     ap (λ r. fields_of (take r.n r.labels) (take r.n r.offsets) (take r.n r.lengths)) e ∙ whole rs (omega arith)
 
+-- as many entries as the row has records lie within an array
+pub inside : (rows : Rows) (vs : List Val) → Is R.the_row rows vs → rows.n ≤ most_records → rows.n ≤ length rows.labels
+inside rows vs is h = let f = full rows vs is in omega (arith, f.labels)
+
 -- the slices that go to a call on number slices: as many fields as the row has records, with as many times zs
 module _ (rows : Rows) (h : rows.n ≤ most_records) (inside : rows.n ≤ length rows.labels) (zs : List ℕ) (many : length zs ≡ rows.n) where
   abbrev copied : List RungRecord
@@ -99,26 +104,22 @@ module _ (rows : Rows) (h : rows.n ≤ most_records) (inside : rows.n ≤ length
 
 -- ---- List scan
 
--- the places of Ended and Stopped in the enum
-abbrev ran : List ℕ
-ran = 0 ∷ 1 ∷ []
-
 -- a scan that isn't refused "sets every field for that scan alone", whatever stood there
 module _ (vars : ℕ) (ws : List ℕ) (rs : List RungRecord) (t : List ℕ) (timers : List Timer) (now w : ℕ) where
   abbrev call : ListScanCall
   call = call_list_scan vars ws rs t timers now w
 
-  any_times : (r : ListScanned) → OneOf ran (tag_of the_type r) → call.answer ≡ list_scanned_answer r → (before other : List ℕ) → call.times before ≡ call.times other
+  any_times : (r : ListScanned) → ((x : Refusal) → r ≡ RefusedScan x → ⊥) → call.answer ≡ list_scanned_answer r → (before other : List ℕ) → call.times before ≡ call.times other
   unfolding list_scanned_answer scan_ends
   any_times r among e before other = go r among e
     where
       same : {x : ListScanCall} → call ≡ x → x.times before ≡ x.times other → call.times before ≡ call.times other
       same q k = rw q k
 
-      go : (x : ListScanned) → OneOf ran (tag_of the_type x) → call.answer ≡ list_scanned_answer x → call.times before ≡ call.times other
+      go : (x : ListScanned) → ((y : Refusal) → x ≡ RefusedScan y → ⊥) → call.answer ≡ list_scanned_answer x → call.times before ≡ call.times other
       go (Ended c) a q = same (asked vars ws rs t timers now w _ _ q).call refl
       go (Stopped c) a q = same (asked vars ws rs t timers now w _ _ q).call refl
-      go (RefusedScan x) a q = absurd (miss ran 2 tt a)
+      go (RefusedScan x) a q = absurd (a x refl)
 
 -- as many times stored as the row has records
 all_put : (n : ℕ) (zs rest ts : List ℕ) → length zs ≡ n → length ts ≡ n → times_put n (zs ++ rest) ts ≡ zs
@@ -160,7 +161,7 @@ module _ (vars : ℕ) (ws : List ℕ) (rows : Rows) (t ks : List ℕ) (tick w : 
       within = omega arith;
     }
 
-    pub scanned_set : OneOf ran (tag_of the_type r) → length zs' ≡ length zs → FieldsScanned vars ws rows t ks tick w (record { answer = r; times = zs' ++ rest; kept = rows.n }) u ms
+    pub scanned_set : ((x : Refusal) → r ≡ RefusedScan x → ⊥) → length zs' ≡ length zs → FieldsScanned vars ws rows t ks tick w (record { answer = r; times = zs' ++ rest; kept = rows.n }) u ms
     scanned_set is same_length = record {
       same = λ rs e ts n.
           let d = (on_row rs e).done in

@@ -16,7 +16,7 @@ use rows::{Rows, Rung};
 use rungs::MOST_RECORDS;
 
 // What List scan answers, and the times entered that it sets: the first `kept`.
-#[derive(Drop)]
+#[derive(Clone, Copy)]
 pub struct ScannedFields {
     pub answer: ListScanned,
     pub times: [u32; MOST_RECORDS],
