@@ -6,7 +6,7 @@ use Rattle.questions.specs.declared.Refusal.{Refusal as RefusalCase}
 use Rattle.questions.specs.declared.Refusal.TheVariants.{Variables, TextLength, Text, Kept, Sizes, Variable, Label, Jump, Scratch, List as ListCase, Table, Watchdog, Buffer as BufferCase, NameTable, ListText, Timers, TimerNumber}
 
 pub no_place : (refusal : RefusalCase) → ((x : ℕ) → refusal ≡ Text x → ⊥) → ((x : ℕ) → refusal ≡ Variable x → ⊥) → ((x : ℕ) → refusal ≡ Label x → ⊥)
-  → ((x : ℕ) → refusal ≡ Jump x → ⊥) → 0 ≡ (refusal_of refusal).place
+    → ((x : ℕ) → refusal ≡ Jump x → ⊥) → 0 ≡ (refusal_of refusal).place
 unfolding refusal_of
 no_place Variables t v l j = refl
 no_place TextLength t v l j = refl

@@ -1,8 +1,6 @@
--- `printing::put_text` meets its contract. The loop's invariant: the bytes from i on are left. Assumes nothing.
-use Prim.Native.Nat.{◌-◌}
+-- `printing::put_text` meets its contract. The loop's invariant: the bytes from i on are left.
 use native.Mathlib.Omega.{arith}
-use lib.ListN.{length}
-use Rattle.printing.proofs.Texts.{Putting, putting_first, putting_more, putting_end}
+use Rattle.printing.proofs.Texts.{putting_first, putting_more, putting_end}
 use Rattle.printing.proofs.put_text.Goals as goal
 
 -- src/lib.rt:38:5

@@ -1,4 +1,4 @@
--- A "yes" and the test behind it, each from the other. Assumes nothing.
+-- A "yes" and the test behind it, each from the other.
 use Rattle.std.specs.Prelude.{ℕ, ◌≤◌, ◌≡◌, refl, Bool, true, false, List, [], ◌∷◌, ◌++◌, map, T, leb}
 use Rattle.std.proofs.Common.{sym, ap, ◌∙◌, arith, leb→le, le→leb}
 use Rattle.std.proofs.Math.Option.{none, some, map-eq-none_iff}

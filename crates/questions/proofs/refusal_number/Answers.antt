@@ -1,7 +1,6 @@
--- `questions::refusal_number` meets its contract: the number of each case. Assumes nothing.
+-- `questions::refusal_number` meets its contract: the number of each case.
 use mathlib.Core.Path.{sym, ap}
 use Rattle.questions.specs.Refusals.{refusal_of}
-use borrow.Author.Rules.{rules}
 use Rattle.questions.proofs.refusal_number.Goals as goal
 
 pub returns-in-Variables : goal.returns-in-Variables

@@ -1,8 +1,7 @@
--- `questions::refusal_place` meets its contract: the place of each case that has one, and else 0. Assumes nothing.
+-- `questions::refusal_place` meets its contract: the place of each case that has one, and else 0.
 use mathlib.Core.Path.{sym, ap}
 use Rattle.questions.specs.Refusals.{refusal_of}
 use Rattle.questions.proofs.Places.{no_place}
-use borrow.Author.Rules.{rules}
 use Rattle.questions.proofs.refusal_place.Goals as goal
 
 pub returns-in-Text : goal.returns-in-Text

@@ -1,4 +1,4 @@
--- `questions::vars_in_range` meets its contract: the two tests of question 1, one after the other. Assumes nothing.
+-- `questions::vars_in_range` meets its contract: the two tests of question 1, one after the other.
 use mathlib.Core.Path.{◌≡◌}
 use mathlib.Core.Bool.{false}
 use lib.Dec.{leb}

@@ -1,10 +1,7 @@
--- `rungs::copy_labels` meets its contract. The loop's invariant: what is left to copy, over what is copied, is the whole. Assumes nothing.
-use Prim.Native.Nat.{◌-◌}
+-- `rungs::copy_labels` meets its contract. The loop's invariant: what is left to copy, over what is copied, is the whole.
 use mathlib.Core.Path.{refl}
 use native.Mathlib.Omega.{arith}
-use borrow.Author.Rules.{rules}
-use lib.ListN.{length}
-use Rattle.rungs.proofs.Copies.{Copying, copy_start, copy_more, copy_end}
+use Rattle.rungs.proofs.Copies.{copy_start, copy_more, copy_end}
 use Rattle.rungs.proofs.copy_labels.Goals as goal
 
 pub loop-i-init : goal.loop-i-init

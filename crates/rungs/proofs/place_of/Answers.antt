@@ -1,4 +1,4 @@
--- `rungs::place_of` meets its contract. Assumes nothing.
+-- `rungs::place_of` meets its contract.
 use borrow.Author.Rules.{rules}
 use Rattle.rungs.specs.Parts.{place_of}
 use Rattle.rungs.proofs.place_of.Goals as goal

@@ -1,7 +1,6 @@
--- `rungs::put_word` meets its contract: a store past the end does nothing. Assumes nothing.
+-- `rungs::put_word` meets its contract: a store past the end does nothing.
 use mathlib.Core.Path.{sym}
 use lib.Seq.{set_out}
-use borrow.Author.Rules.{rules}
 use Rattle.rungs.proofs.put_word.Goals as goal
 
 pub returns-else-at-words : goal.returns-else-at-words

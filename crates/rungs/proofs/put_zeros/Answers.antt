@@ -1,8 +1,5 @@
--- `rungs::put_zeros` meets its contract. The loop's invariant: the zeros left, over those that are put, are all. Assumes nothing.
-use Prim.Native.Nat.{◌-◌}
-use native.Mathlib.Omega.{arith}
-use borrow.Author.Rules.{rules}
-use Rattle.rungs.proofs.Zeros.{Zeroing, zeros_start, zeros_more, zeros_end}
+-- `rungs::put_zeros` meets its contract. The loop's invariant: the zeros left, over those that are put, are all.
+use Rattle.rungs.proofs.Zeros.{zeros_start, zeros_more, zeros_end}
 use Rattle.rungs.proofs.put_zeros.Goals as goal
 
 pub loop-put-init : goal.loop-put-init

@@ -1,8 +1,6 @@
--- `rungs::search_label` meets its contract. The loop's invariant: the search from `looked` on is the whole search. Assumes nothing.
-use Prim.Native.Nat.{◌-◌}
+-- `rungs::search_label` meets its contract. The loop's invariant: the search from `looked` on is the whole search.
 use native.Mathlib.Omega.{arith}
-use lib.ListN.{length}
-use Rattle.rungs.proofs.Searches.{Searched, search_start, search_found, search_more, search_end}
+use Rattle.rungs.proofs.Searches.{search_start, search_found, search_more, search_end}
 use Rattle.rungs.proofs.search_label.Goals as goal
 
 pub loop-looked-init : goal.loop-looked-init

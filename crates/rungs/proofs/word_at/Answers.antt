@@ -1,7 +1,6 @@
--- `rungs::word_at` meets its contract: past the end there is no word. Assumes nothing.
+-- `rungs::word_at` meets its contract: past the end there is no word.
 use mathlib.Core.Path.{sym}
 use lib.ListN.{get_or-eq_default}
-use borrow.Author.Rules.{rules}
 use Rattle.rungs.proofs.word_at.Goals as goal
 
 pub returns-else-at-words : goal.returns-else-at-words

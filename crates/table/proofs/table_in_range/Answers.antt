@@ -1,12 +1,11 @@
--- `table::table_in_range` meets its contract. The loop's invariant: the bytes from `i` on are 0 and 1 just when all are. Assumes nothing.
+-- `table::table_in_range` meets its contract. The loop's invariant: the bytes from `i` on are 0 and 1 just when all are.
 use mathlib.Core.Path.{◌≡◌, refl, sym, ◌∙◌}
 use mathlib.Core.Bool.{false}
-use Prim.Native.Nat.{◌+◌, ◌≤◌, ◌-◌}
+use Prim.Native.Nat.{◌+◌}
 use native.Mathlib.Omega.{arith}
 use borrow.Author.Tests.{eq-eqb, ne_eqb, le-leb, lt-leb}
 use lib.Dec.{eqb}
-use lib.ListN.{length, drop}
-use Rattle.questions.specs.Tests.{all}
+use lib.ListN.{length}
 use Rattle.questions.proofs.Laws.Tests.{all_more, all_fails, all_ends}
 use Rattle.table.specs.State.{scratch_bytes}
 use Rattle.table.specs.Questions.{is_bit, table_in_range}

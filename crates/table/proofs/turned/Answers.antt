@@ -1,8 +1,7 @@
--- `table::turned` meets its contract: 1 where the index is a variable's and its value is not the one written. Assumes nothing.
+-- `table::turned` meets its contract: 1 where the index is a variable's and its value is not the one written.
 use mathlib.Core.Path.{sym}
 use mathlib.Core.Bool.{xor}
 use native.Mathlib.Omega.{arith}
-use borrow.Author.Rules.{rules}
 use Rattle.table.proofs.Laws.Moved.{turns_one, turns_same, turns_none}
 use Rattle.table.proofs.turned.Goals as goal
 

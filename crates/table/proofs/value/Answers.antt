@@ -1,6 +1,5 @@
--- `table::value` meets its contract: the byte's truth, and false past the end, as `get_or` gives 0 there. Assumes nothing.
+-- `table::value` meets its contract: the byte's truth, and false past the end, as `get_or` gives 0 there.
 use mathlib.Core.Path.{refl}
-use borrow.Author.Rules.{rules}
 use lib.ListN.{get_or-eq_default}
 use Rattle.table.specs.State.{value_at}
 use Rattle.table.proofs.value.Goals as goal

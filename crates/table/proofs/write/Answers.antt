@@ -1,8 +1,7 @@
--- `table::write` meets its contract: one byte is set, and none past the end, and the sum grows where that turned a variable over. Assumes nothing.
+-- `table::write` meets its contract: one byte is set, and none past the end, and the sum grows where that turned a variable over.
 use mathlib.Core.Path.{refl}
 use native.Mathlib.Omega.{arith}
 use lib.Seq.{set_out}
-use borrow.Author.Rules.{rules}
 use Rattle.questions.proofs.Laws.Tests.{bit_few}
 use Rattle.table.specs.State.{written_at, turns, write}
 use Rattle.table.proofs.write.Goals as goal

@@ -1,6 +1,5 @@
--- `table::write_if` meets its contract: with power what `write` leaves, and else the state as it is. Assumes nothing.
+-- `table::write_if` meets its contract: with power what `write` leaves, and else the state as it is.
 use mathlib.Core.Path.{refl, ◌∙◌}
-use borrow.Author.Rules.{rules}
 use Rattle.table.specs.State.{write_if}
 use Rattle.table.proofs.write_if.Goals as goal
 

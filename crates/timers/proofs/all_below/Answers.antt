@@ -1,9 +1,6 @@
--- `timers::all_below` meets its contract. The loop's invariant: the records from `at` on pass the test just when all do. Assumes nothing.
-use Rattle.std.proofs.Common.{◌-◌, length, refl, arith, le-ltb, lt-ltb}
-use Rattle.questions.specs.Tests.{all}
-use Rattle.table.specs.Questions.{timer_below}
-use Rattle.table.specs.TimerRecords.{timers_in}
-use Rattle.timers.proofs.Asking.{room, Testing, testing_more, testing_fails, testing_ends}
+-- `timers::all_below` meets its contract. The loop's invariant: the records from `at` on pass the test just when all do.
+use Rattle.std.proofs.Common.{refl, arith, le-ltb, lt-ltb}
+use Rattle.timers.proofs.Asking.{room, testing_more, testing_fails, testing_ends}
 use Rattle.timers.proofs.all_below.Goals as goal
 
 pub loop-at-init : goal.loop-at-init

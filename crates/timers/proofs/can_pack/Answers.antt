@@ -1,4 +1,4 @@
--- `timers::can_pack` meets its contract: each length is compared with the first, and that with 32. Assumes nothing.
+-- `timers::can_pack` meets its contract: each length is compared with the first, and that with 32.
 use Rattle.timers.proofs.Packing.{pack_start, pack_variable, pack_running, pack_done, pack_few}
 use Rattle.timers.proofs.can_pack.Goals as goal
 

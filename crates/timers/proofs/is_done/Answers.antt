@@ -1,5 +1,5 @@
--- `timers::is_done` meets its contract: done already, or the elapsed time is at least the preset. Assumes nothing.
-use Rattle.std.proofs.Common.{◌+◌, arith, rules}
+-- `timers::is_done` meets its contract: done already, or the elapsed time is at least the preset.
+use Rattle.std.proofs.Common.{◌+◌, arith}
 use Rattle.timers.proofs.Working.{elapsed_wraps, done_already, done_now}
 use Rattle.timers.proofs.is_done.Goals as goal
 

@@ -1,7 +1,6 @@
--- `timers::none_shared` meets its contract. The loop's invariant: the variables from `at` on differ just when all do. Assumes nothing.
-use Rattle.std.proofs.Common.{◌-◌, length, refl, arith}
-use borrow.Author.Tests.{not-true, not-false}
-use Rattle.timers.proofs.Asking.{room, whole_more, Differing, differing_more, differing_fails, differing_ends}
+-- `timers::none_shared` meets its contract. The loop's invariant: the variables from `at` on differ just when all do.
+use Rattle.std.proofs.Common.{refl, arith}
+use Rattle.timers.proofs.Asking.{room, whole_more, differing_more, differing_fails, differing_ends}
 use Rattle.timers.proofs.none_shared.Goals as goal
 
 pub loop-at-init : goal.loop-at-init

@@ -1,7 +1,6 @@
--- `timers::none_shared` meets its contract. The loop's invariant: the variables from `at` on differ just when all do. Assumes nothing.
-use Rattle.std.proofs.Common.{◌-◌, length, refl, arith}
-use borrow.Author.Tests.{not-true, not-false}
-use Rattle.timers.proofs.Asking.{room, whole_more, Differing, differing_more, differing_fails, differing_ends}
+-- `timers::none_shared` meets its contract. The loop's invariant: the variables from `at` on differ just when all do.
+use Rattle.std.proofs.Common.{◌-◌, length}
+use Rattle.timers.proofs.Asking.{Differing}
 use Rattle.timers.proofs.none_shared.Given as goal
 
 abbrev pub invariant-loop-at : goal.invariant-loop-at
@@ -9,4 +8,3 @@ invariant-loop-at l = Differing l.timers l.at
 
 abbrev pub decreases-loop-at : goal.decreases-loop-at
 decreases-loop-at l = length l.timers - l.at
-

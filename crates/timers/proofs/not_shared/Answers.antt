@@ -1,9 +1,6 @@
--- `timers::not_shared` meets its contract. The loop's invariant: of the records from `at` on none has the variable just when of all later ones none has it. Assumes nothing.
-use Rattle.std.proofs.Common.{◌+◌, ◌-◌, length, get_or, drop, refl, arith, eq-eqb, ne_eqb}
-use Rattle.questions.specs.Tests.{all}
-use Rattle.table.specs.TimerRecords.{timers_in}
-use Rattle.timers.specs.Parts.{other_variable}
-use Rattle.timers.proofs.Asking.{room, Testing, testing_more, testing_fails, testing_ends}
+-- `timers::not_shared` meets its contract. The loop's invariant: of the records from `at` on none has the variable just when of all later ones none has it.
+use Rattle.std.proofs.Common.{refl, arith, eq-eqb, ne_eqb}
+use Rattle.timers.proofs.Asking.{room, testing_more, testing_fails, testing_ends}
 use Rattle.timers.proofs.not_shared.Goals as goal
 
 pub overflow_add-at : goal.overflow_add-at

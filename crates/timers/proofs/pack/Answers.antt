@@ -1,7 +1,7 @@
--- `timers::pack` meets its contract. The loop's invariant: the numbers of the records from `i` on, over what is written, are the whole. Assumes nothing.
-use Rattle.std.proofs.Common.{◌-◌, length, arith}
-use Rattle.table.specs.TimerRecords.{columns, numbers_of}
-use Rattle.timers.proofs.Packing.{Packing, packing_start, packing_more, packing_end}
+-- `timers::pack` meets its contract. The loop's invariant: the numbers of the records from `i` on, over what is written, are the whole.
+use Rattle.std.proofs.Common.{arith}
+use Rattle.table.specs.TimerRecords.{numbers_of}
+use Rattle.timers.proofs.Packing.{packing_start, packing_more, packing_end}
 use Rattle.timers.proofs.pack.Goals as goal
 
 pub loop-i-init : goal.loop-i-init

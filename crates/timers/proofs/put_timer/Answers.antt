@@ -1,5 +1,5 @@
--- `timers::put_timer` meets its contract: five stores, one after the other. Assumes nothing.
-use Rattle.std.proofs.Common.{arith, length-set, rules}
+-- `timers::put_timer` meets its contract: five stores, one after the other.
+use Rattle.std.proofs.Common.{arith, length-set}
 use Rattle.timers.proofs.Packing.{five_sets}
 use Rattle.timers.proofs.put_timer.Goals as goal
 

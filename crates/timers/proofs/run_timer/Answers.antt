@@ -1,5 +1,5 @@
--- `timers::run_timer` meets its contract: the record is worked, and its variable gets done. Assumes nothing.
-use Rattle.std.proofs.Common.{◌+◌, ◌*◌, arith, rules}
+-- `timers::run_timer` meets its contract: the record is worked, and its variable gets done.
+use Rattle.std.proofs.Common.{◌+◌, ◌*◌, arith}
 use Rattle.timers.proofs.Working.{runs_none, runs}
 use Rattle.timers.proofs.run_timer.Goals as goal
 

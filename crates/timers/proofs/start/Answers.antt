@@ -1,5 +1,5 @@
--- `timers::start` meets its contract: three numbers of a timer that is not running are set. Assumes nothing.
-use Rattle.std.proofs.Common.{arith, length-set, rules}
+-- `timers::start` meets its contract: three numbers of a timer that is not running are set.
+use Rattle.std.proofs.Common.{arith, length-set}
 use Rattle.timers.proofs.Working.{starts, runs_on_lem}
 use Rattle.timers.proofs.start.Goals as goal
 

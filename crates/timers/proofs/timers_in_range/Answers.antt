@@ -1,5 +1,4 @@
--- `timers::timers_in_range` meets its contract: numbers left over, too many, a variable not below V, one that is shared. Assumes nothing.
-use borrow.Author.Tests.{not-true, not-false}
+-- `timers::timers_in_range` meets its contract: numbers left over, too many, a variable not below V, one that is shared.
 use Rattle.timers.proofs.Asking.{left_over, is_whole, over_most, not_below, below}
 use Rattle.timers.proofs.timers_in_range.Goals as goal
 

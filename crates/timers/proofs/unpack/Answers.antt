@@ -1,6 +1,6 @@
--- `timers::unpack` meets its contract. The loop's invariant: the first `i` entries of each slice are the records'. Assumes nothing.
-use Rattle.std.proofs.Common.{◌-◌, length, arith, length-set}
-use Rattle.timers.proofs.Packing.{Unpacking, unpacking_start, running_fits, done_fits, unpacking_more, unpacking_end}
+-- `timers::unpack` meets its contract. The loop's invariant: the first `i` entries of each slice are the records'.
+use Rattle.std.proofs.Common.{arith, length-set}
+use Rattle.timers.proofs.Packing.{unpacking_start, running_fits, done_fits, unpacking_more, unpacking_end}
 use Rattle.timers.proofs.unpack.Goals as goal
 
 pub loop-i-init : goal.loop-i-init

@@ -1,6 +1,6 @@
--- `timers::unpack` meets its contract. The loop's invariant: the first `i` entries of each slice are the records'. Assumes nothing.
-use Rattle.std.proofs.Common.{◌-◌, length, arith, length-set}
-use Rattle.timers.proofs.Packing.{Unpacking, unpacking_start, running_fits, done_fits, unpacking_more, unpacking_end}
+-- `timers::unpack` meets its contract. The loop's invariant: the first `i` entries of each slice are the records'.
+use Rattle.std.proofs.Common.{◌-◌, length}
+use Rattle.timers.proofs.Packing.{Unpacking}
 use Rattle.timers.proofs.unpack.Given as goal
 
 abbrev pub invariant-loop-i : goal.invariant-loop-i
@@ -8,4 +8,3 @@ invariant-loop-i l = Unpacking l.timers l.initial.start l.initial.running l.init
 
 abbrev pub decreases-loop-i : goal.decreases-loop-i
 decreases-loop-i l = length l.start - l.i
-

@@ -1,6 +1,5 @@
--- `timers::work` meets its contract: without power both flags are cleared; with power the timer is started and then tested. Assumes nothing.
-use Rattle.std.proofs.Common.{refl, arith, length-set, rules}
-use borrow.Author.Tests.{not-true, not-false}
+-- `timers::work` meets its contract: without power both flags are cleared; with power the timer is started and then tested.
+use Rattle.std.proofs.Common.{refl, arith, length-set}
 use Rattle.timers.proofs.Working.{without_power, with_power}
 use Rattle.timers.proofs.work.Goals as goal
 
