@@ -324,7 +324,7 @@ pub fn ladder_scan(
     watchdog: u32,
 ) -> LadderScanned
     ensures { LadderScanNumbers (call_ladder_scan vars
-        (record { words = words.entry.now; records = records_of row.now })
+        (record { words = words.now; records = records_of row.now })
         table.old (number_timers timers.old) tick watchdog)
         result table.new timers.old timers.new }
 {
