@@ -1,6 +1,6 @@
 -- What a line of variables makes of a table of zeros, byte by byte. Assumes nothing.
 use mathlib.Core.Path.{◌≡◌, refl, ap, sym, ◌∙◌}
-use mathlib.Core.Bool.{Bool, true, false, ◌&&◌, and_true, and-false, true≢false}
+use mathlib.Core.Bool.{Bool, true, false, ◌&&◌, and-true, and-false, true≢false}
 use mathlib.Core.List.{List, [], ◌∷◌, ◌++◌, map, append_assoc}
 use Prim.Native.Nat.{ℕ, suc, ◌+◌, ◌-◌, ◌≤◌, ◌<◌}
 use native.Mathlib.Numerals.{add-one}
@@ -141,7 +141,7 @@ next_not_taken vars c b e = rw (e, next_variable) refl
 -- nothing is left: the variables have to be as many
 none_tests : (vars c : ℕ) (x : Bool) → eqb c vars ≡ x → (eqb (c + 0) vars && all is_binary_digit []) ≡ x
 unfolding all
-none_tests vars c x e = and_true (eqb (c + 0) vars) ∙ (ap (λ (n : ℕ). eqb n vars) (add-zero c) ∙ e)
+none_tests vars c x e = and-true (eqb (c + 0) vars) ∙ (ap (λ (n : ℕ). eqb n vars) (add-zero c) ∙ e)
 
 none_left : (vars c : ℕ) (t : List ℕ) → vars ≤ 1024 → shown vars (record { variables = counted c; table = t }) ≡ left_table vars c t []
 none_left vars c t h = go (eqb c vars) refl

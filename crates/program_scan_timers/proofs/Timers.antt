@@ -2,9 +2,9 @@
 use Prim.Native.Nat.{ℕ, suc, ◌+◌, ◌*◌, ◌^◌, ◌≤◌, ◌<◌}
 use native.Mathlib.Omega.{arith}
 use mathlib.Core.Path.{◌≡◌, refl, sym, ap, ◌∙◌}
-use mathlib.Core.Bool.{Bool, true, false, not, ◌&&◌}
+use mathlib.Core.Bool.{Bool, true, false, ◌&&◌}
 use mathlib.Core.List.{List, [], ◌∷◌, ◌++◌, append_assoc}
-use borrow.Author.Tests.{not-true, not-false, eq-eqb, ne_eqb}
+use borrow.Author.Tests.{eq-eqb, ne_eqb}
 use lib.Dec.{eqb}
 use lib.ListN.{length, get_or, drop, length-append, length-drop}
 use Rattle.questions.specs.Bytes.{bytes, decimal, same_bytes}
@@ -109,17 +109,17 @@ module _ (a b : Timer) where
             last false = refl
 
 -- a flag and what it stands for, both ways
-pub first_not : {p q : Bool} (x : Bool) → p ≡ q → not p ≡ true → false ≡ (q && x)
-first_not {p} x e n = rw (← e, not-true p n) refl
+pub first_not : {p q : Bool} (x : Bool) → p ≡ q → p ≡ false → false ≡ (q && x)
+first_not {p} x e n = rw (← e, n) refl
 
-pub first_then : {p q r x : Bool} → p ≡ q → not p ≡ false → r ≡ x → r ≡ (q && x)
-first_then {p} e n f = rw (← e, not-false p n) f
+pub first_then : {p q r x : Bool} → p ≡ q → p ≡ true → r ≡ x → r ≡ (q && x)
+first_then {p} e n f = rw (← e, n) f
 
-pub stands : {p q : Bool} → p ≡ q → not p ≡ false → q ≡ true
-stands {p} e n = sym e ∙ not-false p n
+pub stands : {p q : Bool} → p ≡ q → p ≡ true → q ≡ true
+stands {p} e n = sym e ∙ n
 
-pub stands_not : {p q : Bool} → p ≡ q → not p ≡ true → q ≡ false
-stands_not {p} e n = sym e ∙ not-true p n
+pub stands_not : {p q : Bool} → p ≡ q → p ≡ false → q ≡ false
+stands_not {p} e n = sym e ∙ n
 
 -- ---- the lines from any timer on
 

@@ -8,7 +8,7 @@ use mathlib.Core.List.{List, [], ◌∷◌}
 use lib.Dec.{eqb, leb}
 use lib.ListN.{length, take, drop, get_or, length-take, drop_of_length-le}
 use lib.Seq.{drop-cons, get_or-take}
-use borrow.Author.Tests.{not-true, not-false, leb-true, leb-false, ne_eqb, eq-eqb}
+use borrow.Author.Tests.{leb-true, leb-false, ne_eqb, eq-eqb}
 use Rattle.questions.specs.Bytes.{same_bytes}
 use Rattle.ladder_definitions.specs.LadderScan.{counts_in as ladder_counts_in}
 use Rattle.list_definitions.specs.ListScan.{counts_in as list_counts_in}
@@ -179,13 +179,13 @@ module _ (e : EndsStruct) (l t ns ms : List ℕ) where
           verdict_bytes : verdict (ends_in e) l t ns ms ≡ alike_if (b && same_bytes ns ms)
           verdict_bytes = verdict_counts ∙ ap (λ x. alike_if (x && (same_bytes l t && same_bytes ns ms))) (eq-eqb _ _ m) ∙ ap (λ x. alike_if (x && same_bytes ns ms)) (sym q)
 
-          pub verdict_variables : not b ≡ true → not_alike ≡ verdict (ends_in e) l t ns ms
+          pub verdict_variables : b ≡ false → not_alike ≡ verdict (ends_in e) l t ns ms
           unfolding alike_if
-          verdict_variables n = sym (verdict_bytes ∙ ap (λ x. alike_if (x && same_bytes ns ms)) (not-true b n))
+          verdict_variables n = sym (verdict_bytes ∙ ap (λ x. alike_if (x && same_bytes ns ms)) n)
 
-          module _ (y : not b ≡ false) {c : Bool} (z : c ≡ same_bytes ns ms) where
+          module _ (y : b ≡ true) {c : Bool} (z : c ≡ same_bytes ns ms) where
             verdict_numbers : verdict (ends_in e) l t ns ms ≡ alike_if c
-            verdict_numbers = verdict_bytes ∙ ap (λ x. alike_if (x && same_bytes ns ms)) (not-false b y) ∙ ap alike_if (sym z)
+            verdict_numbers = verdict_bytes ∙ ap (λ x. alike_if (x && same_bytes ns ms)) y ∙ ap alike_if (sym z)
 
             pub verdict_alike : c ≡ true → alike ≡ verdict (ends_in e) l t ns ms
             unfolding alike_if

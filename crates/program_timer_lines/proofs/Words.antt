@@ -4,7 +4,7 @@ use mathlib.Core.Bool.{Bool, true, false, not, ◌&&◌}
 use mathlib.Core.List.{List, [], ◌∷◌}
 use Prim.Native.Nat.{ℕ, suc, ◌+◌, ◌≤◌, ◌<◌}
 use native.Mathlib.Omega.{arith}
-use borrow.Author.Tests.{not-true, not-false, eqb-true, eqb-false, eq-eqb, ne_eqb}
+use borrow.Author.Tests.{eqb-true, eqb-false, eq-eqb, ne_eqb}
 use lib.Dec.{eqb}
 use lib.ListN.{length, get_or, take, drop, drop_of_length-le}
 use lib.Seq.{drop-cons}
@@ -79,11 +79,11 @@ module _ {input : List ℕ} {from : ℕ} {word : List ℕ} {i k : ℕ} (h : Comp
       sym (ap (λ (l : List ℕ). stands_at input i l) (drop_of_length-le word w) ∙ same_none) ∙ h.left
 
 -- by the answer that is given
-pub stands : {b c : Bool} → b ≡ c → not b ≡ false → c ≡ true
-stands {b} e h = sym e ∙ not-false b h
+pub stands : {b c : Bool} → b ≡ c → b ≡ true → c ≡ true
+stands {b} e h = sym e ∙ h
 
-pub stands_not : {b c : Bool} → b ≡ c → not b ≡ true → c ≡ false
-stands_not {b} e h = sym e ∙ not-true b h
+pub stands_not : {b c : Bool} → b ≡ c → b ≡ false → c ≡ false
+stands_not {b} e h = sym e ∙ h
 
 -- ---- a word in a line
 
