@@ -13,6 +13,9 @@ use ladder_kinds::KindSort;
 use questions::MOST_VARIABLES;
 use rungs::OPERANDS;
 
+// The mark of a variable that no contact names.
+const UNMARKED: u8 = 0;
+
 fn is_contact(kind: u32) -> bool
     ensures { result ≡ is_contact kind }
 {
@@ -61,7 +64,7 @@ fn put_names(out: &mut [u8], from: usize, marks: &[u8]) -> usize
     let mut end = from;
     let mut i: usize = 0;
     while i < marks.len() {
-        if marks[i] == 0 {
+        if marks[i] == UNMARKED {
             end = put_name(out, end, i);
         }
         i += 1;

@@ -2,7 +2,7 @@
 use native.Mathlib.Omega.{arith}
 use Rattle.program_scan_unread.proofs.Marks.{naming_start, naming_none, naming_more, naming_end}
 use Rattle.program_scan_unread.proofs.put_names.Goals as goal
-use Rattle.program_scan_unread.proofs.put_names.Goals.{then-marks-i-eq0, else-marks-i-eq0}
+use Rattle.program_scan_unread.proofs.put_names.Goals.{then-marks-i-eq-UNMARKED, else-marks-i-eq-UNMARKED}
 
 pub loop-i-init : goal.loop-i-init
 loop-i-init c = naming_start _ _ _
@@ -22,9 +22,9 @@ loop-i-smaller c = omega (arith, c.loop-i-test.true)
 pub loop-i-preserved : goal.loop-i-preserved
 loop-i-preserved c =
     let few = c.requires.1 in
-    elim c.if-marks-i-eq0.branch [
-      | then-marks-i-eq0 w ↦ rw (w.out-is, w.end-is) (naming_more c.loop-i.invariant c.loop-i-test.true w.if-marks-i-eq0.true (omega (arith, c.loop-i-test.true, few)) w.put_name-end.ensures)
-      | else-marks-i-eq0 w ↦ rw (w.out-is, w.end-is) (naming_none c.loop-i.invariant c.loop-i-test.true w.if-marks-i-eq0.false)
+    elim c.if-marks-i-eq-UNMARKED.branch [
+      | then-marks-i-eq-UNMARKED w ↦ rw (w.out-is, w.end-is) (naming_more c.loop-i.invariant c.loop-i-test.true w.if-marks-i-eq-UNMARKED.true (omega (arith, c.loop-i-test.true, few)) w.put_name-end.ensures)
+      | else-marks-i-eq-UNMARKED w ↦ rw (w.out-is, w.end-is) (naming_none c.loop-i.invariant c.loop-i-test.true w.if-marks-i-eq-UNMARKED.false)
     ]
 
 pub shape_of-out : goal.shape_of-out
