@@ -8,7 +8,7 @@ use borrow.Author.Tests.{eq-eqb, ne_eqb}
 use lib.ListN.{length, set, length-append, length-map}
 use lib.Seq.{sets}
 use Rattle.questions.proofs.Laws.Stores.{sets_append}
-use Rattle.rungs.specs.Records.{RungRecord, labels, offsets, lay, longest}
+use Rattle.rungs.specs.Records.{RungRecord, lay, longest}
 use Rattle.rungs.specs.Buffers.{Columns, as_buffers}
 use Rattle.rungs.specs.Parts.{put_all}
 use Rattle.rungs.proofs.Laws.Layout.{sizes, pieces_length, lay_length, flat_map_snoc, lay_snoc, longest_snoc}

@@ -1,7 +1,5 @@
 -- `reader::hand_over` meets its contract: question 10 by `list_answer`, question 13 buffer by buffer, and then four copies and the zeros. Assumes nothing.
 use mathlib.Core.Path.{◌∙◌}
-use native.Mathlib.Omega.{arith}
-use borrow.Author.Rules.{rules}
 use Rattle.questions.proofs.Laws.Answers.{verdict_refused, verdict_accepted}
 use Rattle.rungs.proofs.Laws.Filling.{written_sets, written_all, short_words, short_labels, short_offsets, short_lengths}
 use Rattle.reader.proofs.Answers.{over_refused, over_short, over_times, over_written}

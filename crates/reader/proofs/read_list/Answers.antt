@@ -1,7 +1,6 @@
 -- `reader::read_list` meets its contract: questions 14 and 1, all rungs, the sizes of question 10, and `hand_over` for the rest. Assumes nothing.
 use mathlib.Core.Path.{refl, sym, ◌∙◌}
 use native.Mathlib.Omega.{arith}
-use borrow.Author.Rules.{rules}
 use lib.Seq.{length-take-le}
 use Rattle.reader.proofs.Answers.{few_vars, refused_14, refused_1, read_stuck, read_too_long, read_too_many, read_done}
 use Rattle.reader.proofs.read_list.Goals as goal

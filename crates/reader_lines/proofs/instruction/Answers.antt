@@ -1,6 +1,5 @@
 -- `reader_lines::instruction` meets its contract: by its name, its operand and the LF. Assumes nothing.
 use native.Mathlib.Omega.{arith}
-use borrow.Author.Rules.{rules}
 use Rattle.reader_lines.proofs.Bytes.{byte_within}
 use Rattle.reader_lines.proofs.Lines.{op_none, operand_none, bounds, sort_differs, no_end, whole_line}
 use Rattle.reader_lines.proofs.instruction.Goals as goal

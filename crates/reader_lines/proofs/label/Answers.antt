@@ -1,6 +1,5 @@
 -- `reader_lines::label` meets its contract: by its number, the colon and the LF. Assumes nothing.
 use native.Mathlib.Omega.{arith}
-use borrow.Author.Rules.{rules}
 use Rattle.reader_lines.proofs.Bytes.{byte_within}
 use Rattle.reader_lines.proofs.Labels.{label_other, label_no_number, label_no_colon, label_no_end, label_whole}
 use Rattle.reader_lines.proofs.label.Goals as goal

@@ -1,5 +1,4 @@
 -- `reader_lines::lettered` meets its contract: a law for each letter, in range and out of it. Assumes nothing.
-use borrow.Author.Rules.{rules}
 use Rattle.reader_lines.proofs.Operands.{v_number_lem, v_large, t_number_lem, t_large, at_number_lem, d_number_lem, other_letter}
 use Rattle.reader_lines.proofs.lettered.Goals as goal
 

@@ -1,8 +1,6 @@
 -- `reader_lines::letters` meets its contract: a law for each way through the loop. Assumes nothing.
 use native.Mathlib.Omega.{arith}
-use borrow.Author.Rules.{rules}
-use borrow.Author.Tests.{not-true, not-false}
-use Rattle.reader_lines.proofs.Capitals.{Lettering, letters_start, letters_stop, letters_inside, letters_more, letters_end}
+use Rattle.reader_lines.proofs.Capitals.{letters_start, letters_stop, letters_inside, letters_more, letters_end}
 use Rattle.reader_lines.proofs.letters.Goals as goal
 
 pub loop-left-init : goal.loop-left-init

@@ -1,8 +1,5 @@
 -- `reader_lines::letters` meets its contract: a law for each way through the loop. Assumes nothing.
-use native.Mathlib.Omega.{arith}
-use borrow.Author.Rules.{rules}
-use borrow.Author.Tests.{not-true, not-false}
-use Rattle.reader_lines.proofs.Capitals.{Lettering, letters_start, letters_stop, letters_inside, letters_more, letters_end}
+use Rattle.reader_lines.proofs.Capitals.{Lettering}
 use Rattle.reader_lines.proofs.letters.Given as goal
 
 abbrev pub invariant-loop-left : goal.invariant-loop-left
@@ -10,4 +7,3 @@ invariant-loop-left l = Lettering l.text l.at l.next l.left
 
 abbrev pub decreases-loop-left : goal.decreases-loop-left
 decreases-loop-left l = l.left
-

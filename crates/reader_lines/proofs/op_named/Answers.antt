@@ -1,9 +1,6 @@
 -- `reader_lines::op_named` meets its contract: the first name that is the same tells the op. Assumes nothing.
-use Prim.Native.Nat.{suc, ◌-◌}
 use native.Mathlib.Omega.{arith}
-use Rattle.reader_lines.proofs.Names.{Searching, search_start, search_found, search_more, search_end}
-use Rattle.list_definitions.specs.Names.{most_op}
-use Rattle.reader_definitions.specs.Reader.{between}
+use Rattle.reader_lines.proofs.Names.{search_start, search_found, search_more, search_end}
 use Rattle.reader_lines.proofs.op_named.Goals as goal
 
 pub loop-op-init : goal.loop-op-init

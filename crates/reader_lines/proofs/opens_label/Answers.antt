@@ -1,6 +1,5 @@
 -- `reader_lines::opens_label` meets its contract: by its first byte and the digit after it. Assumes nothing.
 use native.Mathlib.Omega.{arith}
-use borrow.Author.Rules.{rules}
 use Rattle.reader_lines.proofs.Bytes.{byte_within}
 use Rattle.reader_lines.proofs.Labels.{no_label, label_digit}
 use Rattle.reader_lines.proofs.opens_label.Goals as goal

@@ -1,6 +1,5 @@
 -- `reader_lines::operand` meets its contract: what stands after the name decides. Assumes nothing.
 use native.Mathlib.Omega.{arith}
-use borrow.Author.Rules.{rules}
 use Rattle.reader_lines.proofs.Bytes.{byte_within, number_is}
 use Rattle.reader_lines.proofs.Operands.{no_space, no_letter, no_number, numbered}
 use Rattle.reader_lines.proofs.operand.Goals as goal

@@ -1,9 +1,5 @@
 -- `reader_lines::same_name` meets its contract: a law for each way through the loop. Assumes nothing.
-use Prim.Native.Nat.{◌-◌}
-use native.Mathlib.Omega.{arith}
-use borrow.Author.Rules.{rules}
-use Rattle.list_definitions.specs.Names.{name_bytes}
-use Rattle.reader_lines.proofs.Names.{Comparing, compare_start, compare_stop, compare_short, compare_differ, compare_more, compare_end}
+use Rattle.reader_lines.proofs.Names.{compare_start, compare_stop, compare_short, compare_differ, compare_more, compare_end}
 use Rattle.reader_lines.proofs.same_name.Goals as goal
 
 pub loop-k-init : goal.loop-k-init

@@ -1,9 +1,7 @@
 -- `reader_lines::same_name` meets its contract: a law for each way through the loop. Assumes nothing.
 use Prim.Native.Nat.{◌-◌}
-use native.Mathlib.Omega.{arith}
-use borrow.Author.Rules.{rules}
 use Rattle.list_definitions.specs.Names.{name_bytes}
-use Rattle.reader_lines.proofs.Names.{Comparing, compare_start, compare_stop, compare_short, compare_differ, compare_more, compare_end}
+use Rattle.reader_lines.proofs.Names.{Comparing}
 use Rattle.reader_lines.proofs.same_name.Given as goal
 
 abbrev pub invariant-loop-k : goal.invariant-loop-k
@@ -11,4 +9,3 @@ invariant-loop-k l = Comparing l.table l.from l.text l.at l.to l.k
 
 abbrev pub decreases-loop-k : goal.decreases-loop-k
 decreases-loop-k l = name_bytes - l.k
-

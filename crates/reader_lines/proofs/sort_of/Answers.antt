@@ -1,5 +1,4 @@
 -- `reader_lines::sort_of` meets its contract: each case has the number of its sort. Assumes nothing.
-use borrow.Author.Rules.{rules}
 use mathlib.Core.Path.{ap}
 use Rattle.list_definitions.specs.Instruction.{sort_number}
 use Rattle.list_ops.specs.Sorts.{sort_in}

@@ -1,10 +1,6 @@
 -- `reader::reading::code` meets its contract: a law for each way through the loop. Assumes nothing.
-use Prim.Native.Nat.{◌-◌}
-use lib.ListN.{length}
 use native.Mathlib.Omega.{arith}
-use borrow.Author.Rules.{rules}
-use Rattle.list_definitions.specs.Names.{names_in}
-use Rattle.reader.proofs.Coding.{Coding, coding_start, code_at_label, code_at_end, line_bounds, code_more, code_stuck}
+use Rattle.reader.proofs.Coding.{coding_start, code_at_label, code_at_end, line_bounds, code_more, code_stuck}
 use Rattle.reader.proofs.reading.code.Goals as goal
 
 pub loop-at-init : goal.loop-at-init

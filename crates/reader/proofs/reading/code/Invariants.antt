@@ -1,10 +1,8 @@
 -- `reader::reading::code` meets its contract: a law for each way through the loop. Assumes nothing.
 use Prim.Native.Nat.{◌-◌}
 use lib.ListN.{length}
-use native.Mathlib.Omega.{arith}
-use borrow.Author.Rules.{rules}
 use Rattle.list_definitions.specs.Names.{names_in}
-use Rattle.reader.proofs.Coding.{Coding, coding_start, code_at_label, code_at_end, line_bounds, code_more, code_stuck}
+use Rattle.reader.proofs.Coding.{Coding}
 use Rattle.reader.proofs.reading.code.Given as goal
 
 abbrev pub invariant-loop-at : goal.invariant-loop-at
@@ -12,4 +10,3 @@ invariant-loop-at l = Coding (names_in l.table) l.vars l.text l.at l.put l.initi
 
 abbrev pub decreases-loop-at : goal.decreases-loop-at
 decreases-loop-at l = length l.text - l.next
-

@@ -1,5 +1,4 @@
 -- `reader::reading::grown` meets its contract: one rung more. Assumes nothing.
-use borrow.Author.Rules.{rules}
 use Rattle.reader.proofs.Keeping.{grown_by}
 use Rattle.reader.proofs.reading.grown.Goals as goal
 

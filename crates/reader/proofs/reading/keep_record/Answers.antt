@@ -1,5 +1,4 @@
 -- `reader::reading::keep_record` meets its contract: three stores. Assumes nothing.
-use borrow.Author.Rules.{rules}
 use Rattle.reader.proofs.Keeping.{record_kept}
 use Rattle.reader.proofs.reading.keep_record.Goals as goal
 

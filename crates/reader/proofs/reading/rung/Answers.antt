@@ -1,6 +1,5 @@
 -- `reader::reading::rung` meets its contract: by its label and its code. Assumes nothing.
 use native.Mathlib.Omega.{arith}
-use borrow.Author.Rules.{rules}
 use Rattle.list_definitions.specs.Names.{names_in}
 use Rattle.reader.proofs.Keeping.{label_bounds, code_bounds, rung_kept, rung_stuck, rung_no_label}
 use Rattle.reader.proofs.reading.rung.Goals as goal

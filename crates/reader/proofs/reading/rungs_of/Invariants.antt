@@ -1,11 +1,8 @@
 -- `reader::reading::rungs_of` meets its contract: a law for each way through the loop. Assumes nothing.
-use mathlib.Core.Path.{◌∙◌}
 use Prim.Native.Nat.{◌-◌}
 use lib.ListN.{length}
-use native.Mathlib.Omega.{arith}
-use borrow.Author.Rules.{rules}
 use Rattle.list_definitions.specs.Names.{names_in}
-use Rattle.reader.proofs.Keeping.{Keeping, keeping_start, rungs_end, rung_bounds, rungs_more, rungs_stuck}
+use Rattle.reader.proofs.Keeping.{Keeping}
 use Rattle.reader.proofs.reading.rungs_of.Given as goal
 
 abbrev pub invariant-loop-n : goal.invariant-loop-n
@@ -15,4 +12,3 @@ invariant-loop-n l =
 
 abbrev pub decreases-loop-n : goal.decreases-loop-n
 decreases-loop-n l = length l.text - l.next
-
