@@ -47,7 +47,8 @@ pub fn number(text: &[u8], at: usize) -> Numeral
         return Numeral::Missing;
     }
     let mut next = at + 1;
-    if value == 0 {
+    let zero = value == 0;
+    if zero {
         return Numeral::Value { value, next };
     }
     let mut left: usize = 4;

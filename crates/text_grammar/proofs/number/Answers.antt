@@ -10,11 +10,11 @@ returns-then-value-ge10 c = record { same = number_missing _ _ _ c.digit_at-valu
 pub overflow_add-next : goal.overflow_add-next
 overflow_add-next c = omega (arith, c.digit_at-value.ensures.inside c.if-value-ge10.false)
 
-pub returns-then-value-eq0 : goal.returns-then-value-eq0
-returns-then-value-eq0 c =
+pub returns-then-zero : goal.returns-then-zero
+returns-then-zero c =
     let i = c.digit_at-value.ensures.inside c.if-value-ge10.false in
     record {
-      same = number_zero _ _ _ c.digit_at-value.ensures.same c.if-value-ge10.false c.if-value-eq0.true;
+      same = number_zero _ _ _ c.digit_at-value.ensures.same c.if-value-ge10.false c.if-zero.true;
       within = (omega arith, omega arith, omega arith);
     }
 
@@ -22,7 +22,7 @@ pub loop-left-init : goal.loop-left-init
 loop-left-init c =
     let i = c.digit_at-value.ensures.inside c.if-value-ge10.false in
     record {
-      same = number_start _ _ _ c.digit_at-value.ensures.same c.if-value-ge10.false c.if-value-eq0.false;
+      same = number_start _ _ _ c.digit_at-value.ensures.same c.if-value-ge10.false c.if-zero.false;
       past = omega arith;
       within = omega arith;
       small = omega arith;
