@@ -121,7 +121,7 @@ pub fn translate(
     code_row: &mut [Rung],
 ) -> Translated
     ensures { TranslateDone (translate_kept vars
-        (record { words = words.entry.now; records = records_of row.now })
+        (record { words = words.now; records = records_of row.now })
         (as_buffers code.old (records_of code_row.old) (times_of code_row.old))) result
         (as_buffers code.new (records_of code_row.new) (times_of code_row.new)) }
 {
