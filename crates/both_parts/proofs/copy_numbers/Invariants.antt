@@ -12,4 +12,3 @@ invariant-loop-i l = Copying l.numbers l.initial.lent l.i l.lent
 
 abbrev pub decreases-loop-i : goal.decreases-loop-i
 decreases-loop-i l = length l.numbers - l.i
-

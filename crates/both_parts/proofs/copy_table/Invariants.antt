@@ -11,4 +11,3 @@ invariant-loop-i l = Copying l.table l.initial.lent l.i l.lent
 
 abbrev pub decreases-loop-i : goal.decreases-loop-i
 decreases-loop-i l = length l.table - l.i
-
