@@ -13,9 +13,6 @@ ghost use Rattle.program_definitions.specs.Scanout.{changed_line, changed_lines,
 
 use translation_definitions::BothEnds;
 
-// The times of a rung that no call entered.
-const NOT_ENTERED: u32 = 0;
-
 fn put_end(out: &mut [u8], at: usize, ended: bool) -> usize
     requires { at ≤ 1000 }
     ensures { Put out.old at (end_word (halt_of ended)) result out.new }
@@ -79,7 +76,8 @@ fn put_rungs(out: &mut [u8], from: usize, labels: &[u16], times: &[u32]) -> usiz
         if times.len() <= i {
             return end;
         }
-        if times[i] != NOT_ENTERED {
+        let entered = times[i] != 0;
+        if entered {
             end = put_entered(out, end, labels[i], times[i]);
         }
         i += 1;

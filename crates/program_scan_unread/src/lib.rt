@@ -13,9 +13,6 @@ use ladder_kinds::KindSort;
 use questions::MOST_VARIABLES;
 use rungs::OPERANDS;
 
-// The mark of a variable that no contact names.
-const UNMARKED: u8 = 0;
-
 fn is_contact(kind: u32) -> bool
     ensures { result ≡ is_contact kind }
 {
@@ -64,7 +61,8 @@ fn put_names(out: &mut [u8], from: usize, marks: &[u8]) -> usize
     let mut end = from;
     let mut i: usize = 0;
     while i < marks.len() {
-        if marks[i] == UNMARKED {
+        let unnamed = marks[i] == 0;
+        if unnamed {
             end = put_name(out, end, i);
         }
         i += 1;

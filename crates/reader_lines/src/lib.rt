@@ -137,7 +137,8 @@ fn lettered(letter: u8, number: u32, next: usize, vars: u32) -> OperandAt
         return OperandAt::Stuck;
     }
     if letter == b't' {
-        if number < SCRATCH {
+        let known = number < SCRATCH;
+        if known {
             return OperandAt::Read {
                 sort: TABLE,
                 number: vars + number,

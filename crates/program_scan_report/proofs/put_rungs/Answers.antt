@@ -2,7 +2,7 @@
 use native.Mathlib.Omega.{arith}
 use Rattle.program_scan_report.proofs.Rungs.{entering_start, entering_none, entering_more, entering_end, entering_no_times}
 use Rattle.program_scan_report.proofs.put_rungs.Goals as goal
-use Rattle.program_scan_report.proofs.put_rungs.Goals.{then-times-i-ne-NOT_ENTERED, else-times-i-ne-NOT_ENTERED}
+use Rattle.program_scan_report.proofs.put_rungs.Goals.{then-entered, else-entered}
 
 pub loop-i-init : goal.loop-i-init
 loop-i-init c = entering_start _ _ _ _
@@ -25,11 +25,11 @@ offset_bounds-labels-i c = omega (arith, c.loop-i-test.true, c.requires.1)
 pub bounds-labels-i : goal.bounds-labels-i
 bounds-labels-i c = c.loop-i-test.true
 
-pub offset_bounds-times-i-then-times-i-ne-NOT_ENTERED : goal.offset_bounds-times-i-then-times-i-ne-NOT_ENTERED
-offset_bounds-times-i-then-times-i-ne-NOT_ENTERED c = omega (arith, c.loop-i-test.true, c.requires.1)
+pub offset_bounds-times-i-then-entered : goal.offset_bounds-times-i-then-entered
+offset_bounds-times-i-then-entered c = omega (arith, c.loop-i-test.true, c.requires.1)
 
-pub bounds-times-i-then-times-i-ne-NOT_ENTERED : goal.bounds-times-i-then-times-i-ne-NOT_ENTERED
-bounds-times-i-then-times-i-ne-NOT_ENTERED c = c.if-times-i.false
+pub bounds-times-i-then-entered : goal.bounds-times-i-then-entered
+bounds-times-i-then-entered c = c.if-times-i.false
 
 pub put_entered-end-requires : goal.put_entered-end-requires
 put_entered-end-requires c = omega (arith, c.loop-i-test.true, c.requires.1, c.loop-i.invariant.room, c.requires.0)
@@ -43,10 +43,10 @@ loop-i-smaller c = omega (arith, c.loop-i-test.true)
 pub loop-i-preserved : goal.loop-i-preserved
 loop-i-preserved c =
     let i = c.loop-i.i in
-    elim c.if-times-i-ne-NOT_ENTERED.branch [
-      | then-times-i-ne-NOT_ENTERED w ↦ rw (w.out-is, w.end-is) (entering_more c.loop-i.invariant c.loop-i-test.true c.if-times-i.false w.if-times-i-ne-NOT_ENTERED.true
+    elim c.if-entered.branch [
+      | then-entered w ↦ rw (w.out-is, w.end-is) (entering_more c.loop-i.invariant c.loop-i-test.true c.if-times-i.false w.if-entered.true
           (omega (arith, c.type_inv.labels i)) (omega (arith, c.type_inv.times i)) w.put_entered-end.ensures)
-      | else-times-i-ne-NOT_ENTERED w ↦ rw (w.out-is, w.end-is) (entering_none c.loop-i.invariant c.loop-i-test.true c.if-times-i.false w.if-times-i-ne-NOT_ENTERED.false)
+      | else-entered w ↦ rw (w.out-is, w.end-is) (entering_none c.loop-i.invariant c.loop-i-test.true c.if-times-i.false w.if-entered.false)
     ]
 
 pub shape_of-out : goal.shape_of-out

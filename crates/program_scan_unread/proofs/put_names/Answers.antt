@@ -2,7 +2,7 @@
 use native.Mathlib.Omega.{arith}
 use Rattle.program_scan_unread.proofs.Marks.{naming_start, naming_none, naming_more, naming_end}
 use Rattle.program_scan_unread.proofs.put_names.Goals as goal
-use Rattle.program_scan_unread.proofs.put_names.Goals.{then-marks-i-eq-UNMARKED, else-marks-i-eq-UNMARKED}
+use Rattle.program_scan_unread.proofs.put_names.Goals.{then-unnamed, else-unnamed}
 
 pub loop-i-init : goal.loop-i-init
 loop-i-init c = naming_start _ _ _
@@ -22,9 +22,9 @@ loop-i-smaller c = omega (arith, c.loop-i-test.true)
 pub loop-i-preserved : goal.loop-i-preserved
 loop-i-preserved c =
     let few = c.requires.1 in
-    elim c.if-marks-i-eq-UNMARKED.branch [
-      | then-marks-i-eq-UNMARKED w ↦ rw (w.out-is, w.end-is) (naming_more c.loop-i.invariant c.loop-i-test.true w.if-marks-i-eq-UNMARKED.true (omega (arith, c.loop-i-test.true, few)) w.put_name-end.ensures)
-      | else-marks-i-eq-UNMARKED w ↦ rw (w.out-is, w.end-is) (naming_none c.loop-i.invariant c.loop-i-test.true w.if-marks-i-eq-UNMARKED.false)
+    elim c.if-unnamed.branch [
+      | then-unnamed w ↦ rw (w.out-is, w.end-is) (naming_more c.loop-i.invariant c.loop-i-test.true w.if-unnamed.true (omega (arith, c.loop-i-test.true, few)) w.put_name-end.ensures)
+      | else-unnamed w ↦ rw (w.out-is, w.end-is) (naming_none c.loop-i.invariant c.loop-i-test.true w.if-unnamed.false)
     ]
 
 pub shape_of-out : goal.shape_of-out

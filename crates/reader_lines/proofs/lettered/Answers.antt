@@ -8,11 +8,11 @@ returns-then-number-vars c = v_number_lem _ _ _ _ c.if-letter-eq118.true c.if-nu
 pub returns-then-letter-eq118 : goal.returns-then-letter-eq118
 returns-then-letter-eq118 c = v_large _ _ _ _ c.if-letter-eq118.true c.if-number-vars.false
 
-pub returns-then-number-lt-SCRATCH : goal.returns-then-number-lt-SCRATCH
-returns-then-number-lt-SCRATCH c = t_number_lem _ _ _ _ c.if-letter-eq116.true c.if-number-lt-SCRATCH.true c.requires.0
+pub returns-then-known : goal.returns-then-known
+returns-then-known c = t_number_lem _ _ _ _ c.if-letter-eq116.true c.if-known.true c.requires.0
 
 pub returns-then-letter-eq116 : goal.returns-then-letter-eq116
-returns-then-letter-eq116 c = t_large _ _ _ _ c.if-letter-eq116.true c.if-number-lt-SCRATCH.false
+returns-then-letter-eq116 c = t_large _ _ _ _ c.if-letter-eq116.true c.if-known.false
 
 pub returns-then-letter-eq64 : goal.returns-then-letter-eq64
 returns-then-letter-eq64 c = at_number_lem _ _ _ _ c.if-letter-eq64.true c.requires.1
