@@ -47,8 +47,8 @@ pub lists_noninterference : (vars : ℕ) (kept : Kept) (s t : List ℕ) (timers 
     → question12 most_instruction_watchdog w ≡ yes → counts.rungs * longest (translate vars (ladder_of kept)).records ≤ w
     → ListsUninfluenced vars kept (map instr_word (translate vars (ladder_of kept)).code) (translate vars (ladder_of kept)).records s t timers now watchdog w
 lists_noninterference vars kept s t timers now watchdog w given counts ended legal enough =
-    let first = scans_agree vars kept s timers now watchdog given.accepted given.first_legal given.timers_legal given.timers_known_lem given.watchdog_legal in
-    let second = scans_agree vars kept t timers now watchdog given.accepted given.second_legal given.timers_legal given.timers_known_lem given.watchdog_legal in
+    let first = scans_agree vars kept s timers now watchdog given.accepted given.first_legal given.timers_legal given.timers_known given.watchdog_legal in
+    let second = scans_agree vars kept t timers now watchdog given.accepted given.second_legal given.timers_legal given.timers_known given.watchdog_legal in
     lists_uninfluenced vars kept _ _ _ timers now watchdog w s t first second (calls_uninfluenced vars kept s t timers now watchdog given) counts ended legal enough
 
 -- Beyond the request: all that was given holds again of what the two scans leave, tables and timer records. So they stay alike over any number of scans, whatever

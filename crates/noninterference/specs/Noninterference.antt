@@ -44,7 +44,7 @@ pub record TreesGiven (gs : Ladder) (s t : State) : Type 0 where
   pub agree : AgreeOnContacts gs s.bytes t.bytes
   pub same_timers : s.timers ≡ t.timers
   pub timers_legal : question16 s.vars s.timers ≡ yes
-  pub timers_known_lem : question17 (length s.timers) gs ≡ yes
+  pub timers_known : question17 (length s.timers) gs ≡ yes
   pub same_now : s.now ≡ t.now
 
 pub record TreesUninfluenced (gs : Ladder) (watchdog : ℕ) (s t : State) : Type 0 where
@@ -63,7 +63,7 @@ pub record CallsGiven (vars : ℕ) (kept : Kept) (s t : List ℕ) (timers : List
   pub second_legal : question11 vars t ≡ yes
   pub agree : AgreeOnContacts (ladder_of kept) s t
   pub timers_legal : question16 vars timers ≡ yes
-  pub timers_known_lem : question17 (length timers) (ladder_of kept) ≡ yes
+  pub timers_known : question17 (length timers) (ladder_of kept) ≡ yes
   pub watchdog_legal : question12 most_rung_watchdog watchdog ≡ yes
 
 -- the writes of the ladder scan that the call makes

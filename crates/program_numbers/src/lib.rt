@@ -67,7 +67,8 @@ fn more_bytes(value: u32, byte: u8) -> FirstLine
         return FirstLine::Bad;
     }
     let more = value * 10 + digit;
-    if MOST_NUMBER < more {
+    let large = MOST_NUMBER < more;
+    if large {
         return FirstLine::Bad;
     }
     FirstLine::Number(more)

@@ -105,8 +105,8 @@ pub scans_agree : (vars : ℕ) (kept : Kept) (table : List ℕ) (timers : List T
     → question12 most_rung_watchdog n ≡ yes
     → ScansAgree vars kept (map instr_word (translate vars (ladder_of kept)).code) (translate vars (ladder_of kept)).records (longest (translate vars (ladder_of kept)).records)
     table timers now n
-scans_agree vars kept table timers now n accepted legal timers_legal timers_known_lem watchdog = scans_alike vars kept table timers now n
-    (record { accepted = accepted; legal_timers = timers_legal; known_timers = timers_known_lem; legal_table = legal; watchdog = watchdog })
+scans_agree vars kept table timers now n accepted legal timers_legal timers_known watchdog = scans_alike vars kept table timers now n
+    (record { accepted = accepted; legal_timers = timers_legal; known_timers = timers_known; legal_table = legal; watchdog = watchdog })
 
 -- 02, Req 06: where 16 says "no", and where 16 says "yes" and 17 "no", both scans refuse alike, whatever the table, the tick and the watchdogs.
 pub timers_refused_alike : (vars : ℕ) (kept : Kept) (table : List ℕ) (timers : List Timer) (now n w : ℕ) (refusal : Refusal) → ladder_answer vars kept ≡ yes

@@ -25,7 +25,7 @@ pub record Given (vars : ℕ) (kept : Kept) (lent : Buffers) (table : List ℕ) 
   pub room : question13 (needs (list_buffers (translate vars (ladder_of kept))) lent) ≡ yes
   pub legal : question11 vars table ≡ yes
   pub timers_legal : question16 vars timers ≡ yes
-  pub timers_known_lem : question17 (length timers) (ladder_of kept) ≡ yes
+  pub timers_known : question17 (length timers) (ladder_of kept) ≡ yes
   pub watchdog : question12 most_rung_watchdog n ≡ yes
 
 -- The two scans of a kept ladder and a list, "each" begun "on a copy of that table", under every instruction watchdog w. 02, Req 06: "begun with equal records and
@@ -78,5 +78,5 @@ pub record CallsAgree (vars : ℕ) (kept : Kept) (lent : Buffers) (table : List 
 pub record TimersRefused (vars : ℕ) (kept : Kept) (words : List ℕ) (records : List RungRecord) (table : List ℕ) (timers : List Timer) (now n w : ℕ) (refusal : Refusal) : Type 0 where
   pub ladder : (call_ladder_scan vars kept table timers now n).answer ≡ ladder_refused refusal
   pub list : (call_list_scan vars words records table timers now w).answer ≡ list_refused refusal
-  pub ladder_timers_lem : (call_ladder_scan vars kept table timers now n).timers ≡ timers
-  pub list_timers_lem : (call_list_scan vars words records table timers now w).timers ≡ timers
+  pub ladder_timers : (call_ladder_scan vars kept table timers now n).timers ≡ timers
+  pub list_timers : (call_list_scan vars words records table timers now w).timers ≡ timers

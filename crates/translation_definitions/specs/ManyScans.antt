@@ -71,7 +71,7 @@ module _ (vars : ℕ) (kept : Kept) where
     pub list_legal : question11 vars u ≡ yes
     pub same : take vars t ≡ take vars u
     pub timers_legal : question16 vars timers ≡ yes
-    pub timers_known_lem : question17 (length timers) (ladder_of kept) ≡ yes
+    pub timers_known : question17 (length timers) (ladder_of kept) ≡ yes
     pub ladders_end : LaddersEnd scans t timers
 
   -- The ladder scan answers Ended with k rungs entered, and the list scan ends alike: demand 3's ended half.

@@ -53,6 +53,6 @@ module _ (vars : ℕ) (k : Kept) (s t : List ℕ) (timers : List Timer) (now n :
         second_legal = legal_again t given.second_legal;
         agree = λ v h. (calls_uninfluenced vars k s t timers now n given).variables.differ_only v (named_below_lem vars (ladder_of k) v variables_below h) (given.agree v h);
         timers_legal = rw p (timers_still_legal (ladder_of k) n (begun s) variables_below given.timers_legal);
-        timers_known_lem = rw (p, as_many) given.timers_known_lem;
+        timers_known = rw (p, as_many) given.timers_known;
         watchdog_legal = given.watchdog_legal;
       }

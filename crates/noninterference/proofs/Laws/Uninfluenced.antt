@@ -70,7 +70,7 @@ module _ (vars : ℕ) (k : Kept) (s t : List ℕ) (timers : List Timer) (now n :
       let q : scan_questions vars k table timers n ≡ none = passed_scan vars k table timers n (record {
         accepted = given.accepted;
         legal_timers = given.timers_legal;
-        known_timers = given.timers_known_lem;
+        known_timers = given.timers_known;
         legal_table = legal;
         watchdog = given.watchdog_legal;
       }) in
@@ -87,7 +87,7 @@ module _ (vars : ℕ) (k : Kept) (s t : List ℕ) (timers : List Timer) (now n :
         agree = given.agree;
         same_timers = refl;
         timers_legal = given.timers_legal;
-        timers_known_lem = given.timers_known_lem;
+        timers_known = given.timers_known;
         same_now = refl;
       }) in
       let p = call_is s given.first_legal in

@@ -8,8 +8,8 @@ returns-then-value-gt-MOST_NUMBER c = more_large _ _ c.if-value-gt-MOST_NUMBER.t
 pub returns-then-digit-ge10 : goal.returns-then-digit-ge10
 returns-then-digit-ge10 c = more_none _ _ c.digit_of-digit.ensures.0 _ c.if-digit-ge10.true
 
-pub returns-then-more-gt-MOST_NUMBER : goal.returns-then-more-gt-MOST_NUMBER
-returns-then-more-gt-MOST_NUMBER c = more_over _ _ c.digit_of-digit.ensures.0 _ c.if-digit-ge10.false c.if-more-gt-MOST_NUMBER.true
+pub returns-then-large : goal.returns-then-large
+returns-then-large c = more_over _ _ c.digit_of-digit.ensures.0 _ c.if-digit-ge10.false c.if-large.true
 
 pub returns : goal.returns
-returns c = more_digit _ _ c.digit_of-digit.ensures.0 _ c.if-digit-ge10.false c.if-more-gt-MOST_NUMBER.false
+returns c = more_digit _ _ c.digit_of-digit.ensures.0 _ c.if-digit-ge10.false c.if-large.false

@@ -97,7 +97,7 @@ module _ (vars : ℕ) (kept : Kept) (table timers : List ℕ) (now : ℕ) (lent 
             room = first_yes _ _ e6;
             legal = p.legal_table;
             timers_legal = p.legal_timers;
-            timers_known_lem = p.known_timers;
+            timers_known = p.known_timers;
             watchdog = p.watchdog;
           };
           ladder_copy = copy_long 11 _ _ (first_yes _ _ e3);

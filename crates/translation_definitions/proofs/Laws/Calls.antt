@@ -199,7 +199,7 @@ translate_call vars k lent ok room = call_written vars k lent (rw (ok, room))
 -- the hypotheses of demand 3 are Ladder scan's questions
 pub given_passed : (vars : ℕ) (k : Kept) (lent : Buffers) (table : List ℕ) (timers : List Timer) (n : ℕ) → Given vars k lent table timers n → ScanPassed vars k table timers n
 given_passed vars k lent table timers n g =
-    record { accepted = g.accepted; legal_timers = g.timers_legal; known_timers = g.timers_known_lem; legal_table = g.legal; watchdog = g.watchdog }
+    record { accepted = g.accepted; legal_timers = g.timers_legal; known_timers = g.timers_known; legal_table = g.legal; watchdog = g.watchdog }
 
 pub calls_alike : (vars : ℕ) (k : Kept) (lent : Buffers) (table : List ℕ) (timers : List Timer) (now n : ℕ) → Given vars k lent table timers n → CallsAgree vars k lent table timers now n
 unfolding counts_of

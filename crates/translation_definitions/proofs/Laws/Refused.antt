@@ -66,6 +66,6 @@ module _ (vars : ℕ) (kept : Kept) (table : List ℕ) (timers : List Timer) (no
   timers_refused e = record {
     ladder = rw (ladder_no e, call_ladder_scan);
     list = rw (list_no e, call_list_scan);
-    ladder_timers_lem = rw (ladder_no e, call_ladder_scan);
-    list_timers_lem = rw (list_no e, call_list_scan);
+    ladder_timers = rw (ladder_no e, call_ladder_scan);
+    list_timers = rw (list_no e, call_list_scan);
   }
