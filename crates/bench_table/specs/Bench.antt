@@ -6,7 +6,7 @@ use Rattle.std.specs.Prelude.{◌≡◌, refl, Bool, true, false, ℕ, ◌-◌, 
 use Rattle.std.proofs.Math.Bool.{xor}
 use Rattle.std.proofs.Math.Option.{Option, none, some}
 use mathlib.Core.List.{List, [], ◌∷◌, ◌++◌, map, zip_with, flat_map}
-use Rattle.questions.specs.Tests.{all, first_failed, different}
+use Rattle.questions.specs.Tests.{first_failed, different}
 use Rattle.questions.specs.Bytes.{bytes}
 use Rattle.questions.specs.Questions.{ask, ask_each, first_no, vars_in_range, question1, question2, question12, long_enough, question13}
 use Rattle.table.specs.State.{state_of, scratch_bytes, value_at, value, written_at, turns, write, write_if, set_timer, run_timer}
@@ -212,7 +212,7 @@ as_said rows = map (λ r. as_far (run r) r.outcome) rows ≡ map (λ (r : Row). 
 
 all_tables : as_said table × as_said latches × as_said moves
 unfolding as_said table list_a outcome_a latches latch_list latched moves stopped_a run as_far start room instruction_watchdog variables_of by_list_scan by_translate by_ladder_scan bytes
-    all first_failed ask ask_each first_no vars_in_range question1 question2 question3 question4 question5 question6 question7 question8 question9 question10 question11 question12 question13 question16 question17 list_question17 timers_in_range different timers_known list_timers_known output_timed named_timed operand_timed long_enough
+    first_failed ask ask_each first_no vars_in_range question1 question2 question3 question4 question5 question6 question7 question8 question9 question10 question11 question12 question13 question16 question17 list_question17 timers_in_range different timers_known list_timers_known output_timed named_timed operand_timed long_enough
     value_at value written_at turns write write_if xor table_in_range laid lay search present start_of is_start enter longest fields_of row_of as_buffers needs written written_over written_words written_records zip_with flat_map
     front_all rear_all rung_all scan_ladder scan_from run_rung run_rear run_output work_front work_input jump_if unless_jumped from follow left
     input_kind input_variable input_word output_kind output_names number output_word front_words rear_words rung_words encode put_input put_front put_output put_rear_and put_rear_or kinds decode_words one_rung decode_rung decode_from decode
@@ -273,7 +273,7 @@ entered r =
 -- And every field.
 entries_worked : map entered entries ≡ map (λ (r : Entries). (r.ladder, r.list)) entries
 unfolding entries entered bytes
-    all ask first_no vars_in_range question1 question10 question11 question12 question16 list_question17 timers_in_range different list_timers_known operand_timed value_at value written_at turns write write_if xor table_in_range laid lay search start_of is_start enter zip_with flat_map
+    ask first_no vars_in_range question1 question10 question11 question12 question16 list_question17 timers_in_range different list_timers_known operand_timed value_at value written_at turns write write_if xor table_in_range laid lay search start_of is_start enter zip_with flat_map
     run_rung run_rear run_output work_front work_input jump_if unless_jumped from follow left entries_from rungs_entered occurrences times_entered number
     map_p bind followed digit_of digits_from numeral_of chain term_by front_by factor_by factor_of term_of front_of opens_factor branch_by rear_by output_at end_by end_of rear_of line_of lines_of text_of text_ladder
     operand op_of operand_number only_not ops instr_word decode_instr decode_code code_of scan_list scan_machine begin fresh step count does halted
@@ -332,7 +332,7 @@ expected = map (λ (s : Ticked). (s.variables, s.timers)) dispatch
 -- And every tick, by ladder and list.
 dispatch_worked : (in_turn by_ladder (replicate 35 0) (timer 3 0 1 0 0 ∷ []) dispatch ≡ expected) × (in_turn by_list (replicate 35 0) (timer 3 0 1 0 0 ∷ []) dispatch ≡ expected)
 unfolding dispatch expected in_turn kept_dispatch by_ladder by_list timer bytes
-    all first_failed ask ask_each first_no vars_in_range question1 question4 question5 question6 question7 question8 question9 question10 question11 question12 question16 question17 list_question17
+    first_failed ask ask_each first_no vars_in_range question1 question4 question5 question6 question7 question8 question9 question10 question11 question12 question16 question17 list_question17
     timers_in_range different timers_known list_timers_known output_timed named_timed operand_timed value_at value written_at turns write write_if set_timer run_timer elapsed started tested powered xor table_in_range
     laid lay search present start_of is_start enter zip_with flat_map scan_ladder scan_from run_rung run_rear run_output work_front work_input jump_if unless_jumped from follow left
     front_all rear_all rung_all input_kind input_variable input_word output_kind output_names number output_word front_words rear_words rung_words encode put_input put_front put_output put_rear_and put_rear_or
@@ -354,7 +354,7 @@ room_j = buffers (replicate 128 0) (replicate 1 0) (replicate 1 0) (replicate 1 
 -- "J 64 contacts joined by & and a coil: 128 words, taken; 65: refused 5.", by Read
 J_worked : map (λ contacts. (read_text 1 (text_j contacts) room_j).answer) (64 ∷ 65 ∷ []) ≡ kept 128 1 ∷ read_refused (record { number = 5; place = 0 }) ∷ []
 unfolding text_j room_j bytes
-    all first_failed ask ask_each first_no vars_in_range question1 question2 question3 question5 question6 question7 question8 question13 long_enough
+    first_failed ask ask_each first_no vars_in_range question1 question2 question3 question5 question6 question7 question8 question13 long_enough
     lay search present as_buffers needs written written_over flat_map
     front_all rear_all rung_all input_kind input_variable input_word output_kind output_names number output_word front_words rear_words rung_words encode
     sizes_in_range input_below named_below output_below new_labels named_leads output_leads

@@ -11,7 +11,7 @@ use Rattle.questions.specs.Questions.{ask, first_no, question12, most_instructio
 use Rattle.questions.specs.Refusals.{refusal_of, verdict_answer}
 use Rattle.questions.specs.declared.Refusal.{Refusal as RefusalCase}
 use Rattle.questions.specs.declared.Refusal.TheVariants.{Table, Watchdog, Timers}
-use Rattle.questions.specs.declared.Verdict.TheVariants.{Accepted, Refused}
+use Rattle.std.specs.Prelude.{Ok, Err}
 use Rattle.table.specs.TimerRecords.{number_timers}
 use Rattle.ladder_definitions.specs.Kept.{Kept}
 use Rattle.ladder_definitions.specs.LadderScan.{scan_questions}
@@ -19,28 +19,28 @@ use Rattle.translation_definitions.specs.BothScans.{copy_question}
 use Rattle.both_parts.specs.Parts.{Lengths, both_asked}
 
 module _ (vars : ℕ) (k : Kept) (table timers : List ℕ) (m : Lengths) (n w : ℕ) where
-  pub asked_refused : (x : RefusalCase) → scan_questions vars k table (number_timers timers) n ≡ some (refusal_of x) → verdict_answer (Refused x) ≡ both_asked vars k table timers m n w
+  pub asked_refused : (x : RefusalCase) → scan_questions vars k table (number_timers timers) n ≡ some (refusal_of x) → verdict_answer (Err x) ≡ both_asked vars k table timers m n w
   unfolding both_asked first_no verdict_answer
   asked_refused x e = rw e refl
 
   module _ (ok : scan_questions vars k table (number_timers timers) n ≡ none) where
-    pub asked_ladder_timers : (m.ladder_numbers ≡ length timers → ⊥) → verdict_answer (Refused Timers) ≡ both_asked vars k table timers m n w
+    pub asked_ladder_timers : (m.ladder_numbers ≡ length timers → ⊥) → verdict_answer (Err Timers) ≡ both_asked vars k table timers m n w
     unfolding both_asked first_no verdict_answer copy_question ask refusal_of
     asked_ladder_timers h = rw (ok, ne_eqb m.ladder_numbers (length timers) h) refl
 
     module _ (first : m.ladder_numbers ≡ length timers) where
-      pub asked_list_timers : (m.list_numbers ≡ length timers → ⊥) → verdict_answer (Refused Timers) ≡ both_asked vars k table timers m n w
+      pub asked_list_timers : (m.list_numbers ≡ length timers → ⊥) → verdict_answer (Err Timers) ≡ both_asked vars k table timers m n w
       unfolding both_asked first_no verdict_answer copy_question ask refusal_of
       asked_list_timers h = rw (ok, eq-eqb m.ladder_numbers (length timers) first, ne_eqb m.list_numbers (length timers) h) refl
 
       module _ (second : m.list_numbers ≡ length timers) where
-        pub asked_ladder_copy : (m.ladder_bytes ≡ length table → ⊥) → verdict_answer (Refused Table) ≡ both_asked vars k table timers m n w
+        pub asked_ladder_copy : (m.ladder_bytes ≡ length table → ⊥) → verdict_answer (Err Table) ≡ both_asked vars k table timers m n w
         unfolding both_asked first_no verdict_answer copy_question ask refusal_of
         asked_ladder_copy h =
             rw (ok, eq-eqb m.ladder_numbers (length timers) first, eq-eqb m.list_numbers (length timers) second, ne_eqb m.ladder_bytes (length table) h) refl
 
         module _ (third : m.ladder_bytes ≡ length table) where
-          pub asked_list_copy : (m.list_bytes ≡ length table → ⊥) → verdict_answer (Refused Table) ≡ both_asked vars k table timers m n w
+          pub asked_list_copy : (m.list_bytes ≡ length table → ⊥) → verdict_answer (Err Table) ≡ both_asked vars k table timers m n w
           unfolding both_asked first_no verdict_answer copy_question ask refusal_of
           asked_list_copy h =
               rw (
@@ -52,7 +52,7 @@ module _ (vars : ℕ) (k : Kept) (table timers : List ℕ) (m : Lengths) (n w : 
               ) refl
 
           module _ (fourth : m.list_bytes ≡ length table) where
-            pub asked_instructions : leb w most_instruction_watchdog ≡ false → verdict_answer (Refused Watchdog) ≡ both_asked vars k table timers m n w
+            pub asked_instructions : leb w most_instruction_watchdog ≡ false → verdict_answer (Err Watchdog) ≡ both_asked vars k table timers m n w
             unfolding both_asked first_no verdict_answer copy_question question12 ask refusal_of
             asked_instructions g =
                 rw (
@@ -64,7 +64,7 @@ module _ (vars : ℕ) (k : Kept) (table timers : List ℕ) (m : Lengths) (n w : 
                   g,
                 ) refl
 
-            pub asked_accepted : leb w most_instruction_watchdog ≡ true → verdict_answer Accepted ≡ both_asked vars k table timers m n w
+            pub asked_accepted : leb w most_instruction_watchdog ≡ true → verdict_answer (Ok tt) ≡ both_asked vars k table timers m n w
             unfolding both_asked first_no verdict_answer copy_question question12 ask
             asked_accepted g =
                 rw (

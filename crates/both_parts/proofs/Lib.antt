@@ -1,3 +1,3 @@
 -- Laws that the proofs of functions cite.
 pub mod Asking
-pub mod Tables
+pub mod Copies

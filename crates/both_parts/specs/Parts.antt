@@ -1,23 +1,41 @@
 -- What the functions of this crate promise. Nothing here is a sentence of document 01. Assumes nothing.
-use Rattle.std.specs.Prelude.{ℕ, true, false, List, [], ◌∷◌, ◌++◌, length, take, drop}
+use Rattle.std.specs.Prelude.{ℕ, ◌≡◌, List, [], ◌∷◌, ◌++◌, length, take, drop, Option, Some, None}
+use Rattle.std.specs.Result.{result_unwrap_or}
 use Rattle.questions.specs.Questions.{Answer, first_no, question12, most_instruction_watchdog}
 use Rattle.table.specs.TimerRecords.{number_timers}
 use Rattle.table.specs.Halt.{Halt}
+use Rattle.table.specs.declared.Halt.{Halt as HaltCase}
+use Rattle.table.specs.declared.Halt.TheVariants.{Stopped as StoppedCase}
 use Rattle.ladder_definitions.specs.Kept.{Kept}
-use Rattle.ladder_definitions.specs.LadderScan.{scan_questions}
-use Rattle.ladder_definitions.specs.declared.LadderScanned.{LadderScanned}
-use Rattle.ladder_definitions.specs.declared.LadderScanned.TheVariants.{Ended as LadderEnded, Stopped as LadderStopped, Refused as LadderRefused}
-use Rattle.list_definitions.specs.declared.ListScanned.{ListScanned}
-use Rattle.list_definitions.specs.declared.ListScanned.TheVariants.{Ended as ListEnded, Stopped as ListStopped, Refused as ListRefused}
+use Rattle.ladder_definitions.specs.LadderScan.{scan_questions, LadderScanned}
+use Rattle.ladder_definitions.specs.declared.Counts.{Counts as LadderCounts}
+use Rattle.list_definitions.specs.ListScan.{ListScanned}
+use Rattle.list_definitions.specs.declared.Counts.{Counts as ListCounts}
 use Rattle.translation_definitions.specs.BothScans.{copy_questions, instruction_watchdog}
-use Rattle.both_parts.specs.declared.ListWatchdog.{ListWatchdog}
-use Rattle.both_parts.specs.declared.ListWatchdog.TheVariants.{Given, Paired}
-use Rattle.both_parts.specs.declared.LadderEnd.{LadderEnd}
-use Rattle.both_parts.specs.declared.ListEnd.{ListEnd}
+use Rattle.both_parts.specs.declared.Memory.{Memory as MemoryStruct}
 
 -- a slice copied to the start of a lent one, as far as that reaches
 unfoldable pub copied : List ℕ → List ℕ → List ℕ
 copied from lent = take (length lent) from ++ drop (length from) lent
+
+-- what one scan was lent, or left: a table, and the numbers of timer records
+pub record Memory : Type 0 where
+  pub bytes : List ℕ
+  pub numbers : List ℕ
+
+abbrev pub memory : List ℕ → List ℕ → Memory
+memory bytes numbers = record { bytes = bytes; numbers = numbers }
+
+abbrev pub memory_in : MemoryStruct → Memory
+memory_in m = memory m.table.now m.timers.now
+
+abbrev pub copied_memory : List ℕ → List ℕ → Memory → Memory
+copied_memory table timers m = memory (copied table m.bytes) (copied timers m.numbers)
+
+-- the same lent slices
+pub record SameMemory (before after : MemoryStruct) : Type 0 where
+  pub table : after.table.ghost_name ≡ before.table.ghost_name
+  pub timers : after.timers.ghost_name ≡ before.timers.ghost_name
 
 -- how many numbers and bytes the copies are lent
 pub record Lengths : Type 0 where
@@ -30,6 +48,9 @@ abbrev pub copy_lengths : ℕ → ℕ → ℕ → ℕ → Lengths
 copy_lengths ladder_numbers list_numbers ladder_bytes list_bytes =
     record { ladder_numbers = ladder_numbers; list_numbers = list_numbers; ladder_bytes = ladder_bytes; list_bytes = list_bytes }
 
+abbrev pub lengths_of : Memory → Memory → Lengths
+lengths_of ladder list = copy_lengths (length ladder.numbers) (length list.numbers) (length ladder.bytes) (length list.bytes)
+
 -- the questions before 13, over the lengths of the copies
 unfoldable pub both_asked : ℕ → Kept → List ℕ → List ℕ → Lengths → ℕ → ℕ → Answer
 both_asked vars k table timers m n w =
@@ -38,22 +59,19 @@ both_asked vars k table timers m n w =
     ++ question12 most_instruction_watchdog w
     ∷ [])
 
--- the watchdog that question 12 is put to
-unfoldable pub asked_watchdog : ListWatchdog → ℕ
-asked_watchdog (Given w) = w
-asked_watchdog Paired = 0
+-- the watchdog that question 12 is put to: a given one, or 0, which is in range as demand 3's own always is
+unfoldable pub asked_watchdog : Option ℕ → ℕ
+asked_watchdog (Some w) = w
+asked_watchdog None = 0
 
 -- the list scan's watchdog, from how the ladder scan halted, its rungs entered, L and n
-unfoldable pub watchdog_by : ListWatchdog → Halt → ℕ → ℕ → ℕ → ℕ
-watchdog_by (Given w) halt k longest n = w
-watchdog_by Paired halt k longest n = instruction_watchdog halt k longest n
+unfoldable pub watchdog_by : Option ℕ → Halt → ℕ → ℕ → ℕ → ℕ
+watchdog_by (Some w) halt k longest n = w
+watchdog_by None halt k longest n = instruction_watchdog halt k longest n
 
-unfoldable pub ladder_end : LadderScanned → LadderEnd
-ladder_end (LadderEnded c) = record { ended = true; counts = c }
-ladder_end (LadderStopped c) = record { ended = false; counts = c }
-ladder_end (LadderRefused r) = record { ended = false; counts = record { rungs = 0; moved = 0 } }
+-- how a scan halted; a refusal counts as one that stopped at once, but no question is left that could refuse
+abbrev pub ladder_end : LadderScanned → HaltCase LadderCounts
+ladder_end answer = result_unwrap_or answer (StoppedCase (record { rungs = 0; moved = 0 }))
 
-unfoldable pub list_end : ListScanned → ListEnd
-list_end (ListEnded c) = record { ended = true; counts = c }
-list_end (ListStopped c) = record { ended = false; counts = c }
-list_end (ListRefused r) = record { ended = false; counts = record { instructions = 0; rungs = 0; moved = 0 } }
+abbrev pub list_end : ListScanned → HaltCase ListCounts
+list_end answer = result_unwrap_or answer (StoppedCase (record { instructions = 0; rungs = 0; moved = 0 }))

@@ -19,8 +19,13 @@ use Rattle.translation_definitions.specs.BothScans.{Lent, copy_questions, both_q
 use Rattle.translation_definitions.proofs.Laws.Boths.{paired_legal}
 use Rattle.both_parts.specs.Parts.{Lengths, copy_lengths, both_asked, asked_watchdog}
 use Rattle.both_scans.specs.Parts.{chosen_watchdog}
-use Rattle.both_parts.specs.declared.ListWatchdog.{ListWatchdog}
-use Rattle.both_parts.specs.declared.ListWatchdog.TheVariants.{Given, Paired}
+use Rattle.std.specs.Prelude.{Option, Some, None, unwrap_or}
+
+-- the watchdog that is given, or 0
+pub asked_is : (w : Option ℕ) → unwrap_or w 0 ≡ asked_watchdog w
+unfolding asked_watchdog
+asked_is (Some n) = refl
+asked_is None = refl
 
 -- a later question may be another, if both get a "yes" once those before did
 exchanged : (before : Answer) (a b : Answer) (later : List Answer) → a ≡ none → (before ≡ none → b ≡ none) → first_no (before ∷ b ∷ later) ≡ first_no (before ∷ a ∷ later)
@@ -56,8 +61,8 @@ module _ (vars : ℕ) (k : Kept) (table timers : List ℕ) (now : ℕ) (lent : L
       (in_range_watchdog most_instruction_watchdog 0 (omega arith)) early_legal
       ∙ sym (first_append early (question12 most_instruction_watchdog 0 ∷ []))
 
-  pub asked_all : (watchdog : ListWatchdog) → first_no (both_questions vars k table timers lent n (chosen_watchdog watchdog vars k table timers now n))
+  pub asked_all : (watchdog : Option ℕ) → first_no (both_questions vars k table timers lent n (chosen_watchdog watchdog vars k table timers now n))
       ≡ first_no (both_asked vars k table timers (lent_lengths lent) n (asked_watchdog watchdog) ∷ room ∷ [])
   unfolding chosen_watchdog asked_watchdog
-  asked_all (Given w) = by_asked w
-  asked_all Paired = by_asked (paired_watchdog vars k table timers now n) ∙ ap (λ a. first_no (a ∷ room ∷ [])) paired_asked
+  asked_all (Some w) = by_asked w
+  asked_all None = by_asked (paired_watchdog vars k table timers now n) ∙ ap (λ a. first_no (a ∷ room ∷ [])) paired_asked

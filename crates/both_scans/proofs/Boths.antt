@@ -11,8 +11,6 @@ use Rattle.questions.specs.Questions.{Refusal, Answer, first_no, question12, que
 use Rattle.questions.specs.Refusals.{refusal_of, verdict_answer}
 use Rattle.questions.proofs.Laws.Answers.{first_yes, later_yes, verdict_accepted, watchdog_in_range}
 use Rattle.questions.specs.declared.Refusal.{Refusal as RefusalCase}
-use Rattle.questions.specs.declared.Verdict.{Verdict}
-use Rattle.questions.specs.declared.Verdict.TheVariants.{Accepted, Refused}
 use Rattle.table.specs.Halt.{Halt, Ended, Stopped}
 use Rattle.table.specs.Timer.{Timer}
 use Rattle.table.specs.State.{State}
@@ -26,34 +24,32 @@ use Rattle.ladder_definitions.specs.Questions.{ladder_of, ladder_answer, most_ru
 use Rattle.ladder_definitions.specs.LadderScan.{LadderCounts, counts_of as ladder_counts_of, LadderScanAnswer, call_ladder_scan, scanned as ladder_scanned, refused as ladder_refused, scan_ends as ladder_ends, counts_in as ladder_counts_in, ladder_scanned_answer, LadderScanNumbers}
 use Rattle.ladder_definitions.proofs.Laws.Answers.{rungs_few as entered_few}
 use Rattle.ladder_definitions.proofs.Laws.Accepting.{accepted, ScanPassed, scan_passed}
-use Rattle.ladder_definitions.specs.declared.LadderScanned.{LadderScanned}
-use Rattle.ladder_definitions.specs.declared.LadderScanned.TheVariants.{Ended as LadderEnded, Stopped as LadderStopped, Refused as LadderRefused}
 use Rattle.list_definitions.specs.Instruction.{instr_word}
 use Rattle.list_definitions.specs.Machine.{InstructionList, scan_list}
 use Rattle.list_definitions.specs.ListScan.{ListCounts, counts_of as list_counts_of, ListScanAnswer, call_list_scan, scanned as list_scanned, refused as list_refused, scan_ends as list_ends, counts_in as list_counts_in, list_scanned_answer, ListScanNumbers}
-use Rattle.list_definitions.specs.declared.ListScanned.{ListScanned}
-use Rattle.list_definitions.specs.declared.ListScanned.TheVariants.{Ended as ListEnded, Stopped as ListStopped, Refused as ListRefused}
 use Rattle.translation_definitions.specs.Translate.{translate, code_bound}
 use Rattle.translation_definitions.specs.TranslateKept.{translated, refused as translate_refused, translate_kept, counts_of, counts_in, list_buffers, TranslateDone, translated_answer}
 use Rattle.translation_definitions.proofs.Laws.Answers.{not_both, call_refused, call_written, refused_same, all_yes, counts_are, written_room}
 use Rattle.translation_definitions.proofs.Laws.Calls.{ladder_call_lem, list_call_lem, list_times, words_out, records_out}
 use Rattle.translation_definitions.proofs.Laws.Legal.{watchdog_in_range as most_in_range}
 use Rattle.translation_definitions.proofs.Laws.Boths.{copy_long, both_ends, both_left, both_refused_lem, both_scanned, paired_legal}
-use Rattle.translation_definitions.specs.BothScans.{Lent, lends, scanned_buffers, both_questions, begun, both_scans, paired_scans, halt_of, paired_watchdog, ends_in, both_scanned_answer, BothScansDone}
+use Rattle.translation_definitions.specs.BothScans.{Lent, lends, scanned_buffers, both_questions, begun, both_scans, paired_scans, paired_watchdog, ends_in, both_scanned_answer, BothScansDone}
 use Rattle.translation_definitions.specs.BothAgree.{BothPromise, PairedPromise}
 use Rattle.translation_definitions.proofs.Theorems.{both_agree, paired_agree}
 use Rattle.translation_definitions.specs.declared.Counts.{Counts as CountsStruct}
 use Rattle.translation_definitions.specs.declared.BothEnds.{BothEnds as EndsStruct}
-use Rattle.translation_definitions.specs.declared.Translated.{Translated}
-use Rattle.translation_definitions.specs.declared.Translated.TheVariants.{Written as WrittenCase, Refused as RefusedCase}
-use Rattle.translation_definitions.specs.declared.BothScanned.{BothScanned}
-use Rattle.translation_definitions.specs.declared.BothScanned.TheVariants.{Scanned as BothCase, Refused as BothRefused}
-use Rattle.both_parts.specs.Parts.{copied, Lengths, both_asked, asked_watchdog, watchdog_by, ladder_end, list_end}
-use Rattle.both_scans.specs.Parts.{chosen_watchdog, Memory, memory, ScansRun}
-use Rattle.both_parts.specs.declared.ListWatchdog.{ListWatchdog}
-use Rattle.both_parts.specs.declared.ListWatchdog.TheVariants.{Given, Paired}
-use Rattle.both_parts.specs.declared.LadderEnd.{LadderEnd}
-use Rattle.both_parts.specs.declared.ListEnd.{ListEnd}
+use Rattle.both_parts.specs.Parts.{Memory, memory, copied, Lengths, both_asked, asked_watchdog, watchdog_by, ladder_end, list_end}
+use Rattle.std.specs.Prelude.{Option, Some, None, Result, Ok, Err}
+use Rattle.table.specs.declared.Halt.{Halt as HaltCase}
+use Rattle.table.specs.declared.Halt.TheVariants.{Ended as EndedCase, Stopped as StoppedCase}
+use Rattle.ladder_definitions.specs.declared.Counts.{Counts as LadderCountsStruct}
+use Rattle.list_definitions.specs.declared.Counts.{Counts as ListCountsStruct}
+use Rattle.table.specs.Halt.{halt_of, halt_counts}
+use Rattle.ladder_definitions.specs.LadderScan.{LadderScanned}
+use Rattle.list_definitions.specs.ListScan.{ListScanned}
+use Rattle.translation_definitions.specs.TranslateKept.{Translated}
+use Rattle.translation_definitions.specs.BothScans.{BothScanned}
+use Rattle.both_scans.specs.Parts.{chosen_watchdog, ScansRun}
 use Rattle.both_scans.proofs.Asking.{lent_lengths, room, asked_all}
 
 -- ---- how a scan ended, from its answer
@@ -65,36 +61,36 @@ not_list : (h : Halt) (n : ListCounts) (x : Refusal) → ◌≡◌ {A = ListScan
 not_list h n x e = let z : ◌≡◌ {A = ℕ} 0 1 = cc in omega arith
 
 ladder_told : (a : LadderScanned) (h : Halt) (n : LadderCounts) → ladder_scanned_answer a ≡ ladder_scanned h n
-    → (halt_of (ladder_end a).ended ≡ h) × (ladder_counts_in (ladder_end a).counts ≡ n)
-unfolding ladder_scanned_answer ladder_end halt_of
-ladder_told (LadderEnded c) h n e = (cc, cc)
-ladder_told (LadderStopped c) h n e = (cc, cc)
-ladder_told (LadderRefused x) h n e = absurd (not_ladder h n (refusal_of x) e)
+    → (halt_of (ladder_end a) ≡ h) × (ladder_counts_in (halt_counts (ladder_end a)) ≡ n)
+unfolding ladder_scanned_answer
+ladder_told (Ok (EndedCase c)) h n e = (cc, cc)
+ladder_told (Ok (StoppedCase c)) h n e = (cc, cc)
+ladder_told (Err x) h n e = absurd (not_ladder h n (refusal_of x) e)
 
 list_told : (a : ListScanned) (h : Halt) (n : ListCounts) → list_scanned_answer a ≡ list_scanned h n
-    → (halt_of (list_end a).ended ≡ h) × (list_counts_in (list_end a).counts ≡ n)
-unfolding list_scanned_answer list_end halt_of
-list_told (ListEnded c) h n e = (cc, cc)
-list_told (ListStopped c) h n e = (cc, cc)
-list_told (ListRefused x) h n e = absurd (not_list h n (refusal_of x) e)
+    → (halt_of (list_end a) ≡ h) × (list_counts_in (halt_counts (list_end a)) ≡ n)
+unfolding list_scanned_answer
+list_told (Ok (EndedCase c)) h n e = (cc, cc)
+list_told (Ok (StoppedCase c)) h n e = (cc, cc)
+list_told (Err x) h n e = absurd (not_list h n (refusal_of x) e)
 
 -- ---- the rungs entered are within the rung watchdog's range
 
 module _ (vars : ℕ) (k : Kept) (t : List ℕ) (timers : List Timer) (now n : ℕ) where
-  pub end_few : (a : LadderScanned) → ladder_scanned_answer a ≡ (call_ladder_scan vars k t timers now n).answer → n ≤ most_rung_watchdog → (ladder_end a).counts.rungs ≤ most_rung_watchdog
-  unfolding ladder_end ladder_scanned_answer
-  end_few (LadderEnded c) d most = let few = entered_few vars k t timers now n Ended (ladder_counts_in c) (sym d) in omega arith
-  end_few (LadderStopped c) d most = let few = entered_few vars k t timers now n Stopped (ladder_counts_in c) (sym d) in omega arith
-  end_few (LadderRefused x) d most = omega arith
+  pub end_few : (a : LadderScanned) → ladder_scanned_answer a ≡ (call_ladder_scan vars k t timers now n).answer → n ≤ most_rung_watchdog → (halt_counts (ladder_end a)).rungs ≤ most_rung_watchdog
+  unfolding ladder_scanned_answer
+  end_few (Ok (EndedCase c)) d most = let few = entered_few vars k t timers now n Ended (ladder_counts_in c) (sym d) in omega arith
+  end_few (Ok (StoppedCase c)) d most = let few = entered_few vars k t timers now n Stopped (ladder_counts_in c) (sym d) in omega arith
+  end_few (Err x) d most = omega arith
 
 -- ---- both scans were called
 
-module _ (vars : ℕ) (k : Kept) (code : List ℕ) (records : List RungRecord) (counts : CountsStruct) (now n : ℕ) (watchdog : ListWatchdog) {t₀ u₀ : Memory} (t u : Memory) (et : t ≡ t₀) (eu : u ≡ u₀) where
-  pub scans_ran : (a : LadderScanned) (t' : Memory) → LadderScanNumbers (call_ladder_scan vars k t.bytes (number_timers t.numbers) now n) a t'.bytes t.numbers t'.numbers → (x : LadderEnd) → x ≡ ladder_end a
-      → (m : ℕ) → m ≡ watchdog_by watchdog (halt_of x.ended) x.counts.rungs counts.longest n
-      → (b : ListScanned) (u' : Memory) (v v' : List ℕ) → ListScanNumbers (call_list_scan vars code records u.bytes (number_timers u.numbers) now m) b u'.bytes u.numbers u'.numbers v v' → (y : ListEnd) → y ≡ list_end b
+module _ (vars : ℕ) (k : Kept) (code : List ℕ) (records : List RungRecord) (counts : CountsStruct) (now n : ℕ) (watchdog : Option ℕ) {t₀ u₀ : Memory} (t u : Memory) (et : t ≡ t₀) (eu : u ≡ u₀) where
+  pub scans_ran : (a : LadderScanned) (t' : Memory) → LadderScanNumbers (call_ladder_scan vars k t.bytes (number_timers t.numbers) now n) a t'.bytes t.numbers t'.numbers → (x : HaltCase LadderCountsStruct) → x ≡ ladder_end a
+      → (m : ℕ) → m ≡ watchdog_by watchdog (halt_of x) (halt_counts x).rungs counts.longest n
+      → (b : ListScanned) (u' : Memory) (v v' : List ℕ) → ListScanNumbers (call_list_scan vars code records u.bytes (number_timers u.numbers) now m) b u'.bytes u.numbers u'.numbers v v' → (y : HaltCase ListCountsStruct) → y ≡ list_end b
       → ScansRun vars k code records counts now n watchdog t₀ u₀
-      (record { counts = counts; ladder_ended = x.ended; ladder = x.counts; list_ended = y.ended; list = y.counts }) t' u' v v'
+      (record { counts = counts; ladder = x; list = y }) t' u' v v'
   scans_ran a t' d x ex m em b u' v v' e y ey =
       record {
         ladder = a;
@@ -113,7 +109,7 @@ copied_whole table lent e =
 
 -- ---- what Translate wrote
 
-module _ (vars : ℕ) (k : Kept) (lent : Buffers) (r : Translated) (after : Buffers) (done : TranslateDone (translate_kept vars k lent) r after) (c : CountsStruct) (e : r ≡ WrittenCase c) where
+module _ (vars : ℕ) (k : Kept) (lent : Buffers) (r : Translated) (after : Buffers) (done : TranslateDone (translate_kept vars k lent) r after) (c : CountsStruct) (e : r ≡ Ok c) where
   written_answer_lem : (translate_kept vars k lent).answer ≡ translated (counts_in c)
   unfolding translated_answer
   written_answer_lem = sym done.answer ∙ ap translated_answer e
@@ -150,7 +146,7 @@ pub record EarlyPassed (vars : ℕ) (k : Kept) (table timers : List ℕ) (m : Le
   pub list_copy : m.list_bytes ≡ length table
   pub instructions : question12 most_instruction_watchdog w ≡ none
 
-module _ (vars : ℕ) (k : Kept) (table timers : List ℕ) (m : Lengths) (n w : ℕ) {v : Verdict} (answer : verdict_answer v ≡ both_asked vars k table timers m n w) (accepts : v ≡ Accepted) where
+module _ (vars : ℕ) (k : Kept) (table timers : List ℕ) (m : Lengths) (n w : ℕ) {v : Result (Unit {0}) RefusalCase} (answer : verdict_answer v ≡ both_asked vars k table timers m n w) (accepts : v ≡ Ok tt) where
   early_passed : EarlyPassed vars k table timers m n w
   unfolding both_asked
   early_passed =
@@ -174,7 +170,7 @@ module _ (vars : ℕ) (k : Kept) (table timers : List ℕ) (m : Lengths) (n w : 
 
 -- ---- both scans
 
-module _ (vars : ℕ) (k : Kept) (table timers : List ℕ) (now : ℕ) (lent : Lent) (n : ℕ) (watchdog : ListWatchdog) (m : ℕ) (em : m ≡ asked_watchdog watchdog) (v : Verdict)
+module _ (vars : ℕ) (k : Kept) (table timers : List ℕ) (now : ℕ) (lent : Lent) (n : ℕ) (watchdog : Option ℕ) (m : ℕ) (em : m ≡ asked_watchdog watchdog) (v : Result (Unit {0}) RefusalCase)
     (answer : verdict_answer v ≡ both_asked vars k table timers (lent_lengths lent) n m) where
   abbrev w : ℕ
   w = chosen_watchdog watchdog vars k table timers now n
@@ -185,13 +181,13 @@ module _ (vars : ℕ) (k : Kept) (table timers : List ℕ) (now : ℕ) (lent : L
   asked_then : first_no (both_questions vars k table timers lent n w) ≡ first_no (verdict_answer v ∷ room vars k table timers now lent n ∷ [])
   asked_then = asked_all vars k table timers now lent n watchdog ∙ rw (answer, em) refl
 
-  pub early_refused : (x : RefusalCase) → v ≡ Refused x → BothScansDone (both_scans vars k table timers now lent n w) (BothRefused x) lent
+  pub early_refused : (x : RefusalCase) → v ≡ Err x → BothScansDone (both_scans vars k table timers now lent n w) (Err x) lent
   unfolding first_no both_scanned_answer verdict_answer
   early_refused x e =
       let b = both_refused_lem vars k table timers now lent n w (refusal_of x) (asked_then ∙ rw e refl) in
       record { answer = rw b refl; same_lent = rw b refl }
 
-  module _ (accepts : v ≡ Accepted) where
+  module _ (accepts : v ≡ Ok tt) where
     abbrev p : EarlyPassed vars k table timers (lent_lengths lent) n m
     p = early_passed vars k table timers (lent_lengths lent) n m answer accepts
 
@@ -200,22 +196,22 @@ module _ (vars : ℕ) (k : Kept) (table timers : List ℕ) (now : ℕ) (lent : L
     unfolding asked_watchdog chosen_watchdog
     chosen_legal = go watchdog (rw em at p.instructions)
       where
-        go : (x : ListWatchdog) → question12 most_instruction_watchdog (asked_watchdog x) ≡ none → question12 most_instruction_watchdog (chosen_watchdog x vars k table timers now n) ≡ none
-        go (Given u) e = e
-        go Paired e = paired_legal vars k table timers now n p.passed.accepted p.passed.watchdog
+        go : (x : Option ℕ) → question12 most_instruction_watchdog (asked_watchdog x) ≡ none → question12 most_instruction_watchdog (chosen_watchdog x vars k table timers now n) ≡ none
+        go (Some u) e = e
+        go None e = paired_legal vars k table timers now n p.passed.accepted p.passed.watchdog
 
     module _ (r : Translated) (after : Buffers) (done : TranslateDone (translate_kept vars k lent.buffers) r after) where
       abbrev untouched : Lent
       untouched = lends lent.ladder_table lent.list_table lent.ladder_timers lent.list_timers after
 
-      pub room_refused : (x : RefusalCase) → r ≡ RefusedCase x → BothScansDone (both_scans vars k table timers now lent n w) (BothRefused x) untouched
+      pub room_refused : (x : RefusalCase) → r ≡ Err x → BothScansDone (both_scans vars k table timers now lent n w) (Err x) untouched
       unfolding translated_answer first_no both_scanned_answer verdict_answer
       room_refused x e = go (room vars k table timers now lent n) refl
         where
           refuses : (translate_kept vars k lent.buffers).answer ≡ translate_refused (refusal_of x)
           refuses = sym done.answer ∙ ap translated_answer e
 
-          go : (a : Answer) → room vars k table timers now lent n ≡ a → BothScansDone (both_scans vars k table timers now lent n w) (BothRefused x) untouched
+          go : (a : Answer) → room vars k table timers now lent n ≡ a → BothScansDone (both_scans vars k table timers now lent n w) (Err x) untouched
           go none q = absurd (not_both _ (refusal_of x) (sym (ap (λ c. c.answer) (call_written vars k lent.buffers (rw (p.passed.accepted, q)))) ∙ refuses))
           go (some y) q =
               let z : translate_refused y ≡ translate_refused (refusal_of x) = sym (ap (λ c. c.answer) (call_refused vars k lent.buffers y (rw (p.passed.accepted, q)))) ∙ refuses in
@@ -224,7 +220,7 @@ module _ (vars : ℕ) (k : Kept) (table timers : List ℕ) (now : ℕ) (lent : L
               let kept = done.same_buffers ∙ refused_same vars k lent.buffers (refusal_of x) refuses in
               record { answer = rw b refl; same_lent = rw b (λ i. lends lent.ladder_table lent.list_table lent.ladder_timers lent.list_timers (kept i)) }
 
-      module _ (c : CountsStruct) (e : r ≡ WrittenCase c) (ends : EndsStruct) (t' u' : Memory) (f f' : List ℕ)
+      module _ (c : CountsStruct) (e : r ≡ Ok c) (ends : EndsStruct) (t' u' : Memory) (f f' : List ℕ)
           (ran : ScansRun vars k (take c.instructions after.words)
           (row_of (take c.rungs after.labels) (take c.rungs after.offsets) (take c.rungs after.lengths) (take c.rungs after.times))
           c now n watchdog (memory (copied table lent.ladder_table) (copied timers lent.ladder_timers))
@@ -258,17 +254,17 @@ module _ (vars : ℕ) (k : Kept) (table timers : List ℕ) (now : ℕ) (lent : L
               ← (copied_whole timers lent.ladder_timers p.ladder_numbers_lem),
             ) ran.ladder_run
 
-        ladder_halt_lem : (halt_of (ladder_end ran.ladder).ended ≡ (scan_ladder (ladder_of k) n s).halt)
-            × (ladder_counts_in (ladder_end ran.ladder).counts ≡ ladder_counts_of (scan_ladder (ladder_of k) n s))
+        ladder_halt_lem : (halt_of (ladder_end ran.ladder) ≡ (scan_ladder (ladder_of k) n s).halt)
+            × (ladder_counts_in (halt_counts (ladder_end ran.ladder)) ≡ ladder_counts_of (scan_ladder (ladder_of k) n s))
         unfolding ladder_ends
         ladder_halt_lem = ladder_told ran.ladder _ _ ladder_is.done.answer
 
-        same_watchdog : (x : ListWatchdog)
-            → watchdog_by x (halt_of (ladder_end ran.ladder).ended) (ladder_end ran.ladder).counts.rungs c.longest n ≡ chosen_watchdog x vars k table timers now n
+        same_watchdog : (x : Option ℕ)
+            → watchdog_by x (halt_of (ladder_end ran.ladder)) (halt_counts (ladder_end ran.ladder)).rungs c.longest n ≡ chosen_watchdog x vars k table timers now n
         unfolding watchdog_by chosen_watchdog paired_watchdog counts_of
-        same_watchdog (Given u) = refl
-        same_watchdog Paired =
-            let rungs : (ladder_end ran.ladder).counts.rungs ≡ (scan_ladder (ladder_of k) n s).rungs = ap (λ (d : LadderCounts). d.rungs) ladder_halt_lem.1 in
+        same_watchdog (Some u) = refl
+        same_watchdog None =
+            let rungs : (halt_counts (ladder_end ran.ladder)).rungs ≡ (scan_ladder (ladder_of k) n s).rungs = ap (λ (d : LadderCounts). d.rungs) ladder_halt_lem.1 in
             let most : c.longest ≡ longest list.records = ap (λ d. d.longest) counts in
             rw (ladder_halt_lem.0, rungs, most) refl
 
@@ -286,7 +282,7 @@ module _ (vars : ℕ) (k : Kept) (table timers : List ℕ) (now : ℕ) (lent : L
             let d = rw (copied_whole table lent.list_table p.list_copy, copied_whole timers lent.list_timers p.list_numbers_lem, words_are, records_are, same_watchdog watchdog) at ran.list_run in
             rw (← (list_call_lem vars k table (number_timers timers) now n p.passed w chosen_legal)) d
 
-        list_halt_lem : (halt_of (list_end ran.list).ended ≡ (scan_list list w s).halt) × (list_counts_in (list_end ran.list).counts ≡ list_counts_of (scan_list list w s))
+        list_halt_lem : (halt_of (list_end ran.list) ≡ (scan_list list w s).halt) × (list_counts_in (halt_counts (list_end ran.list)) ≡ list_counts_of (scan_list list w s))
         unfolding list_ends
         list_halt_lem = list_told ran.list _ _ list_is.done.answer
 
@@ -311,7 +307,7 @@ module _ (vars : ℕ) (k : Kept) (table timers : List ℕ) (now : ℕ) (lent : L
             }
 
         pub both_done : (times : List ℕ) → times ≡ f' ++ drop c.rungs after.times
-            → BothScansDone (both_scans vars k table timers now lent n w) (BothCase ends)
+            → BothScansDone (both_scans vars k table timers now lent n w) (Ok ends)
             (lends t'.bytes u'.bytes t'.numbers u'.numbers (buffers after.words after.labels after.offsets after.lengths times))
         unfolding both_scanned_answer ends_in both_ends both_left ladder_ends list_ends
         both_done times q =
@@ -326,12 +322,12 @@ module _ (vars : ℕ) (k : Kept) (table timers : List ℕ) (now : ℕ) (lent : L
 -- ---- the two calls' promises
 
 module _ (vars : ℕ) (k : Kept) (table timers : List ℕ) (now : ℕ) (lent : Lent) (n : ℕ) {r : BothScanned} {after : Lent} where
-  pub both_promise : (w : ℕ) → BothScansDone (both_scans vars k table timers now lent n (chosen_watchdog (Given w) vars k table timers now n)) r after
+  pub both_promise : (w : ℕ) → BothScansDone (both_scans vars k table timers now lent n (chosen_watchdog (Some w) vars k table timers now n)) r after
       → BothScansDone (both_scans vars k table timers now lent n w) r after × BothPromise vars k table timers now lent n w (both_scanned_answer r) after
   unfolding chosen_watchdog
   both_promise w d = (d, λ given legal. rw (d.answer, d.same_lent) (both_agree vars k table timers now lent n w given legal))
 
-  pub paired_promise : BothScansDone (both_scans vars k table timers now lent n (chosen_watchdog Paired vars k table timers now n)) r after
+  pub paired_promise : BothScansDone (both_scans vars k table timers now lent n (chosen_watchdog None vars k table timers now n)) r after
       → BothScansDone (paired_scans vars k table timers now lent n) r after × PairedPromise vars k table timers now lent n (both_scanned_answer r) after
   unfolding chosen_watchdog
   paired_promise d = (d, λ given. rw (d.answer, d.same_lent) (paired_agree vars k table timers now lent n given))

@@ -12,7 +12,7 @@ use Rattle.questions.specs.Refusals.{refusal_of, verdict_answer}
 use Rattle.questions.proofs.Laws.Answers.{first_yes, first_append}
 use Rattle.questions.specs.declared.Refusal.{Refusal as RefusalCase}
 use Rattle.questions.specs.declared.Refusal.TheVariants.{Variables, Kept as KeptCase, Sizes, Variable, Label, Jump, Scratch, Table, Watchdog, Timers, TimerNumber}
-use Rattle.questions.specs.declared.Verdict.TheVariants.{Accepted, Refused}
+use Rattle.std.specs.Prelude.{Option as Place, Some, None, Ok, Err}
 use Rattle.table.specs.Questions.{table_in_range, question11, timers_in_range, question16}
 use Rattle.table.specs.TimerRecords.{number_timers}
 use Rattle.rungs.proofs.Laws.Rows.{row_lengths}
@@ -26,8 +26,6 @@ use Rattle.ladder_definitions.proofs.Laws.Held.{rows, even, held}
 use Rattle.ladder_definitions.specs.LadderScan.{scan_questions}
 use Rattle.ladder_names.specs.Asking.{LadderIn, place_of, SizesAsked, VariablesAsked, LabelsAsked, JumpsAsked, TimersAsked}
 use Rattle.ladder_scratch.specs.Measuring.{ScratchAsked}
-use Rattle.ladder_names.specs.declared.Found.{Found}
-use Rattle.ladder_names.specs.declared.Found.TheVariants.{At, Nothing}
 use Rattle.ladder.proofs.Scans.{record_count}
 
 -- ---- what question 4 took
@@ -83,7 +81,7 @@ module _ (vars : ℕ) (ws ls os ns ts : List ℕ) where
     pub past : Past6
     pub yes7 : first_failed (new_labels [] (labels gs)) ≡ none
 
-  pub refused4 : holds_ladder kept ≡ false → verdict_answer (Refused KeptCase) ≡ form_answer
+  pub refused4 : holds_ladder kept ≡ false → verdict_answer (Err KeptCase) ≡ form_answer
   unfolding verdict_answer refusal_of form_questions first_no question4 ask
   refused4 e = rw e
 
@@ -92,7 +90,7 @@ module _ (vars : ℕ) (ws ls os ns ts : List ℕ) where
     unfolding question4 ask
     passed4 = rw p.yes4
 
-    pub refused5 : (r : Bool) → SizesAsked ws ns r → r ≡ false → verdict_answer (Refused Sizes) ≡ form_answer
+    pub refused5 : (r : Bool) → SizesAsked ws ns r → r ≡ false → verdict_answer (Err Sizes) ≡ form_answer
     unfolding verdict_answer refusal_of form_questions first_no question4 question5 ask
     refused5 r a e = let n : sizes_in_range gs ≡ false = sym (a.same gs (inside passed4)) ∙ e in rw (p.yes4, n)
 
@@ -100,13 +98,13 @@ module _ (vars : ℕ) (ws ls os ns ts : List ℕ) where
     past5 r a e = record { past = p; yes5 = sym (a.same gs (inside passed4)) ∙ e }
 
   module _ (p : Past5) where
-    pub refused6 : (r : Found) (i : ℕ) → VariablesAsked vars ws ns r → r ≡ At i → verdict_answer (Refused (Variable i)) ≡ form_answer
+    pub refused6 : (r : Place ℕ) (i : ℕ) → VariablesAsked vars ws ns r → r ≡ Some i → verdict_answer (Err (Variable i)) ≡ form_answer
     unfolding verdict_answer refusal_of form_questions first_no question4 question5 question6 ask ask_each place_of
     refused6 r i a e =
         let n : first_failed (map (rung_below vars) gs) ≡ some i = sym (a.same gs (inside (passed4 p.past))) ∙ ap place_of e in
         rw (p.past.yes4, p.yes5, n)
 
-    pub past6 : (r : Found) → VariablesAsked vars ws ns r → r ≡ Nothing → Past6
+    pub past6 : (r : Place ℕ) → VariablesAsked vars ws ns r → r ≡ None → Past6
     unfolding place_of
     past6 r a e = record { past = p; yes6 = sym (a.same gs (inside (passed4 p.past))) ∙ ap place_of e }
 
@@ -114,27 +112,27 @@ module _ (vars : ℕ) (ws ls os ns ts : List ℕ) where
     labelled : ls ≡ labels gs
     labelled = (stands (passed4 p.past.past)).same_labels
 
-    pub refused7 : (r : Found) (i : ℕ) → LabelsAsked ls r → r ≡ At i → verdict_answer (Refused (Label i)) ≡ form_answer
+    pub refused7 : (r : Place ℕ) (i : ℕ) → LabelsAsked ls r → r ≡ Some i → verdict_answer (Err (Label i)) ≡ form_answer
     unfolding verdict_answer refusal_of form_questions first_no question4 question5 question6 question7 ask ask_each place_of
     refused7 r i a e =
         let n : first_failed (new_labels [] (labels gs)) ≡ some i = sym (ap (λ l. first_failed (new_labels [] l)) labelled) ∙ sym a.same ∙ ap place_of e in
         rw (p.past.past.yes4, p.past.yes5, p.yes6, n)
 
-    pub past7 : (r : Found) → LabelsAsked ls r → r ≡ Nothing → Past7
+    pub past7 : (r : Place ℕ) → LabelsAsked ls r → r ≡ None → Past7
     unfolding place_of
     past7 r a e = record { past = p; yes7 = sym (ap (λ l. first_failed (new_labels [] l)) labelled) ∙ sym a.same ∙ ap place_of e }
 
   module _ (p : Past7) where
-    leads : (r : Found) → JumpsAsked ls ws ns r → place_of r ≡ first_failed (map (rung_leads (labels gs)) gs)
+    leads : (r : Place ℕ) → JumpsAsked ls ws ns r → place_of r ≡ first_failed (map (rung_leads (labels gs)) gs)
     leads r a = a.same gs (inside (passed4 p.past.past.past)) ∙ ap (λ l. first_failed (map (rung_leads l) gs)) (labelled p.past)
 
-    pub refused8 : (r : Found) (i : ℕ) → JumpsAsked ls ws ns r → r ≡ At i → verdict_answer (Refused (Jump i)) ≡ form_answer
+    pub refused8 : (r : Place ℕ) (i : ℕ) → JumpsAsked ls ws ns r → r ≡ Some i → verdict_answer (Err (Jump i)) ≡ form_answer
     unfolding verdict_answer refusal_of form_questions first_no question4 question5 question6 question7 question8 ask ask_each place_of
     refused8 r i a e =
         let n : first_failed (map (rung_leads (labels gs)) gs) ≡ some i = sym (leads r a) ∙ ap place_of e in
         rw (p.past.past.past.yes4, p.past.past.yes5, p.past.yes6, p.yes7, n)
 
-    pub accepted8 : (r : Found) → JumpsAsked ls ws ns r → r ≡ Nothing → verdict_answer Accepted ≡ form_answer
+    pub accepted8 : (r : Place ℕ) → JumpsAsked ls ws ns r → r ≡ None → verdict_answer (Ok tt) ≡ form_answer
     unfolding verdict_answer form_questions first_no question4 question5 question6 question7 question8 ask ask_each place_of
     accepted8 r a e =
         let n : first_failed (map (rung_leads (labels gs)) gs) ≡ none = sym (leads r a) ∙ ap place_of e in
@@ -157,21 +155,21 @@ module _ (vars : ℕ) (ws ls os ns ts : List ℕ) where
   unfolding ladder_answer ladder_questions
   answer_first = under (question1 vars) _ _ (first_append (form_questions vars kept) (question9 gs ∷ []))
 
-  pub refused1 : vars_in_range vars ≡ false → verdict_answer (Refused Variables) ≡ ladder_answer vars kept
+  pub refused1 : vars_in_range vars ≡ false → verdict_answer (Err Variables) ≡ ladder_answer vars kept
   unfolding verdict_answer refusal_of first_no question1 ask
   refused1 e = rw (answer_first, e)
 
   module _ (yes1 : vars_in_range vars ≡ true) where
-    pub refused_form : (refusal : RefusalCase) → form_answer ≡ some (refusal_of refusal) → verdict_answer (Refused refusal) ≡ ladder_answer vars kept
+    pub refused_form : (refusal : RefusalCase) → form_answer ≡ some (refusal_of refusal) → verdict_answer (Err refusal) ≡ ladder_answer vars kept
     unfolding verdict_answer first_no question1 ask
     refused_form refusal e = rw (answer_first, yes1, e)
 
     module _ (formed : form_answer ≡ none) (r : Bool) (a : ScratchAsked ws os ns r) where
-      pub refused9 : r ≡ false → verdict_answer (Refused Scratch) ≡ ladder_answer vars kept
+      pub refused9 : r ≡ false → verdict_answer (Err Scratch) ≡ ladder_answer vars kept
       unfolding verdict_answer refusal_of first_no question1 question9 ask
       refused9 e = let n : scratch_in_range gs ≡ false = sym (scratch_asked formed a) ∙ e in rw (answer_first, yes1, formed, n)
 
-      pub accepted9 : r ≡ true → verdict_answer Accepted ≡ ladder_answer vars kept
+      pub accepted9 : r ≡ true → verdict_answer (Ok tt) ≡ ladder_answer vars kept
       unfolding verdict_answer first_no question1 question9 ask
       accepted9 e = let n : scratch_in_range gs ≡ true = sym (scratch_asked formed a) ∙ e in rw (answer_first, yes1, formed, n)
 
@@ -218,15 +216,15 @@ module _ (vars : ℕ) (ws ls os ns ts : List ℕ) where
       pub past : Asked9
       pub yes11 : table_in_range vars t ≡ true
 
-    pub scan_refused1 : vars_in_range vars ≡ false → verdict_answer (Refused Variables) ≡ scan_answer
+    pub scan_refused1 : vars_in_range vars ≡ false → verdict_answer (Err Variables) ≡ scan_answer
     unfolding verdict_answer refusal_of first_no question1 ask
     scan_refused1 e = rw (scan_first, e)
 
-    pub scan_refused16 : Asked1 → timers_in_range vars (number_timers ms) ≡ false → verdict_answer (Refused Timers) ≡ scan_answer
+    pub scan_refused16 : Asked1 → timers_in_range vars (number_timers ms) ≡ false → verdict_answer (Err Timers) ≡ scan_answer
     unfolding verdict_answer refusal_of first_no question1 question16 ask
     scan_refused16 p e = rw (scan_first, p.yes1, e)
 
-    pub scan_refused8 : Asked16 → (refusal : RefusalCase) → form_answer ≡ some (refusal_of refusal) → verdict_answer (Refused refusal) ≡ scan_answer
+    pub scan_refused8 : Asked16 → (refusal : RefusalCase) → form_answer ≡ some (refusal_of refusal) → verdict_answer (Err refusal) ≡ scan_answer
     unfolding verdict_answer first_no question1 question16 ask
     scan_refused8 p refusal e = rw (scan_first, p.past.yes1, p.yes16, e)
 
@@ -234,7 +232,7 @@ module _ (vars : ℕ) (ws ls os ns ts : List ℕ) where
       known : r ≡ timers_known (length (number_timers ms)) gs
       known = timers_asked p.formed a ∙ ap (λ n. timers_known n gs) (record_count vars ms p.past.yes16)
 
-      pub scan_refused17 : r ≡ false → verdict_answer (Refused TimerNumber) ≡ scan_answer
+      pub scan_refused17 : r ≡ false → verdict_answer (Err TimerNumber) ≡ scan_answer
       unfolding verdict_answer refusal_of first_no question1 question16 question17 ask
       scan_refused17 e = let n : timers_known (length (number_timers ms)) gs ≡ false = sym known ∙ e in rw (scan_first, p.past.past.yes1, p.past.yes16, p.formed, n)
 
@@ -242,7 +240,7 @@ module _ (vars : ℕ) (ws ls os ns ts : List ℕ) where
       asked17 e = record { past = p; yes17 = sym known ∙ e }
 
     module _ (p : Asked17) (r : Bool) (a : ScratchAsked ws os ns r) where
-      pub scan_refused9 : r ≡ false → verdict_answer (Refused Scratch) ≡ scan_answer
+      pub scan_refused9 : r ≡ false → verdict_answer (Err Scratch) ≡ scan_answer
       unfolding verdict_answer refusal_of first_no question1 question16 question17 question9 ask
       scan_refused9 e =
           let n : scratch_in_range gs ≡ false = sym (scratch_asked p.past.formed a) ∙ e in
@@ -251,15 +249,15 @@ module _ (vars : ℕ) (ws ls os ns ts : List ℕ) where
       pub asked9 : r ≡ true → Asked9
       asked9 e = record { past = p; yes9 = sym (scratch_asked p.past.formed a) ∙ e }
 
-    pub scan_refused11 : Asked9 → table_in_range vars t ≡ false → verdict_answer (Refused Table) ≡ scan_answer
+    pub scan_refused11 : Asked9 → table_in_range vars t ≡ false → verdict_answer (Err Table) ≡ scan_answer
     unfolding verdict_answer refusal_of first_no question1 question16 question17 question9 question11 ask
     scan_refused11 p e = rw (scan_first, p.past.past.past.past.yes1, p.past.past.past.yes16, p.past.past.formed, p.past.yes17, p.yes9, e)
 
     module _ (p : Asked11) where
-      pub scan_refused12 : leb w most_rung_watchdog ≡ false → verdict_answer (Refused Watchdog) ≡ scan_answer
+      pub scan_refused12 : leb w most_rung_watchdog ≡ false → verdict_answer (Err Watchdog) ≡ scan_answer
       unfolding verdict_answer refusal_of first_no question1 question16 question17 question9 question11 question12 ask
       scan_refused12 e = rw (scan_first, p.past.past.past.past.past.yes1, p.past.past.past.past.yes16, p.past.past.past.formed, p.past.past.yes17, p.past.yes9, p.yes11, e)
 
-      pub scan_accepted12 : leb w most_rung_watchdog ≡ true → verdict_answer Accepted ≡ scan_answer
+      pub scan_accepted12 : leb w most_rung_watchdog ≡ true → verdict_answer (Ok tt) ≡ scan_answer
       unfolding verdict_answer first_no question1 question16 question17 question9 question11 question12 ask
       scan_accepted12 e = rw (scan_first, p.past.past.past.past.past.yes1, p.past.past.past.past.yes16, p.past.past.past.formed, p.past.past.yes17, p.past.yes9, p.yes11, e)

@@ -27,11 +27,10 @@ use Rattle.ladder_definitions.specs.Tree.{contact, contactn, Front, input, front
 use Rattle.ladder_definitions.specs.Meaning.{work_input, work_front, Run, onward, jumped, left, jump_if, unless_jumped, run_output, run_rear, run_rung, follow, scan_from, scan_ladder}
 use Rattle.ladder_definitions.specs.Kept.{Kept, kept_of}
 use Rattle.ladder_definitions.specs.Questions.{ladder_of}
-use Rattle.ladder_definitions.specs.LadderScan.{LadderScanCall, scan_ends, scan_questions, call_ladder_scan, LadderScanDone, LadderScanNumbers, LadderScanColumns}
+use Rattle.ladder_definitions.specs.LadderScan.{LadderScanCall, LadderScanned, scan_ends, scan_questions, call_ladder_scan, LadderScanDone, LadderScanNumbers, LadderScanColumns}
 use Rattle.ladder_definitions.proofs.Laws.Held.{three_fields, even}
 use Rattle.ladder_definitions.proofs.Laws.Accepting.{scan_passed}
-use Rattle.ladder_definitions.specs.declared.LadderScanned.{LadderScanned}
-use Rattle.ladder_definitions.specs.declared.LadderScanned.TheVariants.{Refused as RefusedCase}
+use Rattle.std.specs.Prelude.{Err}
 use Rattle.ladder_scanning.specs.Scanned.{Scanned}
 use Rattle.ladder_scanning.proofs.Laws.Scans.{scan_taken, scan_refuses, scan_scans}
 
@@ -134,7 +133,7 @@ module _ (vars : ℕ) (k : Kept) (t ns : List ℕ) (now w : ℕ) where
   abbrev call : LadderScanCall
   call = call_ladder_scan vars k t (number_timers ns) now w
 
-  pub numbers_refused : (x : RefusalCase) → scan_questions vars k t (number_timers ns) w ≡ some (refusal_of x) → ScansNumbers vars k t ns now w (RefusedCase x) t ns
+  pub numbers_refused : (x : RefusalCase) → scan_questions vars k t (number_timers ns) w ≡ some (refusal_of x) → ScansNumbers vars k t ns now w (Err x) t ns
   numbers_refused x e =
       let d = scan_refuses vars k t (number_timers ns) w now x e in
       record { done = d; numbers = same_numbers ns ∙ ap (numbers_after ns) d.same_timers }
@@ -195,18 +194,18 @@ module _ (vars : ℕ) (k : Kept) (t : List ℕ) (c : Columns) (now w : ℕ) wher
   abbrev called : LadderScanCall
   called = call_ladder_scan vars k t (column_timers c) now w
 
-  columns_refused : (x : RefusalCase) → scan_questions vars k t (column_timers c) w ≡ some (refusal_of x) → ScansColumns vars k t c now w (RefusedCase x) t c
+  columns_refused : (x : RefusalCase) → scan_questions vars k t (column_timers c) w ≡ some (refusal_of x) → ScansColumns vars k t c now w (Err x) t c
   columns_refused x e =
       let d = scan_refuses vars k t (column_timers c) w now x e in
       record { done = d; slices = same_columns c ∙ ap (columns_after c) d.same_timers }
 
   -- slices that cannot be packed
   module _ (e : can_pack (length c.preset) (length c.start) (length c.variable) (length c.running) (length c.done) ≡ false) where
-    pub columns_refused1 : vars_in_range vars ≡ false → ScansColumns vars k t c now w (RefusedCase Variables) t c
+    pub columns_refused1 : vars_in_range vars ≡ false → ScansColumns vars k t c now w (Err Variables) t c
     unfolding scan_questions first_no question1 ask refusal_of
     columns_refused1 n = columns_refused Variables (rw n refl)
 
-    pub columns_refused16 : vars_in_range vars ≡ true → ScansColumns vars k t c now w (RefusedCase Timers) t c
+    pub columns_refused16 : vars_in_range vars ≡ true → ScansColumns vars k t c now w (Err Timers) t c
     unfolding scan_questions first_no question1 question16 ask refusal_of
     columns_refused16 y = columns_refused Timers (rw (y, cannot_pack c e vars) refl)
 

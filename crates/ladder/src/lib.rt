@@ -5,194 +5,145 @@
 ghost use Rattle.std.specs.Prelude.{◌≡◌};
 ghost use Rattle.questions.specs.Questions.{first_no};
 ghost use Rattle.questions.specs.Refusals.{verdict_answer};
-ghost use Rattle.table.specs.TimerRecords.{columns, column_timers, number_timers};
-ghost use Rattle.ladder_definitions.specs.Kept.{kept_of};
+ghost use Rattle.table.specs.TimerRecords.{column_timers, number_timers};
+ghost use Rattle.timers.specs.Parts.{columns_in, SameSlices};
+ghost use Rattle.ladder_definitions.specs.Kept.{kept_in};
 ghost use Rattle.ladder_definitions.specs.Questions.{form_questions, ladder_answer};
 ghost use Rattle.ladder_definitions.specs.LadderScan.{scan_questions, call_ladder_scan, LadderScanNumbers, LadderScanColumns};
 
-pub use ladder_definitions::{Counts, LadderScanned};
-use ladder_names::Found;
-use questions::{MOST_RUNG_WATCHDOG, Refusal, Verdict};
+pub use ladder_definitions::Counts;
+use questions::{MOST_RUNG_WATCHDOG, Refusal};
+use rungs::Slices;
+use table::Halt;
+use timers::Columns;
 
 // Questions 4 to 8, in order.
-fn form_answer(
-    vars: u32,
-    words: &[u32],
-    labels: &[u16],
-    offsets: &[u32],
-    lengths: &[u32],
-    times: &[u32],
-) -> Verdict
+fn form_answer(vars: u32, ladder: Slices, times: &[u32]) -> Result<(), Refusal>
     ensures { verdict_answer result ≡ first_no (form_questions vars
-        (kept_of words.now labels.now offsets.now lengths.now times.now)) }
+        (kept_in ladder.entry times.now)) }
 {
-    if !ladder_kept::holds_ladder(words, labels, offsets, lengths, times) {
-        return Verdict::Refused(Refusal::Kept);
+    if !ladder_kept::holds_ladder(ladder, times) {
+        return Err(Refusal::Kept);
     }
-    if !ladder_names::sizes_in_range(words, lengths) {
-        return Verdict::Refused(Refusal::Sizes);
+    if !ladder_names::sizes_in_range(ladder.words, ladder.lengths) {
+        return Err(Refusal::Sizes);
     }
-    if let Found::At(rung) = ladder_names::unknown_variable(vars, words, lengths) {
-        return Verdict::Refused(Refusal::Variable { rung });
+    if let Some(rung) = ladder_names::unknown_variable(vars, ladder.words, ladder.lengths) {
+        return Err(Refusal::Variable { rung });
     }
-    if let Found::At(rung) = ladder_names::repeated_label(labels) {
-        return Verdict::Refused(Refusal::Label { rung });
+    if let Some(rung) = ladder_names::repeated_label(ladder.labels) {
+        return Err(Refusal::Label { rung });
     }
-    if let Found::At(rung) = ladder_names::missing_label(labels, words, lengths) {
-        return Verdict::Refused(Refusal::Jump { rung });
+    if let Some(rung) = ladder_names::missing_label(ladder.labels, ladder.words, ladder.lengths) {
+        return Err(Refusal::Jump { rung });
     }
-    Verdict::Accepted
+    Ok(())
 }
 
 // Questions 1 and 4 to 9, in order.
-pub fn ladder_answer(
-    vars: u32,
-    words: &[u32],
-    labels: &[u16],
-    offsets: &[u32],
-    lengths: &[u32],
-    times: &[u32],
-) -> Verdict
+pub fn ladder_answer(vars: u32, ladder: Slices, times: &[u32]) -> Result<(), Refusal>
     ensures { verdict_answer result ≡ ladder_answer vars
-        (kept_of words.now labels.now offsets.now lengths.now times.now) }
+        (kept_in ladder.entry times.now) }
 {
     if !questions::vars_in_range(vars) {
-        return Verdict::Refused(Refusal::Variables);
+        return Err(Refusal::Variables);
     }
-    match form_answer(vars, words, labels, offsets, lengths, times) {
-        Verdict::Refused(refusal) => {
-            return Verdict::Refused(refusal);
-        }
-        Verdict::Accepted => {}
+    form_answer(vars, ladder, times)?;
+    if !ladder_scratch::scratch_in_range(ladder.words, ladder.offsets, ladder.lengths) {
+        return Err(Refusal::Scratch);
     }
-    if !ladder_scratch::scratch_in_range(words, offsets, lengths) {
-        return Verdict::Refused(Refusal::Scratch);
-    }
-    Verdict::Accepted
+    Ok(())
 }
 
 // Ladder scan's questions: 1, 16, 4 to 8, 17, 9, 11 and 12, in order. Timer records are in one slice of numbers, five a record.
 pub fn scan_questions(
     vars: u32,
-    words: &[u32],
-    labels: &[u16],
-    offsets: &[u32],
-    lengths: &[u32],
+    ladder: Slices,
     times: &[u32],
     table: &[u8],
     timers: &[u32],
     watchdog: u32,
-) -> Verdict
+) -> Result<(), Refusal>
     ensures { verdict_answer result ≡ scan_questions vars
-        (kept_of words.now labels.now offsets.now lengths.now times.now)
+        (kept_in ladder.entry times.now)
         table.now (number_timers timers.now) watchdog }
 {
     if !questions::vars_in_range(vars) {
-        return Verdict::Refused(Refusal::Variables);
+        return Err(Refusal::Variables);
     }
     if !timers::timers_in_range(vars, timers) {
-        return Verdict::Refused(Refusal::Timers);
+        return Err(Refusal::Timers);
     }
-    match form_answer(vars, words, labels, offsets, lengths, times) {
-        Verdict::Refused(refusal) => {
-            return Verdict::Refused(refusal);
-        }
-        Verdict::Accepted => {}
+    form_answer(vars, ladder, times)?;
+    if !ladder_names::timers_known(ladder.words, timers.len() / timers::NUMBERS) {
+        return Err(Refusal::TimerNumber);
     }
-    if !ladder_names::timers_known(words, timers.len() / timers::NUMBERS) {
-        return Verdict::Refused(Refusal::TimerNumber);
-    }
-    if !ladder_scratch::scratch_in_range(words, offsets, lengths) {
-        return Verdict::Refused(Refusal::Scratch);
+    if !ladder_scratch::scratch_in_range(ladder.words, ladder.offsets, ladder.lengths) {
+        return Err(Refusal::Scratch);
     }
     if !table::table_in_range(vars, table) {
-        return Verdict::Refused(Refusal::Table);
+        return Err(Refusal::Table);
     }
     if !questions::watchdog_in_range(MOST_RUNG_WATCHDOG, watchdog) {
-        return Verdict::Refused(Refusal::Watchdog);
+        return Err(Refusal::Watchdog);
     }
-    Verdict::Accepted
+    Ok(())
 }
 
 // Ladder scan with the timer records in one slice of numbers, five a record.
 pub fn ladder_scan_packed(
     vars: u32,
-    words: &[u32],
-    labels: &[u16],
-    offsets: &[u32],
-    lengths: &[u32],
+    ladder: Slices,
     times: &[u32],
     table: &mut [u8],
     timers: &mut [u32],
     tick: u32,
     watchdog: u32,
-) -> LadderScanned
+) -> Result<Halt<Counts>, Refusal>
     ensures { LadderScanNumbers (call_ladder_scan vars
-        (kept_of words.now labels.now offsets.now lengths.now times.now)
+        (kept_in ladder.entry times.now)
         table.old (number_timers timers.old) tick watchdog)
         result table.new timers.old timers.new }
 {
-    match scan_questions(
-        vars, words, labels, offsets, lengths, times, table, timers, watchdog,
-    ) {
-        Verdict::Refused(refusal) => LadderScanned::Refused(refusal),
-        Verdict::Accepted => ladder_scanning::run(
-            vars, words, labels, offsets, table, timers, tick, watchdog,
-        ),
-    }
+    scan_questions(vars, ladder, times, table, timers, watchdog)?;
+    Ok(ladder_scanning::run(vars, ladder, table, timers, tick, watchdog))
 }
 
 // Ladder scan. Timer records are in five slices; those of unequal lengths, or of more than 32 records, get 16.
 pub fn ladder_scan(
     vars: u32,
-    words: &[u32],
-    labels: &[u16],
-    offsets: &[u32],
-    lengths: &[u32],
+    ladder: Slices,
     times: &[u32],
     table: &mut [u8],
     watchdog: u32,
-    preset: &[u32],
-    start: &mut [u32],
-    variable: &[u16],
-    running: &mut [u8],
-    done: &mut [u8],
+    columns: &mut Columns,
     tick: u32,
-) -> LadderScanned
-    ensures { LadderScanColumns (call_ladder_scan vars
-        (kept_of words.now labels.now offsets.now lengths.now times.now)
-        table.old (column_timers
-        (columns preset.now start.old variable.now running.old done.old))
-        tick watchdog) result table.new
-        (columns preset.now start.old variable.now running.old done.old)
-        (columns preset.now start.new variable.now running.new done.new) }
+) -> Result<Halt<Counts>, Refusal>
+    ensures scanned { LadderScanColumns (call_ladder_scan vars
+        (kept_in ladder.entry times.now)
+        table.old (column_timers (columns_in columns.old)) tick watchdog)
+        result table.new (columns_in columns.old) (columns_in columns.new) }
+    ensures same { SameSlices columns.old columns.new }
 {
-    if !timers::can_pack(
-        preset.len(),
-        start.len(),
-        variable.len(),
-        running.len(),
-        done.len(),
-    ) {
-        if !questions::vars_in_range(vars) {
-            return LadderScanned::Refused(Refusal::Variables);
-        }
-        return LadderScanned::Refused(Refusal::Timers);
+    if !columns.can_pack() {
+        let refusal = if questions::vars_in_range(vars) {
+            Refusal::Timers
+        } else {
+            Refusal::Variables
+        };
+        return Err(refusal);
     }
     let mut numbers = [0u32; timers::MOST_NUMBERS];
-    let n = timers::pack(preset, start, variable, running, done, &mut numbers);
+    let n = columns.pack(&mut numbers);
     let scanned = ladder_scan_packed(
         vars,
-        words,
-        labels,
-        offsets,
-        lengths,
+        ladder,
         times,
         table,
         &mut numbers[..n],
         tick,
         watchdog,
     );
-    timers::unpack(&numbers[..n], start, running, done);
+    columns.unpack(&numbers[..n]);
     scanned
 }

@@ -117,7 +117,7 @@ answers_worked : answers ≡
     ∷ []
 unfolding answers refused nested joined contacts labelled form_questions ladder_questions ladder_answer ladder_of
     encode lay rung_words front_words rear_words input_word input_kind input_variable output_word output_kind output_names number flat_map
-    decode decode_from decode_rung decode_words one_rung kinds put_input put_front put_output put_rear_and put_rear_or ask ask_each first_no first_failed all
+    decode decode_from decode_rung decode_words one_rung kinds put_input put_front put_output put_rear_and put_rear_or ask ask_each first_no first_failed
     vars_in_range question1 holds_ladder question4 sizes_in_range question5 question6 question7 question8 scratch_in_range question9 new_labels present search
     front_all rear_all rung_all input_below named_below output_below named_leads output_leads join_scratch front_scratch rear_scratch rung_scratch named_timed output_timed timers_known question17
 answers_worked = refl
@@ -127,7 +127,7 @@ J_worked : map {B = ℕ × Answer} (λ n. let kept = encode (contacts n ∷ []) 
     ≡ (128, yes) ∷ (130, refused 5 0) ∷ []
 unfolding refused joined contacts form_questions ladder_questions ladder_answer ladder_of
     encode lay rung_words front_words rear_words input_word input_kind input_variable output_word output_kind output_names number flat_map
-    decode decode_from decode_rung decode_words one_rung kinds put_input put_front put_output ask ask_each first_no first_failed all
+    decode decode_from decode_rung decode_words one_rung kinds put_input put_front put_output ask ask_each first_no first_failed
     vars_in_range question1 holds_ladder question4 sizes_in_range question5 question6 question7 question8 scratch_in_range question9 new_labels present search
     front_all rear_all rung_all input_below named_below output_below named_leads output_leads join_scratch front_scratch rear_scratch rung_scratch
 J_worked = refl

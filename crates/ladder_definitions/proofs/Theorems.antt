@@ -15,9 +15,8 @@ use Rattle.table.proofs.Laws.Legal.{legal_table}
 use Rattle.table.proofs.Laws.Replaying.{untimed, makes_bytes}
 use Rattle.table.proofs.Laws.Timers.{timers_below, same_question16}
 use Rattle.table.proofs.Laws.Changes.{makes_moved}
-use Rattle.rungs.specs.Records.{look_up}
+use Rattle.rungs.specs.Records.{found, look_up}
 use Rattle.rungs.proofs.Theorems.{same_place}
-use Rattle.rungs.specs.declared.Search.TheVariants.{Found}
 use Rattle.ladder_definitions.specs.Tree.{Input, contact, contactn, Output, coil, coiln, jump, jumpn, set_coil, reset_coil, timer, Rung, Ladder, labels, rung_all, output_names}
 use Rattle.ladder_definitions.specs.Meaning.{jumped, from, follow, LadderResult, scan_ladder}
 use Rattle.ladder_definitions.specs.Writes.{ladder_writes, most_rung_writes}
@@ -74,7 +73,7 @@ accepted_exactly vars k = (
 )
 
 -- A taken jump goes to the rung at the place that the search for its label finds. Document 02, Req 03.
-pub jump_to_found : (gs rest : Ladder) (l : ℕ) (s : State) (place looked : ℕ) → look_up l (labels gs) ≡ Found place looked → follow gs rest (jumped l s) ≡ drop place gs
+pub jump_to_found : (gs rest : Ladder) (l : ℕ) (s : State) (place looked : ℕ) → look_up l (labels gs) ≡ found place looked → follow gs rest (jumped l s) ≡ drop place gs
 unfolding follow from
 jump_to_found gs rest l s place looked e = ap (λ i. drop i gs) (same_place l (labels gs) place looked e)
 

@@ -5,6 +5,7 @@ use Rattle.std.proofs.Math.Option.{Option, none, some}
 use mathlib.Core.List.{List, [], ◌∷◌, ◌++◌, flat_map}
 use Rattle.rungs.specs.Words.{word, number_of, operand_of, is_operand}
 use Rattle.rungs.specs.Records.{RungRecord, lay, row_of}
+use Rattle.rungs.specs.declared.Slices.{Slices}
 use Rattle.ladder_definitions.specs.Tree.{Input, contact, contactn, Front, input, front_and, front_or, Output, coil, coiln, jump, jumpn, set_coil, reset_coil, timer, Rear, output, rear_and, rear_or, Rung, Ladder, Named, a_variable, a_label, a_timer, input_variable, output_names, number}
 
 pub record Kept : Type 0 where
@@ -14,6 +15,10 @@ pub record Kept : Type 0 where
 -- the kept ladder in words and four number slices; of the times any value is taken
 abbrev pub kept_of : List ℕ → List ℕ → List ℕ → List ℕ → List ℕ → Kept
 kept_of words labels offsets lengths times = record { words = words; records = row_of labels offsets lengths times }
+
+-- the same, lent as one struct of slices
+abbrev pub kept_in : Slices → List ℕ → Kept
+kept_in s times = kept_of s.words.now s.labels.now s.offsets.now s.lengths.now times
 
 -- "Kinds: 1 contact, 2 negated contact, 3 front-and, 4 front-or, 5 coil, 6 negated coil, 7 jump, 8 negated jump, 9 rear-and, 10 rear-or.
 -- Operand: a variable for 1, 2, 5, 6; a label for 7, 8; 0 otherwise." 02, Req 01: "outputs s and r, kinds 11 and 12"; their operand is a variable.

@@ -1,20 +1,21 @@
 -- The call Ladder scan: its answer, the table and the timer records afterwards, for all inputs. Document 01, "What a ladder does", "Questions before work"; 02,
 -- Req 06. Assumes nothing.
-use Rattle.std.specs.Prelude.{ℕ, ◌≡◌, List, [], ◌∷◌, ◌++◌, length}
+use Rattle.std.specs.Prelude.{ℕ, ◌≡◌, List, [], ◌∷◌, ◌++◌, length, Result, Ok, Err}
 use Rattle.std.proofs.Math.Option.{none, some}
 use Rattle.questions.specs.Questions.{Refusal, Answer, first_no, question1, question12, most_rung_watchdog}
 use Rattle.questions.specs.Refusals.{refusal_of}
+use Rattle.questions.specs.declared.Refusal.{Refusal as RefusalCase}
 use Rattle.table.specs.Timer.{Timer}
 use Rattle.table.specs.State.{state_of}
 use Rattle.table.specs.TimerRecords.{Columns, column_timers, columns_after, number_timers, numbers_after}
 use Rattle.table.specs.Halt.{Halt, Ended, Stopped}
+use Rattle.table.specs.declared.Halt.{Halt as HaltCase}
+use Rattle.table.specs.declared.Halt.TheVariants.{Ended as EndedCase, Stopped as StoppedCase}
 use Rattle.table.specs.Questions.{question11, question16}
 use Rattle.ladder_definitions.specs.Meaning.{LadderResult, scan_ladder}
 use Rattle.ladder_definitions.specs.Kept.{Kept}
 use Rattle.ladder_definitions.specs.Questions.{ladder_of, question9, question17, form_questions}
 use Rattle.ladder_definitions.specs.declared.Counts.{Counts as CountsStruct}
-use Rattle.ladder_definitions.specs.declared.LadderScanned.{LadderScanned}
-use Rattle.ladder_definitions.specs.declared.LadderScanned.TheVariants.{Ended as EndedCase, Stopped as StoppedCase, Refused as RefusedCase}
 
 -- the counts that Ladder scan answers: the rungs entered, and how many times a variable was turned over (02, Req 02: "both scans add these up in their answers,
 -- Stopped ones included")
@@ -63,11 +64,15 @@ call_ladder_scan vars k table timers now watchdog = elim (scan_questions vars k 
 abbrev pub counts_in : CountsStruct → LadderCounts
 counts_in c = record { rungs = c.rungs; moved = c.moved }
 
--- document 01's values for each case of the enum LadderScanned
+-- what ladder_scan answers
+abbrev pub LadderScanned : Type 0
+LadderScanned = Result (HaltCase CountsStruct) RefusalCase
+
+-- document 01's values for each case of it
 unfoldable pub ladder_scanned_answer : LadderScanned → LadderScanAnswer
-ladder_scanned_answer (EndedCase c) = scanned Ended (counts_in c)
-ladder_scanned_answer (StoppedCase c) = scanned Stopped (counts_in c)
-ladder_scanned_answer (RefusedCase refusal) = refused (refusal_of refusal)
+ladder_scanned_answer (Ok (EndedCase c)) = scanned Ended (counts_in c)
+ladder_scanned_answer (Ok (StoppedCase c)) = scanned Stopped (counts_in c)
+ladder_scanned_answer (Err refusal) = refused (refusal_of refusal)
 
 -- the promise of ladder_scan: answer, table and timer records are those of the definition
 pub record LadderScanDone (call : LadderScanCall) (r : LadderScanned) (table : List ℕ) (timers : List Timer) : Type 0 where

@@ -1,19 +1,10 @@
-// What Ladder scan answers. The definitions of ladders stand in specs/; nothing here has a body.
+// The counts of Ladder scan, which answers Result<table::Halt<Counts>, questions::Refusal>. The definitions of ladders stand in specs/; nothing here
+// has a body.
 #![tactic(auto)]
 
-use questions::Refusal;
-
 // The rungs entered, and how many times a variable was turned over.
-#[derive(Clone, Copy)]
+#[derive(Clone, Copy, PartialEq, Eq)]
 pub struct Counts {
     pub rungs: u32,
     pub moved: u32,
-}
-
-// The answer of Ladder scan.
-#[derive(Clone, Copy)]
-pub enum LadderScanned {
-    Ended(Counts),
-    Stopped(Counts),
-    Refused(Refusal),
 }

@@ -3,11 +3,14 @@ use Prim.Native.Nat.{ℕ, zero, suc, ◌+◌, ◌-◌, ◌≤◌, ◌<◌}
 use native.Mathlib.Numerals.{add-one}
 use native.Mathlib.Omega.{arith}
 use mathlib.Core.Path.{◌≡◌, refl, sym, ap, ◌∙◌}
-use mathlib.Core.Bool.{Bool, true, false, true≢false, ◌&&◌}
+use mathlib.Core.Bool.{Bool, true, false, true≢false, ◌&&◌, and-false}
+use mathlib.Core.Logic.{◌⊎◌, inl, inr}
 use mathlib.Core.List.{List, [], ◌∷◌}
 use lib.Dec.{eqb, leb}
-use lib.ListN.{length, drop, get_or}
-use lib.Seq.{slice, slice_empty, slice-cons}
+use Rattle.std.proofs.Math.Decide.{ℕ_discrete}
+use Rattle.std.specs.Bool.{then_some}
+use lib.ListN.{length, take, drop, get_or, drop_of_length-le, length-drop}
+use lib.Seq.{drop-cons}
 use borrow.Author.Tests.{eq-eqb, ne_eqb, le-leb, lt-leb}
 use Rattle.rungs.specs.Words.{number_of, operand_of}
 use Rattle.rungs.specs.Records.{RungRecord, fields_of, row_of}
@@ -16,40 +19,40 @@ use Rattle.ladder_definitions.specs.Kept.{KindSort, contact_sort, joined_sort, o
 use Rattle.ladder_definitions.specs.Questions.{ladder_of, holds_ladder}
 use Rattle.ladder_kept.specs.Pending.{misplaced, pending, take_front, split_front, take_rear, front_rear, split_rear, pending_after, completes, pending_in, WordTaken, holds_from}
 use Rattle.ladder_definitions.proofs.Laws.Trees.{starts_front, starts_rear}
-use Rattle.ladder_kept.proofs.Laws.Pending.{holds_counted, holds_next, holds_last}
-use Rattle.ladder_kept.specs.declared.PendingParts.{PendingParts}
+use Rattle.ladder_kept.proofs.Laws.Pending.{holds_counted}
+use Rattle.std.specs.Prelude.{Option, Some, None}
+use Rattle.ladder_kept.specs.declared.Pending.{Pending as PendingParts}
 
 -- ---- a word, by the sort of its kind
 
-abbrev out_of_place : PendingParts
-out_of_place = record { fronts = 0; rears = 0; misplaced = true }
-
-abbrev still : ℕ → ℕ → PendingParts
-still f r = record { fronts = f; rears = r; misplaced = false }
+abbrev still : ℕ → ℕ → Option PendingParts
+still f r = Some (record { fronts = f; rears = r })
 
 module _ (k o f r : ℕ) where
-  taken_misplaced : pending_after (kind_sort k) o f r ≡ misplaced → WordTaken k o f r out_of_place
+  taken_misplaced : pending_after (kind_sort k) o f r ≡ misplaced → WordTaken k o f r None
   unfolding pending_in
-  taken_misplaced e = record { same = sym e; fronts = omega arith; rears = omega arith }
+  taken_misplaced e = record { same = sym e; few = tt }
 
   pub front_taken : kind_sort k ≡ contact_sort → 0 < f → WordTaken k o f r (still (f - 1) r)
   unfolding pending_in pending_after take_front
-  front_taken e h = let n : f ≡ suc (f - 1) = omega arith in record { same = rw e (sym (ap (λ n. take_front n r) n)); fronts = omega arith; rears = omega arith }
+  front_taken e h = let n : f ≡ suc (f - 1) = omega arith in record { same = rw e (sym (ap (λ n. take_front n r) n)); few = (omega arith, omega arith) }
 
-  -- a root whose operand is not 0
-  pub front_operand : kind_sort k ≡ joined_sort → (o ≡ 0 → ⊥) → WordTaken k o f r out_of_place
-  unfolding pending_after split_front
-  front_operand e n = let p : o ≡ suc (o - 1) = omega arith in taken_misplaced (rw e (ap (λ o. split_front o f r) p))
-
-  pub front_split : kind_sort k ≡ joined_sort → o ≡ 0 → 0 < f → WordTaken k o f r (still (f + 1) r)
+  -- a root, whose operand is 0
+  pub front_split : kind_sort k ≡ joined_sort → 0 < f → (s : Option PendingParts) → s ≡ then_some (eqb o 0) (record { fronts = f + 1; rears = r }) → WordTaken k o f r s
   unfolding pending_in pending_after split_front
-  front_split e z h =
-      let n : f ≡ suc (f - 1) = omega arith in
-      let m : f + 1 ≡ suc (suc (f - 1)) = omega arith in
-      record { same = rw (e, z, m) (sym (ap (λ n. split_front 0 n r) n)); fronts = omega arith; rears = omega arith }
+  front_split e h s t = go (ℕ_discrete o 0)
+    where
+      go : Dec (o ≡ 0) → WordTaken k o f r s
+      go (yes z) =
+          let n : f ≡ suc (f - 1) = omega arith in
+          let m : f + 1 ≡ suc (suc (f - 1)) = omega arith in
+          rw (t, z) (record { same = rw (e, m) (sym (ap (λ n. split_front 0 n r) n)); few = (omega arith, omega arith) })
+      go (no q) =
+          let p : o ≡ suc (o - 1) = omega arith in
+          rw (t, ne_eqb o 0 q) (taken_misplaced (rw e (ap (λ o. split_front o f r) p)))
 
   -- a word where a front is pending and none begins with it
-  pub front_past : starts_front (kind_sort k) ≡ false → 0 < f → WordTaken k o f r out_of_place
+  pub front_past : starts_front (kind_sort k) ≡ false → 0 < f → WordTaken k o f r None
   unfolding pending_after take_rear front_rear split_rear
   front_past n h = let m : f ≡ suc (f - 1) = omega arith in taken_misplaced (rw m (none (kind_sort k) n o))
     where
@@ -66,31 +69,36 @@ module _ (k o f r : ℕ) where
 module _ (k o r : ℕ) where
   pub rear_taken : kind_sort k ≡ output_sort → 0 < r → WordTaken k o 0 r (still 0 (r - 1))
   unfolding pending_in pending_after take_rear
-  rear_taken e h = let n : r ≡ suc (r - 1) = omega arith in record { same = rw e (sym (ap (λ n. take_rear 0 n) n)); fronts = omega arith; rears = omega arith }
+  rear_taken e h = let n : r ≡ suc (r - 1) = omega arith in record { same = rw e (sym (ap (λ n. take_rear 0 n) n)); few = (omega arith, omega arith) }
 
-  pub rear_and_operand : kind_sort k ≡ rear_and_sort → (o ≡ 0 → ⊥) → WordTaken k o 0 r out_of_place
-  unfolding pending_after front_rear
-  rear_and_operand e n = let p : o ≡ suc (o - 1) = omega arith in taken_misplaced k o 0 r (rw e (ap (λ o. front_rear o 0 r) p))
-
-  pub rear_front : kind_sort k ≡ rear_and_sort → o ≡ 0 → 0 < r → WordTaken k o 0 r (still 1 r)
+  -- the roots, whose operand is 0
+  pub rear_front : kind_sort k ≡ rear_and_sort → 0 < r → (s : Option PendingParts) → s ≡ then_some (eqb o 0) (record { fronts = 1; rears = r }) → WordTaken k o 0 r s
   unfolding pending_in pending_after front_rear
-  rear_front e z h =
-      let n : r ≡ suc (r - 1) = omega arith in
-      record { same = rw (e, z) (sym (ap (λ n. front_rear 0 0 n) n ∙ ap (λ n. pending 1 n) (sym n))); fronts = omega arith; rears = omega arith }
+  rear_front e h s t = go (ℕ_discrete o 0)
+    where
+      go : Dec (o ≡ 0) → WordTaken k o 0 r s
+      go (yes z) =
+          let n : r ≡ suc (r - 1) = omega arith in
+          rw (t, z) (record { same = rw e (sym (ap (λ n. front_rear 0 0 n) n ∙ ap (λ n. pending 1 n) (sym n))); few = (omega arith, omega arith) })
+      go (no q) =
+          let p : o ≡ suc (o - 1) = omega arith in
+          rw (t, ne_eqb o 0 q) (taken_misplaced k o 0 r (rw e (ap (λ o. front_rear o 0 r) p)))
 
-  pub rear_or_operand : kind_sort k ≡ rear_or_sort → (o ≡ 0 → ⊥) → WordTaken k o 0 r out_of_place
-  unfolding pending_after split_rear
-  rear_or_operand e n = let p : o ≡ suc (o - 1) = omega arith in taken_misplaced k o 0 r (rw e (ap (λ o. split_rear o 0 r) p))
-
-  pub rear_split : kind_sort k ≡ rear_or_sort → o ≡ 0 → 0 < r → WordTaken k o 0 r (still 0 (r + 1))
+  pub rear_split : kind_sort k ≡ rear_or_sort → 0 < r → (s : Option PendingParts) → s ≡ then_some (eqb o 0) (record { fronts = 0; rears = r + 1 }) → WordTaken k o 0 r s
   unfolding pending_in pending_after split_rear
-  rear_split e z h =
-      let n : r ≡ suc (r - 1) = omega arith in
-      let m : r + 1 ≡ suc (suc (r - 1)) = omega arith in
-      record { same = rw (e, z, m) (sym (ap (λ n. split_rear 0 0 n) n)); fronts = omega arith; rears = omega arith }
+  rear_split e h s t = go (ℕ_discrete o 0)
+    where
+      go : Dec (o ≡ 0) → WordTaken k o 0 r s
+      go (yes z) =
+          let n : r ≡ suc (r - 1) = omega arith in
+          let m : r + 1 ≡ suc (suc (r - 1)) = omega arith in
+          rw (t, z) (record { same = rw (e, m) (sym (ap (λ n. split_rear 0 0 n) n)); few = (omega arith, omega arith) })
+      go (no q) =
+          let p : o ≡ suc (o - 1) = omega arith in
+          rw (t, ne_eqb o 0 q) (taken_misplaced k o 0 r (rw e (ap (λ o. split_rear o 0 r) p)))
 
   -- a word where a rear is pending and none begins with it
-  pub rear_past : starts_rear (kind_sort k) ≡ false → WordTaken k o 0 r out_of_place
+  pub rear_past : starts_rear (kind_sort k) ≡ false → WordTaken k o 0 r None
   unfolding pending_after take_front split_front
   rear_past n = taken_misplaced k o 0 r (none (kind_sort k) n o)
     where
@@ -116,10 +124,7 @@ nothing_follows rear_or_sort zero = refl
 nothing_follows rear_or_sort (suc o) = refl
 nothing_follows no_sort o = refl
 
-pub no_front_pending : (k o f r : ℕ) (s : PendingParts) → f ≤ 0 → WordTaken k o 0 r s → WordTaken k o f r s
-no_front_pending k o f r s h t = let e : f ≡ 0 = omega arith in rw e t
-
-pub nothing_pending : (k o f r : ℕ) → f ≤ 0 → r ≤ 0 → WordTaken k o f r out_of_place
+pub nothing_pending : (k o f r : ℕ) → f ≤ 0 → r ≤ 0 → WordTaken k o f r None
 nothing_pending k o f r h g =
     let e : f ≡ 0 = omega arith in
     let q : r ≡ 0 = omega arith in
@@ -128,44 +133,33 @@ nothing_pending k o f r h g =
 -- ---- a rung's words, one after the other
 
 -- the loop's invariant: the words from i on are the parts that are still pending just when the rung's are a front and a rear
-pub record Counting (ws : List ℕ) (from to f r i : ℕ) : Type 0 where
-  pub same : completes f r (slice i to ws) ≡ completes 1 1 (slice from to ws)
-  pub within : i ≤ to
+pub record Counting (ws : List ℕ) (f r i : ℕ) : Type 0 where
+  pub same : completes f r (drop i ws) ≡ completes 1 1 ws
   pub fronts : f ≤ i + 1
   pub rears : r ≤ i + 1
 
-module _ (ws : List ℕ) (from to f r i : ℕ) (inv : Counting ws from to f r i) where
-  module _ (h : i < to) (long : to ≤ length ws) (s : PendingParts) (t : WordTaken (number_of (get_or ws i 0)) (operand_of (get_or ws i 0)) f r s) where
-    pub word_misplaced : s.misplaced ≡ true → false ≡ completes 1 1 (slice from to ws)
+module _ {ws : List ℕ} {f r i : ℕ} (inv : Counting ws f r i) where
+  module _ (h : i < length ws) where
+    pub word_misplaced : WordTaken (number_of (get_or ws i 0)) (operand_of (get_or ws i 0)) f r None → false ≡ completes 1 1 ws
     unfolding completes pending_in
-    word_misplaced b =
-        let e : pending_after (kind_sort (number_of (get_or ws i 0))) (operand_of (get_or ws i 0)) f r ≡ misplaced = sym t.same ∙ rw (b, pending_in) in
-        let q : completes f r (slice i to ws) ≡ false = rw (slice-cons i to ws 0 h long) (rw (e, completes)) in
+    word_misplaced t =
+        let e : pending_after (kind_sort (number_of (get_or ws i 0))) (operand_of (get_or ws i 0)) f r ≡ misplaced = sym t.same in
+        let q : completes f r (drop i ws) ≡ false = rw (drop-cons ws i 0 h) (rw (e, completes)) in
         sym q ∙ inv.same
 
-    pub word_counted : s.misplaced ≡ false → Counting ws from to s.fronts s.rears (i + 1)
+    pub word_counted : (s : PendingParts) → WordTaken (number_of (get_or ws i 0)) (operand_of (get_or ws i 0)) f r (Some s) → Counting ws s.fronts s.rears (i + 1)
     unfolding completes pending_in
-    word_counted b =
-        let e : pending_after (kind_sort (number_of (get_or ws i 0))) (operand_of (get_or ws i 0)) f r ≡ pending s.fronts s.rears = sym t.same ∙ rw (b, pending_in) in
-        let q : completes f r (slice i to ws) ≡ completes s.fronts s.rears (slice (suc i) to ws) = rw (slice-cons i to ws 0 h long) (rw (e, completes)) in
-        let a = t.fronts in let d = t.rears in let g = inv.fronts in let j = inv.rears in
-        record { same = rw add-one (sym q ∙ inv.same); within = omega arith; fronts = omega arith; rears = omega arith }
+    word_counted s t =
+        let e : pending_after (kind_sort (number_of (get_or ws i 0))) (operand_of (get_or ws i 0)) f r ≡ pending s.fronts s.rears = sym t.same in
+        let q : completes f r (drop i ws) ≡ completes s.fronts s.rears (drop (suc i) ws) = rw (drop-cons ws i 0 h) (rw (e, completes)) in
+        let a = t.few.0 in let d = t.few.1 in let g = inv.fronts in let j = inv.rears in
+        record { same = rw add-one (sym q ∙ inv.same); fronts = omega arith; rears = omega arith }
 
-  module _ (h : to ≤ i) where
-    ended : completes 1 1 (slice from to ws) ≡ (eqb f 0 && eqb r 0)
-    unfolding completes
-    ended = let w = inv.within in let e : i ≡ to = omega arith in sym inv.same ∙ rw (e, slice_empty to ws)
-
-    pub fronts_left : (f ≡ 0 → ⊥) → false ≡ completes 1 1 (slice from to ws)
-    fronts_left n = sym (ended ∙ rw (ne_eqb f 0 n))
-
-    pub rears_tell : f ≡ 0 → eqb r 0 ≡ completes 1 1 (slice from to ws)
-    rears_tell z = sym (ended ∙ rw (eq-eqb f 0 z))
+  pub ended : length ws ≤ i → (eqb f 0 && eqb r 0) ≡ completes 1 1 ws
+  unfolding completes
+  ended h = (rw (drop_of_length-le ws h) at inv.same)
 
 -- ---- records, one after the other
-
-abbrev asked : (ws ls os ns : List ℕ) → Bool
-asked ws ls os ns = holds_ladder (record { words = ws; records = fields_of ls os ns })
 
 no_rungs : (ws : List ℕ) (rs : List RungRecord) → rs ≡ [] → false ≡ holds_ladder (record { words = ws; records = rs })
 unfolding holds_ladder ladder_of decode decode_from
@@ -175,65 +169,73 @@ no_rungs ws rs e = rw e (none_held ws)
     none_held [] = refl
     none_held (w ∷ ws) = refl
 
-pub uneven_first : (ws ls os ns : List ℕ) → (length ls ≡ length os → ⊥) → false ≡ asked ws ls os ns
-uneven_first ws ls os ns h = no_rungs ws (fields_of ls os ns) (row_uneven_first ls os ns h)
+-- slices that are no row, or an empty one
+pub no_row : (ws ls os ns ts : List ℕ)
+    → (length ls ≡ length ts → ⊥)
+    ⊎ ((length ls ≡ length ts × (length ls ≡ length os → ⊥))
+    ⊎ ((length ls ≡ length ts × length ls ≡ length os × (length ls ≡ length ns → ⊥))
+    ⊎ (length ls ≡ length ts × length ls ≡ length os × length ls ≡ length ns × length ls ≡ 0)))
+    → false ≡ holds_ladder (record { words = ws; records = row_of ls os ns ts })
+no_row ws ls os ns ts (inl n) = no_rungs ws (row_of ls os ns ts) (row_uneven ls os ns ts n)
+no_row ws ls os ns ts (inr (inl (t, n))) = no_rungs ws (row_of ls os ns ts) (row_fields ls os ns ts t ∙ row_uneven_first ls os ns n)
+no_row ws ls os ns ts (inr (inr (inl (t, p, n)))) = no_rungs ws (row_of ls os ns ts) (row_fields ls os ns ts t ∙ row_uneven_second ls os ns (λ q. n (p ∙ q)))
+no_row ws ls os ns ts (inr (inr (inr (t, p, q, z)))) =
+    no_rungs ws (row_of ls os ns ts) (row_fields ls os ns ts t ∙ nil (fields_of ls os ns) (row_length ls os ns (record { first = p; second = sym p ∙ q })))
+  where
+    nil : (rs : List RungRecord) → length rs ≡ length ls → rs ≡ []
+    nil [] e = refl
+    nil (r ∷ rs) e = absurd (omega (arith, z))
 
-pub uneven_second : (ws ls os ns : List ℕ) → (length os ≡ length ns → ⊥) → false ≡ asked ws ls os ns
-uneven_second ws ls os ns h = no_rungs ws (fields_of ls os ns) (row_uneven_second ls os ns h)
+-- the loop's invariant: the records from i on and the words left hold rungs just when all do
+pub record Walking (ws : List ℕ) (rs : List RungRecord) (rest : List ℕ) (i : ℕ) : Type 0 where
+  pub same : holds_from (length ws - length rest) (drop i rs) rest ≡ holds_from 0 rs ws
+  pub within : length rest ≤ length ws
 
--- and with the times
-pub uneven_times : (ws ls os ns ts : List ℕ) → (length ls ≡ length ts → ⊥) → false ≡ holds_ladder (record { words = ws; records = row_of ls os ns ts })
-uneven_times ws ls os ns ts h = no_rungs ws (row_of ls os ns ts) (row_uneven ls os ns ts h)
+pub walk_start : (ws : List ℕ) (rs : List RungRecord) → Walking ws rs ws 0
+walk_start ws rs = let z : length ws - length ws ≡ 0 = omega arith in record { same = rw z refl; within = omega arith }
 
-pub with_times : (ws ls os ns ts : List ℕ) (r : Bool) → length ls ≡ length ts → r ≡ asked ws ls os ns → r ≡ holds_ladder (record { words = ws; records = row_of ls os ns ts })
-with_times ws ls os ns ts r e q = rw (row_fields ls os ns ts e) q
-
--- the loop's invariant: the records from i on and the words from `start` on hold rungs just when all do
-pub record Walking (ws : List ℕ) (rs : List RungRecord) (start i : ℕ) : Type 0 where
-  pub same : holds_from start (drop i rs) (drop start ws) ≡ holds_from 0 rs ws
-  pub within : start ≤ length ws
-
-module _ (ws ls os ns : List ℕ) (p : length ls ≡ length os) (q : length os ≡ length ns) where
+module _ (ws ls os ns ts : List ℕ) (t : length ls ≡ length ts) (p : length ls ≡ length os) (q : length ls ≡ length ns) (n : length ls ≡ 0 → ⊥) where
   abbrev row : List RungRecord
   row = fields_of ls os ns
 
+  abbrev asked : Bool
+  asked = holds_ladder (record { words = ws; records = row_of ls os ns ts })
+
   abbrev even : Even ls os ns
-  even = record { first = p; second = q }
+  even = record { first = p; second = sym p ∙ q }
 
-  pub no_records : length ls < 1 → false ≡ asked ws ls os ns
-  no_records h = no_rungs ws row (empty row (row_length ls os ns even))
-    where
-      empty : (rs : List RungRecord) → length rs ≡ length ls → rs ≡ []
-      empty [] e = refl
-      empty (r ∷ rs) e = absurd (omega arith)
+  module _ {rest : List ℕ} {i : ℕ} (inv : Walking ws row rest i) where
+    whole : holds_from (length ws - length rest) (drop i row) rest ≡ asked
+    whole =
+        let e = row_length ls os ns even in
+        inv.same ∙ sym (holds_counted row ws (omega arith)) ∙ ap (λ rs. holds_ladder (record { words = ws; records = rs })) (sym (row_fields ls os ns ts t))
 
-  module _ (some_record : 1 ≤ length ls) (start i : ℕ) (inv : Walking ws row start i) where
-    whole : holds_from start (drop i row) (drop start ws) ≡ asked ws ls os ns
-    whole = let e = row_length ls os ns even in inv.same ∙ sym (holds_counted row ws (omega arith))
+    pub records_end : length ls ≤ i → eqb (length rest) 0 ≡ asked
+    unfolding holds_from
+    records_end h =
+        let e = row_length ls os ns even in
+        let d : drop i row ≡ [] = drop_of_length-le row (omega arith) in
+        rw d at whole
 
-    pub records_end : length ls ≤ i → eqb start (length ws) ≡ asked ws ls os ns
-    records_end h = let e = row_length ls os ns even in sym (holds_last ws row start i inv.within (omega arith)) ∙ whole
+    module _ (h : i < length ls) (size : ℕ) (z : size ≡ get_or ns i 0) where
+      heads : holds_from (length ws - length rest) (drop i row) rest
+          ≡ ((eqb (get_or os i 0) (length ws - length rest) && leb size (length rest))
+          && (completes 1 1 (take size rest) && holds_from (length ws - length rest + size) (drop (suc i) row) (drop size rest)))
+      unfolding holds_from
+      heads = rw (row_at ls os ns even i h, z) refl
 
-    module _ (h : i < length ls) where
-      abbrev size : ℕ
-      size = get_or ns i 0
+      pub record_long : length rest < size → false ≡ asked
+      record_long l = sym (sym whole ∙ heads ∙ rw (lt-leb size (length rest) l, and-false (eqb (get_or os i 0) (length ws - length rest))) refl)
 
-      heads : holds_from start (drop i row) (drop start ws)
-          ≡ ((eqb (get_or os i 0) start && leb size (length ws - start)) && (completes 1 1 (slice start (start + size) ws) && holds_from (start + size) (drop (i + 1) row) (drop (start + size) ws)))
-      heads = rw add-one (holds_next ws row start i inv.within (record { label = get_or ls i 0; offset = get_or os i 0; length = size }) (row_at ls os ns even i h))
+      pub record_off : (get_or os i 0 ≡ length ws - length rest → ⊥) → false ≡ asked
+      record_off n = sym (sym whole ∙ heads ∙ rw (ne_eqb _ _ n) refl)
 
-      pub record_off : (get_or os i 0 ≡ start → ⊥) → false ≡ asked ws ls os ns
-      record_off n = sym (sym whole ∙ heads ∙ rw (ne_eqb _ _ n))
+      pub rung_wrong : completes 1 1 (take size rest) ≡ false → false ≡ asked
+      rung_wrong b = sym (sym whole ∙ heads ∙ rw (b, and-false (eqb (get_or os i 0) (length ws - length rest) && leb size (length rest))) refl)
 
-      module _ (e : get_or os i 0 ≡ start) where
-        pub record_long : length ws - start < size → false ≡ asked ws ls os ns
-        record_long l = sym (sym whole ∙ heads ∙ rw (eq-eqb _ _ e, lt-leb size (length ws - start) l))
-
-        module _ (l : size ≤ length ws - start) where
-          pub rung_wrong : completes 1 1 (slice start (start + size) ws) ≡ false → false ≡ asked ws ls os ns
-          rung_wrong b = sym (sym whole ∙ heads ∙ rw (eq-eqb _ _ e, le-leb size (length ws - start) l, b))
-
-          pub rung_right : completes 1 1 (slice start (start + size) ws) ≡ true → Walking ws row (start + size) (i + 1)
-          rung_right b =
-              let w = inv.within in
-              record { same = sym (rw (eq-eqb _ _ e, le-leb size (length ws - start) l, b) at heads) ∙ inv.same; within = omega arith }
+      pub rung_right : get_or os i 0 ≡ length ws - length rest → size ≤ length rest → completes 1 1 (take size rest) ≡ true → Walking ws row (drop size rest) (i + 1)
+      rung_right e l b =
+          let w = inv.within in
+          let m = length-drop size rest in
+          let s : length ws - length (drop size rest) ≡ length ws - length rest + size = omega arith in
+          record { same = rw (s, add-one) (sym (rw (eq-eqb _ _ e, le-leb size (length rest) l, b) at heads) ∙ inv.same); within = omega arith }

@@ -1,10 +1,10 @@
 -- Question 4 word by word: how many fronts and rears are still pending. What the functions inside this crate promise to each other.
 -- Nothing here is a sentence of document 01. Assumes nothing.
-use Rattle.std.specs.Prelude.{ℕ, zero, suc, ◌+◌, ◌≤◌, ◌≡◌, Bool, true, false, ◌&&◌, List, [], ◌∷◌, eqb, leb, length, take, drop}
+use Rattle.std.specs.Prelude.{ℕ, zero, suc, ◌+◌, ◌≤◌, ◌≡◌, Bool, false, ◌&&◌, List, [], ◌∷◌, eqb, leb, length, take, drop, Option, Some, None, MatchOption}
 use Rattle.rungs.specs.Words.{number_of, operand_of}
 use Rattle.rungs.specs.Records.{RungRecord}
 use Rattle.ladder_definitions.specs.Kept.{KindSort, contact_sort, joined_sort, output_sort, rear_and_sort, rear_or_sort, no_sort, kind_sort}
-use Rattle.ladder_kept.specs.declared.PendingParts.{PendingParts}
+use Rattle.ladder_kept.specs.declared.Pending.{Pending as PendingParts}
 
 -- What is pending before a word, going from the first word to the last: some fronts and then some rears. Misplaced: a word stood where none like it may.
 pub data Pending : Type 0 where
@@ -57,14 +57,14 @@ unfoldable pub completes : ℕ → ℕ → List ℕ → Bool
 completes f r [] = eqb f 0 && eqb r 0
 completes f r (w ∷ ws) = elim (pending_after (kind_sort (number_of w)) (operand_of w) f r) [ misplaced ↦ false | pending g s ↦ completes g s ws ]
 
-unfoldable pub pending_in : PendingParts → Pending
-pending_in s = elim s.misplaced [ true ↦ misplaced | false ↦ pending s.fronts s.rears ]
+unfoldable pub pending_in : Option PendingParts → Pending
+pending_in (Some s) = pending s.fronts s.rears
+pending_in None = misplaced
 
 -- s is pending after a word of kind k and operand o, where f fronts and r rears were pending before it
-pub record WordTaken (k o f r : ℕ) (s : PendingParts) : Type 0 where
+pub record WordTaken (k o f r : ℕ) (s : Option PendingParts) : Type 0 where
   pub same : pending_in s ≡ pending_after (kind_sort k) o f r
-  pub fronts : s.fronts ≤ f + 1
-  pub rears : s.rears ≤ r + 1
+  pub few : MatchOption s (Unit {0}) (λ p. (p.fronts ≤ f + 1) × (p.rears ≤ r + 1))
 
 -- whether records and words from `start` on hold rungs
 unfoldable pub holds_from : ℕ → List RungRecord → List ℕ → Bool

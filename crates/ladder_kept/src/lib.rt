@@ -2,174 +2,114 @@
 // what is pending after it.
 #![tactic(auto)]
 
-ghost use Rattle.std.specs.Prelude.{◌≡◌, ◌+◌, ◌≤◌, ◌<◌, ◌/◌, ◌%◌, ◌^◌, length};
-ghost use Rattle.std.proofs.Math.Seq.{slice};
-ghost use Rattle.ladder_definitions.specs.Kept.{kept_of};
+ghost use Rattle.std.specs.Prelude.{◌≡◌, ◌+◌, ◌<◌, ◌/◌, ◌%◌, ◌^◌};
+ghost use Rattle.ladder_definitions.specs.Kept.{kept_in};
 ghost use Rattle.rungs.specs.Words.{operands};
 ghost use Rattle.ladder_definitions.specs.Questions.{holds_ladder};
 ghost use Rattle.ladder_kept.specs.Pending.{completes, WordTaken};
 
 use ladder_kinds::KindSort;
+use rungs::{OPERANDS, Slices};
 
-// What is pending before a word; misplaced where a word before it stood where none like it may.
+// How many fronts and then how many rears are pending before a word.
 #[derive(Clone, Copy)]
-pub struct PendingParts {
+pub struct Pending {
     pub fronts: usize,
     pub rears: usize,
-    pub misplaced: bool,
 }
 
-// A word where a front is pending.
-fn front_word(kind: u32, operand: u32, fronts: usize, rears: usize) -> PendingParts
+// What is pending after a word where a front is pending; None where no such word may stand.
+fn front_word(kind: u32, operand: u32, fronts: usize, rears: usize) -> Option<Pending>
     requires { (0 < fronts) × (fronts + 1 < 2 ^ 64) }
     ensures { WordTaken kind operand fronts rears result }
 {
-    let out_of_place = PendingParts {
-        fronts: 0,
-        rears: 0,
-        misplaced: true,
-    };
-    match ladder_kinds::sort_of(kind) {
-        KindSort::Contact => PendingParts {
+    match ladder_kinds::sort_of(kind)? {
+        KindSort::Contact => Some(Pending {
             fronts: fronts - 1,
             rears,
-            misplaced: false,
-        },
-        KindSort::Joined => {
-            if operand != 0 {
-                return out_of_place;
-            }
-            PendingParts {
-                fronts: fronts + 1,
-                rears,
-                misplaced: false,
-            }
-        }
-        _ => out_of_place,
+        }),
+        KindSort::Joined => (operand == 0).then_some(Pending {
+            fronts: fronts + 1,
+            rears,
+        }),
+        _ => None,
     }
 }
 
-// A word where no front is pending, and a rear is.
-fn rear_word(kind: u32, operand: u32, rears: usize) -> PendingParts
+// And where no front is pending, and a rear is.
+fn rear_word(kind: u32, operand: u32, rears: usize) -> Option<Pending>
     requires { (0 < rears) × (rears + 1 < 2 ^ 64) }
     ensures { WordTaken kind operand 0 rears result }
 {
-    let out_of_place = PendingParts {
-        fronts: 0,
-        rears: 0,
-        misplaced: true,
-    };
-    match ladder_kinds::sort_of(kind) {
-        KindSort::Output => PendingParts {
+    match ladder_kinds::sort_of(kind)? {
+        KindSort::Output => Some(Pending {
             fronts: 0,
             rears: rears - 1,
-            misplaced: false,
-        },
-        KindSort::RearAnd => {
-            if operand != 0 {
-                return out_of_place;
-            }
-            PendingParts {
-                fronts: 1,
-                rears,
-                misplaced: false,
-            }
-        }
-        KindSort::RearOr => {
-            if operand != 0 {
-                return out_of_place;
-            }
-            PendingParts {
-                fronts: 0,
-                rears: rears + 1,
-                misplaced: false,
-            }
-        }
-        _ => out_of_place,
+        }),
+        KindSort::RearAnd => (operand == 0).then_some(Pending { fronts: 1, rears }),
+        KindSort::RearOr => (operand == 0).then_some(Pending {
+            fronts: 0,
+            rears: rears + 1,
+        }),
+        _ => None,
     }
 }
 
-fn after_word(pending: PendingParts, word: u32) -> PendingParts
+fn after_word(pending: Pending, word: u32) -> Option<Pending>
     requires { (pending.fronts + 1 < 2 ^ 64) × (pending.rears + 1 < 2 ^ 64) }
     ensures { WordTaken (word / operands) (word % operands) pending.fronts pending.rears result }
 {
-    let kind = word / rungs::OPERANDS;
-    let operand = word % rungs::OPERANDS;
-    if 0 < pending.fronts {
-        return front_word(kind, operand, pending.fronts, pending.rears);
-    }
-    if 0 < pending.rears {
-        return rear_word(kind, operand, pending.rears);
-    }
-    PendingParts {
-        fronts: 0,
-        rears: 0,
-        misplaced: true,
+    let Pending { fronts, rears } = pending;
+    if 0 < fronts {
+        front_word(word / OPERANDS, word % OPERANDS, fronts, rears)
+    } else if 0 < rears {
+        rear_word(word / OPERANDS, word % OPERANDS, rears)
+    } else {
+        None
     }
 }
 
-// Whether the words from `from` up to `to` are a front and then a rear.
-pub fn holds_rung(words: &[u32], from: usize, to: usize) -> bool
-    requires { (from ≤ to) × (to ≤ length words.now) }
-    ensures { result ≡ completes 1 1 (slice from to words.now) }
+// Whether words are a front and then a rear.
+pub fn holds_rung(words: &[u32]) -> bool
+    ensures { result ≡ completes 1 1 words.now }
 {
-    let mut pending = PendingParts {
+    let mut pending = Pending {
         fronts: 1,
         rears: 1,
-        misplaced: false,
     };
-    let mut i: usize = from;
-    while i < to {
-        pending = after_word(pending, words[i]);
-        if pending.misplaced {
+    for word in words {
+        let Some(after) = after_word(pending, *word) else {
             return false;
-        }
-        i += 1;
+        };
+        pending = after;
     }
-    if pending.fronts != 0 {
-        return false;
-    }
-    pending.rears == 0
+    pending.fronts == 0 && pending.rears == 0
 }
 
 // Question 4. No sum wraps: a record's length is compared with what is left of the words. Of the times entered any value is taken.
-pub fn holds_ladder(
-    words: &[u32],
-    labels: &[u16],
-    offsets: &[u32],
-    lengths: &[u32],
-    times: &[u32],
-) -> bool
-    ensures { result ≡ holds_ladder
-        (kept_of words.now labels.now offsets.now lengths.now times.now) }
+pub fn holds_ladder(ladder: Slices, times: &[u32]) -> bool
+    ensures { result ≡ holds_ladder (kept_in ladder.entry times.now) }
 {
-    if labels.len() != times.len() {
+    let Slices {
+        words,
+        labels,
+        offsets,
+        lengths,
+    } = ladder;
+    let records = labels.len();
+    let timed = records == times.len();
+    if !timed || records != offsets.len() || records != lengths.len() || records == 0 {
         return false;
     }
-    if labels.len() != offsets.len() {
-        return false;
-    }
-    if offsets.len() != lengths.len() {
-        return false;
-    }
-    if labels.len() < 1 {
-        return false;
-    }
-    let mut start: usize = 0;
-    let mut i: usize = 0;
-    while i < labels.len() {
-        if offsets[i] as usize != start {
+    let mut rest = words;
+    for (offset, length) in offsets.iter().zip(lengths) {
+        let Some((rung, later)) = rest.split_at_checked(*length as usize) else {
+            return false;
+        };
+        if *offset as usize != words.len() - rest.len() || !holds_rung(rung) {
             return false;
         }
-        let n = lengths[i] as usize;
-        if words.len() - start < n {
-            return false;
-        }
-        if !holds_rung(words, start, start + n) {
-            return false;
-        }
-        start += n;
-        i += 1;
+        rest = later;
     }
-    start == words.len()
+    rest.is_empty()
 }

@@ -1,16 +1,17 @@
 -- Laws of questions 5 to 8 and 17: the first test that fails, the words of a rung tested one by one, timers, the walk over a ladder's rungs, labels.
 -- Assumes nothing.
-use Rattle.std.proofs.Common.{◌≡◌, ℕ, zero, suc, ◌+◌, ◌-◌, ◌*◌, ◌/◌, ◌%◌, ◌^◌, ◌<◌, ◌≤◌, Bool, true, false, not, ◌&&◌, ◌||◌, T, eqb, ltb, leb, List, [], ◌∷◌, ◌++◌, map, length, get_or, take, drop, sym, refl, ap, ◌∙◌, true≢false, append_assoc, append-nil, add-one, arith, ltb→lt, length-append, length-drop, length-take-le, drop-cons, get_or-take, drop-drop, below_more, le-ltb, lt-ltb, eq-eqb, ne_eqb, le-leb}
+use Rattle.std.proofs.Common.{min, ◌≡◌, ℕ, zero, suc, ◌+◌, ◌-◌, ◌*◌, ◌/◌, ◌%◌, ◌^◌, ◌<◌, ◌≤◌, Bool, true, false, not, ◌&&◌, ◌||◌, T, eqb, ltb, leb, List, [], ◌∷◌, ◌++◌, map, length, get_or, take, drop, sym, refl, ap, ◌∙◌, true≢false, append_assoc, append-nil, add-one, arith, ltb→lt, length-append, length-take-le, drop-cons, get_or-take, below_more, le-ltb, lt-ltb, eq-eqb, ne_eqb, le-leb}
 use native.Mathlib.Decide.{dec_lt}
-use mathlib.Core.Bool.{and_assoc, and-true, and-false, or-true}
+use mathlib.Core.Bool.{and_assoc, and-true, or-true}
 use mathlib.Core.Option.{none, some}
+use Rattle.std.specs.Prelude.{Option as Place, Some, None}
 use mathlib.Core.List.{flat_map}
 use lib.ListN.{length-map}
-use lib.Seq.{take-append_seam, drop-append_seam}
+use lib.Seq.{take-length, take-suc, take-append_seam, drop-append_seam}
 use mir.Facts.{and_yes}
 use borrow.Author.Tests.{lt-leb}
 use Rattle.questions.specs.Tests.{all, first_failed}
-use Rattle.questions.proofs.Laws.Tests.{T→true, all_head, all_tail, all_get_d, all_weaker, all_ends, failed_none}
+use Rattle.questions.proofs.Laws.Tests.{T→true, all_head, all_tail, all_weaker, failed_none}
 use Rattle.rungs.specs.Words.{operands, word, number_of, operand_of}
 use Rattle.rungs.specs.Records.{search, present}
 use Rattle.rungs.proofs.Laws.Search.{search_before, search_past}
@@ -19,10 +20,8 @@ use Rattle.ladder_definitions.specs.Kept.{input_kind, output_kind, no_name, name
 use Rattle.ladder_definitions.specs.Questions.{most_rungs, most_words, sizes_in_range, input_below, named_below, output_below, new_labels, named_leads, output_leads, named_timed, output_timed, timers_known}
 use Rattle.ladder_kinds.specs.Kinds.{names_variable, names_label, names_timer}
 use Rattle.ladder_kinds.proofs.Laws.Sorts.{timer_tests}
-use Rattle.ladder_names.specs.Asking.{LadderIn, place_of, RungEnd, length_in_range, operand_below, operand_leads, operand_timed, word_below, word_stays, word_leads, word_timed, SizesAsked, RiseAsked, LabelsAsked, TimersAsked}
+use Rattle.ladder_names.specs.Asking.{LadderIn, place_of, length_in_range, operand_below, operand_leads, operand_timed, word_below, word_stays, word_leads, word_timed, SizesAsked, RiseAsked, LabelsAsked, TimersAsked}
 use Rattle.ladder_definitions.specs.Roots.{front_kind, rear_kind}
-use Rattle.ladder_names.specs.declared.Found.{Found}
-use Rattle.ladder_names.specs.declared.Found.TheVariants.{At, Nothing}
 
 -- ---- the first test that fails
 
@@ -60,29 +59,17 @@ get_d_map f (x ∷ xs) (suc k) d e h = get_d_map f xs k d e (omega arith)
 
 module _ {A : Type 0} (test : A → Bool) where
   all_both : (xs ys : List A) → all test (xs ++ ys) ≡ (all test xs && all test ys)
-  unfolding all
   all_both [] ys = refl
   all_both (x ∷ xs) ys = rw (all_both xs ys) (sym (and_assoc (test x) (all test xs) (all test ys)))
 
-  -- a loop that tests every entry: the answer so far, with what is left to test from place i on
-  pub record AskedTo (xs : List A) (b : Bool) (i : ℕ) : Type 0 where
-    pub same : (b && all test (drop i xs)) ≡ all test xs
+  -- a loop that tests every entry: the answer of one entry more, and of all
+  pub asked_more : (xs : List A) (i : ℕ) (d : A) {b r : Bool} → i < length xs → b ≡ all test (take i xs) → r ≡ test (get_or xs i d) → (b && r) ≡ all test (take (i + 1) xs)
+  asked_more xs i d h e f = rw (e, f, add-one, take-suc xs i d h, all_both (take i xs) (get_or xs i d ∷ []), and-true (test (get_or xs i d))) refl
 
-  pub asked_start : (xs : List A) → AskedTo xs true 0
-  asked_start xs = record { same = refl }
-
-  module _ {xs : List A} {b : Bool} {i : ℕ} (a : AskedTo xs b i) where
-    pub asked_more : (d : A) (r : Bool) → i < length xs → r ≡ test (get_or xs i d) → AskedTo xs (b && r) (i + 1)
-    unfolding all
-    asked_more d r h e = record {
-      same = rw (add-one, e) (and_assoc b (test (get_or xs i d)) (all test (drop (suc i) xs)) ∙ (rw (drop-cons xs i d h) at a.same));
-    }
-
-    pub asked_end : length xs ≤ i → b ≡ all test xs
-    asked_end h = sym (and-true b) ∙ (rw (all_ends test xs i h) at a.same)
+  pub asked_end : (xs : List A) (i : ℕ) {b : Bool} → i ≡ length xs → b ≡ all test (take i xs) → b ≡ all test xs
+  asked_end xs i h e = e ∙ ap (λ n. all test (take n xs)) h ∙ ap (all test) (take-length xs)
 
 all_map : {A B : Type 0} (test : B → Bool) (f : A → B) (xs : List A) → all test (map f xs) ≡ all (λ x. test (f x)) xs
-unfolding all
 all_map test f [] = refl
 all_map test f (x ∷ xs) = rw (all_map test f xs)
 
@@ -96,7 +83,7 @@ pub record Tests (test : ℕ → Bool) (inputs : Input → Bool) (outputs : Outp
 
 module _ {test : ℕ → Bool} {inputs : Input → Bool} {outputs : Output → Bool} (t : Tests test inputs outputs) where
   front_tested : (f : Front) → T (front_all input_fits f) → all test (front_words f) ≡ front_all inputs f
-  unfolding front_words front_all all name_sort name_sorts
+  unfolding front_words front_all name_sort name_sorts
   front_tested (input i) h = rw (t.of_input i h) (and-true (inputs i))
   front_tested (front_and f g) h =
       let b = and_yes (front_all input_fits f) (front_all input_fits g) h in
@@ -106,7 +93,7 @@ module _ {test : ℕ → Bool} {inputs : Input → Bool} {outputs : Output → B
       rw (t.of_root (front_kind (front_or f g)) refl, all_both test (front_words f) (front_words g), front_tested f b.0, front_tested g b.1)
 
   rear_tested : (r : Rear) → T (rear_all input_fits output_fits r) → all test (rear_words r) ≡ rear_all inputs outputs r
-  unfolding rear_words rear_all all name_sort name_sorts
+  unfolding rear_words rear_all name_sort name_sorts
   rear_tested (output o) h = rw (t.of_output o h) (and-true (outputs o))
   rear_tested (rear_and f r) h =
       let b = and_yes (front_all input_fits f) (rear_all input_fits output_fits r) h in
@@ -122,18 +109,26 @@ module _ {test : ℕ → Bool} {inputs : Input → Bool} {outputs : Output → B
       rw (all_both test (front_words g.front) (rear_words g.rear), front_tested g.front b.0, rear_tested g.rear b.1)
 
   ladder_tested : (gs : Ladder) → T (all (rung_all input_fits output_fits) gs) → all test (flat_map rung_words gs) ≡ all (rung_all inputs outputs) gs
-  unfolding flat_map all
+  unfolding flat_map
   ladder_tested [] h = refl
   ladder_tested (g ∷ gs) h =
       let fits = rung_all input_fits output_fits in
       rw (all_both test (rung_words g) (flat_map rung_words gs), rung_tested g (all_head fits g gs h), ladder_tested gs (all_tail fits g gs h))
 
   -- all words pass: no rung fails
-  pub words_pass : {ws ns : List ℕ} → all test ws ≡ true → (gs : Ladder) → LadderIn ws ns gs → place_of Nothing ≡ first_failed (map (rung_all inputs outputs) gs)
+  pub words_pass : {ws ns : List ℕ} → all test ws ≡ true → (gs : Ladder) → LadderIn ws ns gs → place_of None ≡ first_failed (map (rung_all inputs outputs) gs)
   unfolding place_of
   words_pass e gs l =
       let q = sym (ladder_tested gs l.fits) ∙ sym (ap (all test) l.words) ∙ e in
       sym (failed_none (rung_all inputs outputs) gs (rw q tt))
+
+  -- the rungs are tested as their words are
+  pub rungs_tested : (gs : Ladder) → T (all (rung_all input_fits output_fits) gs)
+      → map (λ g. all test (rung_words g)) gs ≡ map (rung_all inputs outputs) gs
+  rungs_tested [] h = refl
+  rungs_tested (g ∷ gs) h =
+      let fits = rung_all input_fits output_fits in
+      rw (rung_tested g (all_head fits g gs h), rungs_tested gs (all_tail fits g gs h)) refl
 
 -- the kind and the operand of a word are read back
 kept : (test : ℕ → ℕ → Bool) (k o : ℕ) → T (ltb o operands) → test (word k o / operands) (word k o % operands) ≡ test k o
@@ -225,9 +220,9 @@ module _ (ls : List ℕ) (k o : ℕ) where
   unfolding operand_leads present
   leads_label r h e = rw (h, e)
 
-  pub leads_other : names_label k ≡ false → true ≡ operand_leads ls k o
+  pub leads_other : (r : Bool) → r ≡ names_label k → r ≡ false → not r ≡ operand_leads ls k o
   unfolding operand_leads
-  leads_other h = rw h
+  leads_other r e h = let n = sym e ∙ h in rw (h, n) refl
 
 -- words that name no label pass
 pub stays_leads : (ls ws : List ℕ) → all word_stays ws ≡ true → all (word_leads ls) ws ≡ true
@@ -241,56 +236,37 @@ stays_leads ls ws e =
 
 -- ---- question 17
 
--- the greatest that the word of a timer with a record may be, less the first word past all timers, modulo 2^32
-abbrev last_known : ℕ → ℕ
-last_known records = 2 ^ 32 - 1 - operands + records
+-- what the code asks of a word: less the first word past all timers, modulo 2^32, it is no more than the word of the last timer with a record
+abbrev less : ℕ → ℕ
+less w = (w + (2 ^ 32 - 14 * operands)) % 2 ^ 32
 
--- what the code asks of a word w, which less that word is x
-timed_word : (records w x : ℕ) → records < operands → x < 2 ^ 32 → (x + 14 * operands) % 2 ^ 32 ≡ w → not (ltb (last_known records) x) ≡ word_timed records w
+pub timed_word : (records w : ℕ) → records < operands → w < 2 ^ 32 → leb (less w) (2 ^ 32 - 1 - operands + records) ≡ word_timed records w
 unfolding operand_timed
-timed_word records w x h l e = rw (← (timer_tests (number_of w))) (go (dec_lt (last_known records) x) (dec_lt w (13 * operands)) (dec_lt w (14 * operands)))
+timed_word records w h l = rw (← (timer_tests (number_of w))) (go (dec_lt (last_known) (less w)) (dec_lt w (13 * operands)) (dec_lt w (14 * operands)))
   where
-    go : Dec (last_known records < x) → Dec (w < 13 * operands) → Dec (w < 14 * operands)
-        → not (ltb (last_known records) x) ≡ (not (eqb (number_of w) 13) || ltb (operand_of w) records)
-    go (yes c) a b = rw (lt-ltb (last_known records) x c, eq-eqb (number_of w) 13 (omega arith), le-ltb (operand_of w) records (omega arith)) refl
-    go (no c) (yes a) b = rw (le-ltb (last_known records) x (omega arith), ne_eqb (number_of w) 13 (λ e. omega arith)) refl
-    go (no c) (no a) (yes b) = rw (le-ltb (last_known records) x (omega arith), eq-eqb (number_of w) 13 (omega arith), lt-ltb (operand_of w) records (omega arith)) refl
-    go (no c) (no a) (no b) = rw (le-ltb (last_known records) x (omega arith), ne_eqb (number_of w) 13 (λ e. omega arith)) refl
+    last_known : ℕ
+    last_known = 2 ^ 32 - 1 - operands + records
+
+    go : Dec (last_known < less w) → Dec (w < 13 * operands) → Dec (w < 14 * operands)
+        → leb (less w) last_known ≡ (not (eqb (number_of w) 13) || ltb (operand_of w) records)
+    go (yes c) a b = rw (lt-leb (less w) last_known c, eq-eqb (number_of w) 13 (omega arith), le-ltb (operand_of w) records (omega arith)) refl
+    go (no c) (yes a) b = rw (le-leb (less w) last_known (omega arith), ne_eqb (number_of w) 13 (λ e. omega arith)) refl
+    go (no c) (no a) (yes b) = rw (le-leb (less w) last_known (omega arith), eq-eqb (number_of w) 13 (omega arith), lt-ltb (operand_of w) records (omega arith)) refl
+    go (no c) (no a) (no b) = rw (le-leb (less w) last_known (omega arith), ne_eqb (number_of w) 13 (λ e. omega arith)) refl
 
 many_records : (records : ℕ) (ws : List ℕ) → operands ≤ records → all (word_timed records) ws ≡ true
-unfolding operand_timed all
+unfolding operand_timed
 many_records records [] h = refl
 many_records records (w ∷ ws) h = rw (lt-ltb (operand_of w) records (omega arith), or-true (not (names_timer (number_of w))), many_records records ws h)
 
 module _ {records : ℕ} {ws : List ℕ} where
-  timers_asked : {r : Bool} → r ≡ all (word_timed records) ws → TimersAsked records ws r
+  pub timers_asked : {r : Bool} → r ≡ all (word_timed records) ws → TimersAsked records ws r
   unfolding timers_known
   timers_asked e = record { same = λ gs l. e ∙ ap (all (word_timed records)) l.words ∙ ladder_tested (timed_tests records) gs l.fits }
 
   -- more records than there are timer numbers
   pub timers_many : operands ≤ records → TimersAsked records ws true
   timers_many h = timers_asked (sym (many_records records ws h))
-
--- the loop's invariant: whether a timer before place i is unknown, with what is left to ask from i on
-pub record TimersTo (records : ℕ) (ws : List ℕ) (unknown : Bool) (i : ℕ) : Type 0 where
-  pub asked : AskedTo (word_timed records) ws (not unknown) i
-
-pub timers_start : (records : ℕ) (ws : List ℕ) → TimersTo records ws false 0
-timers_start records ws = record { asked = asked_start (word_timed records) ws }
-
-module _ {records : ℕ} {ws : List ℕ} {unknown : Bool} {i : ℕ} (t : TimersTo records ws unknown i) where
-  pub timers_more : (x : ℕ) → records < operands → i < length ws → x < 2 ^ 32 → (x + 14 * operands) % 2 ^ 32 ≡ get_or ws i 0
-      → TimersTo records ws (unknown || ltb (last_known records) x) (i + 1)
-  timers_more x few h l e = record {
-    asked = rw (neither unknown (ltb (last_known records) x)) (asked_more (word_timed records) t.asked 0 _ h (timed_word records (get_or ws i 0) x few l e));
-  }
-    where
-      neither : (p q : Bool) → not (p || q) ≡ (not p && not q)
-      neither true q = refl
-      neither false q = refl
-
-  pub timers_end : length ws ≤ i → TimersAsked records ws (not unknown)
-  timers_end h = timers_asked (asked_end (word_timed records) t.asked h)
 
 -- ---- question 5
 
@@ -299,25 +275,18 @@ module _ (ws ns : List ℕ) where
   unfolding sizes_in_range encode
   sizes_asked gs l = rw (l.words, l.lengths, length-map gs (λ g. length (rung_words g)), all_map length_in_range (λ g. length (rung_words g)) gs)
 
-  pub many_rungs : most_rungs < length ns → SizesAsked ws ns false
-  many_rungs h = record { same = λ gs l. sym (sizes_asked gs l ∙ rw (lt-leb (length ns) most_rungs h)) }
-
-  pub long_rung : all length_in_range ns ≡ false → SizesAsked ws ns false
-  long_rung e = record { same = λ gs l. sym (sizes_asked gs l ∙ rw e (and-false (leb (length ns) most_rungs))) }
-
-  pub words_left : length ns ≤ most_rungs → all length_in_range ns ≡ true → SizesAsked ws ns (leb (length ws) most_words)
-  words_left h e = record { same = λ gs l. sym (sizes_asked gs l ∙ rw (le-leb (length ns) most_rungs h, e)) }
+  pub sizes_tested : {r : Bool} → (leb (length ns) most_rungs && (all length_in_range ns && leb (length ws) most_words)) ≡ r → SizesAsked ws ns r
+  sizes_tested e = record { same = λ gs l. sym (sizes_asked gs l ∙ e) }
 
 -- ---- the walk over a ladder's rungs
 
--- the loop's invariant: the words from `from` on are those of the rungs from k on, and the rungs before passed
-pub record Walked (test : Rung → Bool) (ws ns : List ℕ) (from k : ℕ) : Type 0 where
-  pub within : from ≤ length ws
-  pub left : (gs : Ladder) → LadderIn ws ns gs → drop from ws ≡ flat_map rung_words (drop k gs)
-  pub passed : (gs : Ladder) → LadderIn ws ns gs → Passed (map test gs) k
+-- the loop's invariant: the words left are those of the rungs from k on, and the rungs before passed
+pub record Walked (test : List ℕ → Bool) (ws ns rest : List ℕ) (k : ℕ) : Type 0 where
+  pub left : (gs : Ladder) → LadderIn ws ns gs → rest ≡ flat_map rung_words (drop k gs)
+  pub passed : (gs : Ladder) → LadderIn ws ns gs → Passed (map (λ g. test (rung_words g)) gs) k
 
-pub walk_start : (test : Rung → Bool) (ws ns : List ℕ) → Walked test ws ns 0 0
-walk_start test ws ns = record { within = omega arith; left = λ gs l. l.words; passed = λ gs l. none_before (map test gs) }
+pub walk_start : (test : List ℕ → Bool) (ws ns : List ℕ) → Walked test ws ns ws 0
+walk_start test ws ns = record { left = λ gs l. l.words; passed = λ gs l. none_before (map (λ g. test (rung_words g)) gs) }
 
 -- stands past the last rung
 blank : Rung
@@ -326,57 +295,48 @@ blank = record { label = 0; front = input (contact 0); rear = output (coil 0) }
 ladder_length : {ws ns : List ℕ} {gs : Ladder} → LadderIn ws ns gs → length gs ≡ length ns
 ladder_length {ws} {ns} {gs} l = sym (rw l.lengths (length-map gs (λ g. length (rung_words g))))
 
--- the words from `from` up to `to`
-abbrev part : ℕ → ℕ → List ℕ → List ℕ
-part from to ws = take (to - from) (drop from ws)
+-- the words left, split at the length of the rung at place k
+record Here (rest : List ℕ) (gs : Ladder) (k split : ℕ) : Type 0 where
+  words : take split rest ≡ rung_words (get_or gs k blank)
+  later : drop split rest ≡ flat_map rung_words (drop (suc k) gs)
 
--- the rung at place k, and its words
-record Here (ws : List ℕ) (gs : Ladder) (from k to : ℕ) : Type 0 where
-  words : part from to ws ≡ rung_words (get_or gs k blank)
-  rest : drop to ws ≡ flat_map rung_words (drop (suc k) gs)
-
-here : {ws ns : List ℕ} {gs : Ladder} {from k to : ℕ} → LadderIn ws ns gs → from ≤ length ws → drop from ws ≡ flat_map rung_words (drop k gs)
-    → k < length ns → RungEnd from (get_or ns k 0) (length ws) to → Here ws gs from k to
+here : {ws ns rest : List ℕ} {gs : Ladder} {k split : ℕ} → LadderIn ws ns gs → rest ≡ flat_map rung_words (drop k gs)
+    → k < length ns → split ≡ min (length rest) (get_or ns k 0) → Here rest gs k split
 unfolding flat_map
-here {ws} {ns} {gs} {from} {k} {to} l w left h e =
+here {ws} {ns} {rest} {gs} {k} {split} l left h e =
     let m = ladder_length l in
     let g = get_or gs k blank in
     let size : get_or ns k 0 ≡ length (rung_words g) = rw l.lengths (get_d_map (λ x. length (rung_words x)) gs k blank 0 (omega arith)) in
-    let now : drop from ws ≡ rung_words g ++ flat_map rung_words (drop (suc k) gs) = rw (drop-cons gs k blank (omega arith)) at left in
-    let count = sym (length-drop from ws) ∙ ap length now ∙ length-append (rung_words g) (flat_map rung_words (drop (suc k) gs)) in
-    let end : to ≡ from + length (rung_words g) = e.whole (omega arith) ∙ ap (λ n. from + n) size in
-    let many : to - from ≡ length (rung_words g) = omega arith in
+    let now : rest ≡ rung_words g ++ flat_map rung_words (drop (suc k) gs) = rw (drop-cons gs k blank (omega arith)) at left in
+    let count = ap length now ∙ length-append (rung_words g) (flat_map rung_words (drop (suc k) gs)) in
+    let many : split ≡ length (rung_words g) = omega arith in
     record {
       words = rw (many, now) (take-append_seam (rung_words g) (flat_map rung_words (drop (suc k) gs)));
-      rest = rw (end, ← (drop-drop (length (rung_words g)) from ws), now) (drop-append_seam (rung_words g) (flat_map rung_words (drop (suc k) gs)));
+      later = rw (many, now) (drop-append_seam (rung_words g) (flat_map rung_words (drop (suc k) gs)));
     }
 
-module _ {test : ℕ → Bool} {inputs : Input → Bool} {outputs : Output → Bool} (t : Tests test inputs outputs) {ws ns : List ℕ} {from k : ℕ}
-    (w : Walked (rung_all inputs outputs) ws ns from k) where
-  module _ {to : ℕ} (h : k < length ns) (e : RungEnd from (get_or ns k 0) (length ws) to) where
-    tested : (gs : Ladder) → LadderIn ws ns gs → get_or (map (rung_all inputs outputs) gs) k true ≡ all test (part from to ws)
+module _ {test : List ℕ → Bool} {ws ns rest : List ℕ} {k : ℕ} (w : Walked test ws ns rest k) where
+  module _ {split : ℕ} (h : k < length ns) (e : split ≡ min (length rest) (get_or ns k 0)) where
+    tested : (gs : Ladder) → LadderIn ws ns gs → get_or (map (λ g. test (rung_words g)) gs) k true ≡ test (take split rest)
     tested gs l =
         let m = ladder_length l in
-        get_d_map (rung_all inputs outputs) gs k blank true (omega arith)
-        ∙ sym (ap (all test) (here l w.within (w.left gs l) h e).words
-        ∙ rung_tested t (get_or gs k blank) (all_get_d (rung_all input_fits output_fits) gs k blank (omega arith) l.fits))
+        get_d_map (λ g. test (rung_words g)) gs k blank true (omega arith) ∙ sym (ap test (here l (w.left gs l) h e).words)
 
-    pub walk_failed : all test (part from to ws) ≡ false → (gs : Ladder) → LadderIn ws ns gs → place_of (At k) ≡ first_failed (map (rung_all inputs outputs) gs)
+    pub walk_failed : test (take split rest) ≡ false → (gs : Ladder) → LadderIn ws ns gs → place_of (Some k) ≡ first_failed (map (λ g. test (rung_words g)) gs)
     unfolding place_of
-    walk_failed f gs l = failed_at (map (rung_all inputs outputs) gs) k (w.passed gs l) (tested gs l ∙ f)
+    walk_failed f gs l = failed_at (map (λ g. test (rung_words g)) gs) k (w.passed gs l) (tested gs l ∙ f)
 
-    pub walk_more : all test (part from to ws) ≡ true → Walked (rung_all inputs outputs) ws ns to (k + 1)
+    pub walk_more : test (take split rest) ≡ true → Walked test ws ns (drop split rest) (k + 1)
     walk_more f = record {
-      within = e.within;
-      left = λ gs l. rw add-one (here l w.within (w.left gs l) h e).rest;
-      passed = λ gs l. passed_more (map (rung_all inputs outputs) gs) k (w.passed gs l) (tested gs l ∙ f);
+      left = λ gs l. rw add-one (here l (w.left gs l) h e).later;
+      passed = λ gs l. passed_more (map (λ g. test (rung_words g)) gs) k (w.passed gs l) (tested gs l ∙ f);
     }
 
-  pub walk_end : length ns ≤ k → (gs : Ladder) → LadderIn ws ns gs → place_of Nothing ≡ first_failed (map (rung_all inputs outputs) gs)
+  pub walk_end : length ns ≤ k → (gs : Ladder) → LadderIn ws ns gs → place_of None ≡ first_failed (map (λ g. test (rung_words g)) gs)
   unfolding place_of
   walk_end h gs l =
       let m = ladder_length l in
-      none_failed (map (rung_all inputs outputs) gs) k (w.passed gs l) (rw (length-map gs (rung_all inputs outputs)) (omega arith))
+      none_failed (map (λ g. test (rung_words g)) gs) k (w.passed gs l) (rw (length-map gs (λ g. test (rung_words g))) (omega arith))
 
 -- ---- labels
 
@@ -401,19 +361,19 @@ new_at es (l ∷ ls) zero h = rw append-nil
 new_at es (l ∷ ls) (suc j) h = new_at (es ++ l ∷ []) ls j (omega arith) ∙ rw append_assoc
 
 -- the loops' invariants: the labels before j are new; none of those before i is the one at j
-pub record Outer (ls : List ℕ) (end : ℕ) (found : Found) (j : ℕ) : Type 0 where
-  pub nothing : found ≡ Nothing
+pub record Outer (ls : List ℕ) (end : ℕ) (found : Place ℕ) (j : ℕ) : Type 0 where
+  pub nothing : found ≡ None
   pub last : end ≡ length ls
   pub passed : Passed (new_labels [] ls) j
 
-pub record Inner (ls : List ℕ) (j : ℕ) (found : Found) (i : ℕ) : Type 0 where
-  pub nothing : found ≡ Nothing
+pub record Inner (ls : List ℕ) (j : ℕ) (found : Place ℕ) (i : ℕ) : Type 0 where
+  pub nothing : found ≡ None
   pub others : (m : ℕ) → m < i → get_or ls m 0 ≡ get_or ls j 0 → ⊥
 
-pub outer_start : (ls : List ℕ) → Outer ls (length ls) Nothing 0
+pub outer_start : (ls : List ℕ) → Outer ls (length ls) None 0
 outer_start ls = record { nothing = refl; last = refl; passed = none_before (new_labels [] ls) }
 
-module _ {ls : List ℕ} {end : ℕ} {found : Found} {j : ℕ} (o : Outer ls end found j) where
+module _ {ls : List ℕ} {end : ℕ} {found : Place ℕ} {j : ℕ} (o : Outer ls end found j) where
   pub outer_end : end ≤ j → LabelsAsked ls found
   unfolding place_of
   outer_end h = record {
@@ -423,8 +383,8 @@ module _ {ls : List ℕ} {end : ℕ} {found : Found} {j : ℕ} (o : Outer ls end
   pub inner_start : Inner ls j found 0
   inner_start = record { nothing = o.nothing; others = λ m h. absurd (omega arith) }
 
-  module _ (w : j < end) {found' : Found} {i : ℕ} (n : Inner ls j found' i) where
-    pub inner_found : i < j → get_or ls i 0 ≡ get_or ls j 0 → LabelsAsked ls (At j)
+  module _ (w : j < end) {found' : Place ℕ} {i : ℕ} (n : Inner ls j found' i) where
+    pub inner_found : i < j → get_or ls i 0 ≡ get_or ls j 0 → LabelsAsked ls (Some j)
     unfolding place_of
     inner_found h e =
         let k : j < length ls = omega (arith, o.last) in
@@ -478,6 +438,6 @@ module _ {ls : List ℕ} {i : ℕ} (r : Rising ls i) where
 pub rising_not : (ls : List ℕ) → RiseAsked ls false
 rising_not ls = record { new = λ e. absurd (true≢false (sym e)) }
 
-pub risen : {ls : List ℕ} {r : Bool} → RiseAsked ls r → r ≡ true → LabelsAsked ls Nothing
+pub risen : {ls : List ℕ} {r : Bool} → RiseAsked ls r → r ≡ true → LabelsAsked ls None
 unfolding place_of
 risen a e = record { same = a.new e }

@@ -1,123 +1,110 @@
 // Questions 5 to 8 and 17. The words of a rung are those from the end of the rung before it on, as many as its length says.
 #![tactic(auto)]
 
-ghost use Rattle.std.specs.Prelude.{◌≡◌};
+ghost use Rattle.std.specs.Prelude.{◌≡◌, ◌<◌};
+ghost use Rattle.rungs.specs.Words.{operands};
 ghost use Rattle.questions.specs.Tests.{all};
-ghost use Rattle.ladder_names.specs.Asking.{RungEnd, length_in_range, word_below, word_stays, word_leads};
+ghost use Rattle.std.specs.Fn.{FnReturns, FnReturnsAt};
+ghost use Rattle.ladder_names.specs.Asking.{length_in_range, word_below, word_leads, word_timed, WordsAsked, RungsAsked};
 ghost use Rattle.ladder_names.specs.Asking.{SizesAsked, VariablesAsked, RiseAsked, LabelsAsked, JumpsAsked, TimersAsked};
 
+use ladder_kinds::Kind;
+use rungs::OPERANDS;
+
 // Past the words of timers. Where this is taken off, modulo 2^32, they are the greatest, in their order.
-const PAST_TIMERS: u32 = (ladder_kinds::TIMER + 1) * rungs::OPERANDS;
-
-// The place of the first rung that a question says "no" to, if there is one.
-#[derive(Clone, Copy)]
-pub enum Found {
-    At(usize),
-    Nothing,
-}
-
-// Where the rung of length n from `from` on ends, and `last` where that lies past it.
-fn rung_end(from: usize, n: u32, last: usize) -> usize
-    ensures { RungEnd from n last result }
-{
-    let size = n as usize;
-    if last < size {
-        return last;
-    }
-    if last - size < from {
-        return last;
-    }
-    from + size
-}
+const PAST_TIMERS: u32 = (Kind::Timer as u32 + 1) * OPERANDS;
 
 fn lengths_in_range(lengths: &[u32]) -> bool
     ensures { result ≡ all length_in_range lengths.now }
 {
-    let mut i: usize = 0;
-    while i < lengths.len() {
-        if (ladder_kinds::MOST_RUNG_WORDS as u32) < lengths[i] {
-            return false;
-        }
-        i += 1;
-    }
-    true
+    lengths
+        .iter()
+        .all(|length| *length as usize <= ladder_kinds::MOST_RUNG_WORDS)
 }
 
 // Question 5.
 pub fn sizes_in_range(words: &[u32], lengths: &[u32]) -> bool
     ensures { SizesAsked words.now lengths.now result }
 {
-    if rungs::MOST_RECORDS < lengths.len() {
-        return false;
-    }
-    if !lengths_in_range(lengths) {
-        return false;
-    }
-    words.len() <= ladder_kinds::MOST_WORDS
+    lengths.len() <= rungs::MOST_RECORDS
+        && lengths_in_range(lengths)
+        && words.len() <= ladder_kinds::MOST_WORDS
 }
 
+// Whether every word passes a test: a loop with no exit, of which the compiler makes a few wide steps.
+fn every_word<F: Fn(u32) -> bool>(words: &[u32], passes: F) -> bool
+    requires { F.IsAlwaysCallable passes }
+    ensures { WordsAsked (FnReturns F.Fn passes) words.now result }
+{
+    let mut all = true;
+    for word in words {
+        all &= passes(*word);
+    }
+    all
+}
+
+// The first rung whose words fail a test, if one does.
+fn first_failing<F: Fn(&[u32]) -> bool>(words: &[u32], lengths: &[u32], passes: F) -> Option<usize>
+    requires { F.IsAlwaysCallable passes }
+    ensures { RungsAsked (FnReturnsAt F.Fn passes) words.now lengths.now result }
+{
+    let mut rest = words;
+    for (rung, length) in lengths.iter().enumerate() {
+        let (own, later) = rest.split_at(rest.len().min(*length as usize));
+        if !passes(own) {
+            return Some(rung);
+        }
+        rest = later;
+    }
+    None
+}
+
+// No branch: the compiler makes a few wide steps of a loop over words.
+#[tactic(auto, using(crate::proofs::Asked::below_operand))]
 fn word_below(vars: u32, word: u32) -> bool
     ensures { result ≡ word_below vars word }
 {
-    !ladder_kinds::names_variable(word / rungs::OPERANDS) | (word % rungs::OPERANDS < vars)
+    !ladder_kinds::names_variable(word / OPERANDS) | (word % OPERANDS < vars)
 }
 
-// Of all words: a loop with no exit, of which the compiler makes a few wide steps.
 fn words_below(vars: u32, words: &[u32]) -> bool
     ensures { result ≡ all (word_below vars) words.now }
 {
-    let mut below = true;
-    let mut i: usize = 0;
-    while i < words.len() {
-        below = below & word_below(vars, words[i]);
-        i += 1;
-    }
-    below
+    every_word(words, |word| word_below(vars, word))
 }
 
 // Question 6: the first rung with a variable that is not below `vars`. All words are asked first, and the place only where one fails.
-pub fn unknown_variable(vars: u32, words: &[u32], lengths: &[u32]) -> Found
+pub fn unknown_variable(vars: u32, words: &[u32], lengths: &[u32]) -> Option<usize>
     ensures { VariablesAsked vars words.now lengths.now result }
 {
     if words_below(vars, words) {
-        return Found::Nothing;
+        return None;
     }
-    let mut from: usize = 0;
-    let mut k: usize = 0;
-    while k < lengths.len() {
-        let to = rung_end(from, lengths[k], words.len());
-        if !words_below(vars, &words[from..to]) {
-            return Found::At(k);
-        }
-        from = to;
-        k += 1;
-    }
-    Found::Nothing
+    first_failing(words, lengths, |own| words_below(vars, own))
 }
 
 // Whether each label is above the one before it. Then no two are the same.
 fn labels_rise(labels: &[u16]) -> bool
     ensures { RiseAsked labels.now result }
 {
-    let mut i: usize = 1;
-    while i < labels.len() {
+    // Not is_sorted_by, whose answer the check doesn't carry from the closure to the labels.
+    for i in 1..labels.len() {
         if labels[i] <= labels[i - 1] {
             return false;
         }
-        i += 1;
     }
     true
 }
 
 // The first rung whose label an earlier one has.
-fn first_repeated(labels: &[u16]) -> Found
+fn first_repeated(labels: &[u16]) -> Option<usize>
     ensures { LabelsAsked labels.now result }
 {
-    let mut found = Found::Nothing;
+    let mut found = None;
     'rungs: for j in 0..labels.len() {
         for i in 0..j {
             if labels[i] == labels[j] {
-                found = Found::At(j);
+                found = Some(j);
                 break 'rungs;
             }
         }
@@ -126,84 +113,52 @@ fn first_repeated(labels: &[u16]) -> Found
 }
 
 // Question 7. Labels that rise, as most ladders have them, need no search.
-pub fn repeated_label(labels: &[u16]) -> Found
+pub fn repeated_label(labels: &[u16]) -> Option<usize>
     ensures { LabelsAsked labels.now result }
 {
     if labels_rise(labels) {
-        return Found::Nothing;
+        return None;
     }
     first_repeated(labels)
-}
-
-// Whether no word names a label; a loop with no exit.
-fn without_jump(words: &[u32]) -> bool
-    ensures { result ≡ all word_stays words.now }
-{
-    let mut none = true;
-    let mut i: usize = 0;
-    while i < words.len() {
-        none = none & !ladder_kinds::names_label(words[i] / rungs::OPERANDS);
-        i += 1;
-    }
-    none
 }
 
 fn word_leads(labels: &[u16], word: u32) -> bool
     ensures { result ≡ word_leads labels.now word }
 {
-    if ladder_kinds::names_label(word / rungs::OPERANDS) {
-        let search = rungs::search_label(labels, word % rungs::OPERANDS);
-        return rungs::place_of(search) < labels.len();
-    }
-    true
+    !ladder_kinds::names_label(word / OPERANDS)
+        || rungs::place_of(rungs::search_label(labels, word % OPERANDS)) < labels.len()
 }
 
-fn rung_leads(labels: &[u16], words: &[u32]) -> bool
+fn words_lead(labels: &[u16], words: &[u32]) -> bool
     ensures { result ≡ all (word_leads labels.now) words.now }
 {
-    let mut i: usize = 0;
-    while i < words.len() {
-        if !word_leads(labels, words[i]) {
-            return false;
-        }
-        i += 1;
-    }
-    true
+    words.iter().all(|word| word_leads(labels, *word))
 }
 
 // Question 8: the first rung with a jump to a label that no rung has. A ladder without a jump has none.
-pub fn missing_label(labels: &[u16], words: &[u32], lengths: &[u32]) -> Found
+pub fn missing_label(labels: &[u16], words: &[u32], lengths: &[u32]) -> Option<usize>
     ensures { JumpsAsked labels.now words.now lengths.now result }
 {
-    if without_jump(words) {
-        return Found::Nothing;
+    if every_word(words, |word| !ladder_kinds::names_label(word / OPERANDS)) {
+        return None;
     }
-    let mut from: usize = 0;
-    let mut k: usize = 0;
-    while k < lengths.len() {
-        let to = rung_end(from, lengths[k], words.len());
-        if !rung_leads(labels, &words[from..to]) {
-            return Found::At(k);
-        }
-        from = to;
-        k += 1;
-    }
-    Found::Nothing
+    first_failing(words, lengths, |own| words_lead(labels, own))
 }
 
-// Question 17: whether every timer number has a record, of so many. A loop with no exit and one comparison a word.
+// Whether a word names no timer past so many; one comparison.
+fn timer_known(records: u32, word: u32) -> bool
+    requires { records < operands }
+    ensures { result ≡ word_timed records word }
+{
+    word.wrapping_sub(PAST_TIMERS) <= u32::MAX - OPERANDS + records
+}
+
+// Question 17: whether every timer number has a record, of so many.
 pub fn timers_known(words: &[u32], records: usize) -> bool
     ensures { TimersAsked records words.now result }
 {
-    if rungs::OPERANDS as usize <= records {
+    if OPERANDS as usize <= records {
         return true;
     }
-    let last_known = u32::MAX - rungs::OPERANDS + records as u32;
-    let mut unknown = false;
-    let mut i: usize = 0;
-    while i < words.len() {
-        unknown = unknown | (last_known < std::num::wrapping_sub_u32(words[i], PAST_TIMERS));
-        i += 1;
-    }
-    !unknown
+    every_word(words, |word| timer_known(records as u32, word))
 }

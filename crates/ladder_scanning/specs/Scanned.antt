@@ -7,8 +7,7 @@ use Rattle.ladder_definitions.specs.Tree.{Ladder}
 use Rattle.ladder_definitions.specs.Meaning.{scan_ladder}
 use Rattle.ladder_definitions.specs.Questions.{most_words}
 use Rattle.ladder_definitions.specs.Held.{LadderHeld}
-use Rattle.ladder_definitions.specs.LadderScan.{scan_ends, LadderScanDone}
-use Rattle.ladder_definitions.specs.declared.LadderScanned.{LadderScanned}
+use Rattle.ladder_definitions.specs.LadderScan.{scan_ends, LadderScanned, LadderScanDone}
 
 -- what questions 5 and 12 take. A rung entered turns over as many variables as there are words, at most: so the sum of a scan stays below 2^32.
 pub record WithinLimits (ws : List ℕ) (watchdog : ℕ) : Type 0 where

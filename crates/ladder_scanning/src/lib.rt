@@ -1,60 +1,79 @@
 // One scan of a ladder: document 01, "What a ladder does".
 #![tactic(auto)]
 
+ghost use Rattle.std.specs.Prelude.{◌≡◌, Ok};
 ghost use Rattle.table.specs.State.{state_of};
 ghost use Rattle.table.specs.TimerRecords.{timers_in};
+ghost use Rattle.table.specs.Parts.{state_in};
+ghost use Rattle.ladder_walk.specs.Walking.{SameLent};
 ghost use Rattle.ladder_scanning.specs.Scanned.{WithinLimits, Scanned};
 
-use ladder_definitions::{Counts, LadderScanned};
+use ladder_definitions::Counts;
 use ladder_walk::Ran;
+use rungs::Slices;
+use table::{Halt, State};
 
-// A scan with a rung watchdog.
-pub fn run(
-    vars: u32,
-    words: &[u32],
-    labels: &[u16],
-    offsets: &[u32],
-    table: &mut [u8],
-    timers: &mut [u32],
-    tick: u32,
-    watchdog: u32,
-) -> LadderScanned
-    requires { WithinLimits words.now watchdog }
-    ensures { Scanned words.now labels.now offsets.now
-        (state_of vars table.old (timers_in timers.old) tick) watchdog
-        result table.new (timers_in timers.new) }
+// A scan with a rung watchdog, of a state in which nothing is turned over yet.
+fn scan(ladder: Slices, state: &mut State, watchdog: u32) -> Halt<Counts>
+    requires limits { WithinLimits ladder.words.now watchdog }
+    requires none_turned { state.old.moved ≡ 0 }
+    ensures scanned { Scanned ladder.entry.words.now ladder.entry.labels.now ladder.entry.offsets.now
+        (state_in state.old) watchdog (Ok result) state.new.table.now (timers_in state.new.timers.now) }
+    ensures same { SameLent state.old state.new }
 {
-    let mut entered: u32 = 0;
-    let mut moved: u32 = 0;
-    let mut rung: usize = 0;
+    let Slices {
+        words,
+        labels,
+        offsets,
+        ..
+    } = ladder;
+    let mut entered = 0;
+    let mut rung = 0;
+    // A jump says which rung comes next, so this is no `for` over the rungs.
     loop {
         let counts = Counts {
             rungs: entered,
-            moved,
+            moved: state.moved,
         };
         if labels.len() <= rung {
-            return LadderScanned::Ended(counts);
+            return Halt::Ended(counts);
         }
         if entered == watchdog {
-            return LadderScanned::Stopped(counts);
+            return Halt::Stopped(counts);
         }
         entered += 1;
-        let start = rungs::word_at(offsets, rung) as usize;
-        match ladder_walk::run_rung(vars, words, start, table, timers, tick, moved) {
-            Ran::Onward {
-                next: _,
-                moved: past_rung,
-            } => {
-                moved = past_rung;
+        let start = rungs::at_or(offsets, rung, 0) as usize;
+        match ladder_walk::run_rung(words, start, state) {
+            Ran::Onward { .. } => {
                 rung += 1;
             }
-            Ran::Jumped {
-                label,
-                moved: at_jump,
-            } => {
-                moved = at_jump;
+            Ran::Jumped { label } => {
                 rung = rungs::place_of(rungs::search_label(labels, label));
             }
         }
     }
+}
+
+// A scan with a rung watchdog, of what is lent.
+pub fn run(
+    vars: u32,
+    ladder: Slices,
+    table: &mut [u8],
+    timers: &mut [u32],
+    tick: u32,
+    watchdog: u32,
+) -> Halt<Counts>
+    requires { WithinLimits ladder.words.now watchdog }
+    ensures { Scanned ladder.entry.words.now ladder.entry.labels.now ladder.entry.offsets.now
+        (state_of vars table.old (timers_in timers.old) tick) watchdog
+        (Ok result) table.new (timers_in timers.new) }
+{
+    let mut state = State {
+        vars,
+        table,
+        timers,
+        tick,
+        moved: 0,
+    };
+    scan(ladder, &mut state, watchdog)
 }

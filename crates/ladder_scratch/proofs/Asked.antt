@@ -1,12 +1,12 @@
 -- Laws of the loop behind question 9: what is said of the rungs that are left is said of all. Assumes nothing.
-use Prim.Native.Nat.{ℕ, suc, ◌+◌, ◌≤◌, ◌<◌}
+use Prim.Native.Nat.{ℕ, suc, min, ◌+◌, ◌<◌}
 use native.Mathlib.Numerals.{add-one}
 use native.Mathlib.Omega.{arith}
 use mathlib.Core.Path.{◌≡◌, refl, sym, ap, ◌∙◌}
 use mathlib.Core.Bool.{Bool, true, false}
 use mathlib.Core.List.{List, [], ◌∷◌, map}
 use lib.Dec.{leb}
-use lib.ListN.{length, get_or, drop, drop_of_length-le}
+use lib.ListN.{length, get_or, drop, drop_of_length-le, length-map}
 use lib.Seq.{drop-cons}
 use Rattle.questions.specs.Tests.{all}
 use Rattle.table.specs.State.{scratch_bytes}
@@ -33,7 +33,6 @@ unfolding scratch_in_range
 measuring_first ws os ns = record { same = λ ls gs held sized. refl }
 
 few_left : (g : Rung) (rest : Ladder) (b : Bool) → few g ≡ b → all few (g ∷ rest) ≡ elim b [ true ↦ all few rest | false ↦ false ]
-unfolding all
 few_left g rest true e = rw e
 few_left g rest false e = rw e
 
@@ -44,12 +43,12 @@ count_at ns gs sized k h a =
     ap (λ l. get_or l k 0) sized ∙ get_d_map (λ g. length (rung_words g)) gs k a.rung 0 h ∙ ap (λ g. length (rung_words g)) here
 
 module _ (ws os ns : List ℕ) (k : ℕ) (m : Measuring ws os ns k) where
-  pub measured_all : length os ≤ k → ScratchAsked ws os ns true
-  unfolding all
+  pub measured_all : k ≡ min (length os) (length ns) → ScratchAsked ws os ns true
   measured_all h = record {
     same = λ ls gs held sized.
         let n = as_many ws ls os gs held in
-        let none : drop k gs ≡ [] = drop_of_length-le gs {i = k} (omega arith) in
+        let s = ap length sized ∙ length-map gs (λ g. length (rung_words g)) in
+        let none : drop k gs ≡ [] = drop_of_length-le gs (omega arith) in
         sym (ap (all few) none) ∙ m.same ls gs held sized;
   }
 

@@ -1,8 +1,7 @@
 -- A scratch byte takes two words, so a rung of at most 65 words takes at most 32 scratch bytes. Assumes nothing.
 use Prim.Native.Nat.{ℕ, ◌+◌, ◌*◌, ◌≤◌}
 use native.Mathlib.Omega.{arith}
-use mathlib.Core.Path.{sym, ap}
-use mathlib.Core.Bool.{true}
+use mathlib.Core.Path.{sym, ap, ◌∙◌}
 use mathlib.Core.List.{List}
 use lib.Dec.{leb}
 use lib.ListN.{length, length-append}
@@ -31,8 +30,8 @@ unfolding rung_scratch rung_words
 rung_few g h = omega (arith, length-append (front_words g.front) (rear_words g.rear), front_few g.front, rear_few g.rear)
 
 module _ (ws : List ℕ) (at n : ℕ) where
-  pub few_words : n ≤ 65 → FewAsked ws at n true
-  few_words h = record { same = λ g s e. sym (le-leb (rung_scratch g) scratch_bytes (rung_few g (omega arith))) }
+  pub few_words : n ≤ 65 → FewAsked ws at n (leb n 65)
+  few_words h = record { same = λ g s e. le-leb n 65 h ∙ sym (le-leb (rung_scratch g) scratch_bytes (rung_few g (omega arith))) }
 
   pub many_words : (r : ℕ) → RungMeasured ws at r → FewAsked ws at n (leb r scratch_bytes)
   many_words r m = record { same = λ g s e. ap (λ x. leb x scratch_bytes) (m.same g s) }

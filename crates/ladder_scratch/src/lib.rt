@@ -1,6 +1,10 @@
 // The scratch that a rung's code takes, along the prefix order of its kept words: question 9.
 #![tactic(auto)]
 
+ghost use Rattle.std.specs.Prelude.{◌≡◌, get_or};
+ghost use Rattle.rungs.specs.Words.{number_of};
+ghost use Rattle.ladder_definitions.specs.Kept.{kind_sort};
+ghost use Rattle.ladder_kinds.specs.Kinds.{sort_in};
 ghost use Rattle.ladder_scratch.specs.Measuring.{JoinMeasured, FrontMeasured, RearMeasured, RungMeasured, FewAsked, ScratchAsked};
 
 use ladder_kinds::KindSort;
@@ -15,11 +19,21 @@ pub struct Taken {
     pub next: usize,
 }
 
+// The sort of the word at a position, if its kind has one.
+fn sort_at(words: &[u32], at: usize) -> Option<KindSort>
+    ensures { sort_in result ≡ kind_sort (number_of (get_or words.now at 0)) }
+{
+    ladder_kinds::sort_of(rungs::at_or(words, at, 0) / rungs::OPERANDS)
+}
+
 // What the front whose words begin at a position takes where it is joined: none if it is a contact, and else `through`.
 fn join_scratch(words: &[u32], at: usize, through: usize) -> usize
     ensures { JoinMeasured words.now at through result }
 {
-    match ladder_kinds::sort_of(rungs::word_at(words, at) / rungs::OPERANDS) {
+    let Some(sort) = sort_at(words, at) else {
+        return through;
+    };
+    match sort {
         KindSort::Contact => 0,
         _ => through,
     }
@@ -29,7 +43,11 @@ fn join_scratch(words: &[u32], at: usize, through: usize) -> usize
 fn front_scratch(words: &[u32], at: usize) -> Taken
     ensures { FrontMeasured words.now at result }
 {
-    match ladder_kinds::sort_of(rungs::word_at(words, at) / rungs::OPERANDS) {
+    let none = Taken { bytes: 0, next: at };
+    let Some(sort) = sort_at(words, at) else {
+        return none;
+    };
+    match sort {
         KindSort::Contact => Taken {
             bytes: 0,
             next: at + 1,
@@ -39,11 +57,11 @@ fn front_scratch(words: &[u32], at: usize) -> Taken
             let second = front_scratch(words, first.next);
             let joined = join_scratch(words, first.next, second.bytes + 1);
             Taken {
-                bytes: rungs::larger(first.bytes, joined),
+                bytes: first.bytes.max(joined),
                 next: second.next,
             }
         }
-        _ => Taken { bytes: 0, next: at },
+        _ => none,
     }
 }
 
@@ -51,7 +69,11 @@ fn front_scratch(words: &[u32], at: usize) -> Taken
 fn rear_scratch(words: &[u32], at: usize) -> Taken
     ensures { RearMeasured words.now at result }
 {
-    match ladder_kinds::sort_of(rungs::word_at(words, at) / rungs::OPERANDS) {
+    let none = Taken { bytes: 0, next: at };
+    let Some(sort) = sort_at(words, at) else {
+        return none;
+    };
+    match sort {
         KindSort::Output => Taken {
             bytes: 0,
             next: at + 1,
@@ -61,7 +83,7 @@ fn rear_scratch(words: &[u32], at: usize) -> Taken
             let joined = join_scratch(words, at + 1, front.bytes + 1);
             let rear = rear_scratch(words, front.next);
             Taken {
-                bytes: rungs::larger(joined, rear.bytes),
+                bytes: joined.max(rear.bytes),
                 next: rear.next,
             }
         }
@@ -69,11 +91,11 @@ fn rear_scratch(words: &[u32], at: usize) -> Taken
             let first = rear_scratch(words, at + 1);
             let second = rear_scratch(words, first.next);
             Taken {
-                bytes: rungs::larger(first.bytes + 1, second.bytes),
+                bytes: (first.bytes + 1).max(second.bytes),
                 next: second.next,
             }
         }
-        _ => Taken { bytes: 0, next: at },
+        _ => none,
     }
 }
 
@@ -83,30 +105,24 @@ fn rung_scratch(words: &[u32], at: usize) -> usize
 {
     let front = front_scratch(words, at);
     let rear = rear_scratch(words, front.next);
-    rungs::larger(front.bytes, rear.bytes)
+    front.bytes.max(rear.bytes)
 }
 
 // Whether the rung whose words begin at a position, as many as its length says, takes at most 32 scratch bytes. A rung of few words does.
 fn few_scratch(words: &[u32], at: usize, length: u32) -> bool
     ensures { FewAsked words.now at length result }
 {
-    if length <= FEW_WORDS {
-        return true;
-    }
-    rung_scratch(words, at) <= table::SCRATCH_BYTES
+    length <= FEW_WORDS || rung_scratch(words, at) <= table::SCRATCH_BYTES
 }
 
 // Question 9.
 pub fn scratch_in_range(words: &[u32], offsets: &[u32], lengths: &[u32]) -> bool
     ensures { ScratchAsked words.now offsets.now lengths.now result }
 {
-    let mut k: usize = 0;
-    while k < offsets.len() {
-        let start = offsets[k] as usize;
-        if !few_scratch(words, start, rungs::word_at(lengths, k)) {
+    for (offset, length) in offsets.iter().zip(lengths) {
+        if !few_scratch(words, *offset as usize, *length) {
             return false;
         }
-        k += 1;
     }
     true
 }

@@ -5,6 +5,8 @@ use mathlib.Core.Path.{◌≡◌, refl, sym, subst}
 use mathlib.Core.Bool.{Bool, true, false}
 use mathlib.Core.List.{List}
 use lib.Dec.{eqb}
+use Rattle.std.specs.Prelude.{Option, Some, None}
+use Rattle.std.specs.Option.{unwrap_or}
 use lib.ListN.{length, get_or, get_or-eq_default}
 use borrow.Author.Tests.{eqb-true, eqb-false}
 use Rattle.rungs.specs.Words.{number_of}
@@ -50,8 +52,10 @@ pub record Climbing (ws : List ℕ) (from : ℕ) (t : List ℕ) (at : ℕ) (firs
   pub roots : (k : ℕ) → from ≤ k → k < at → Root ws k
   pub worked : FrontWorked ws at t first u
 
-pub climbing_first : {ws : List ℕ} {from at : ℕ} {t : List ℕ} {first : Worked} {u : List ℕ} → RootsPassed ws from at → ContactWorked ws at t first u → Climbing ws from t at first u
-climbing_first p c = record { onward = p.onward; roots = p.roots; worked = c.leaf p.leaf }
+pub climbing_first : {ws : List ℕ} {from at : ℕ} {t : List ℕ} {contact : Option Worked} {first : Worked} {u : List ℕ} → RootsPassed ws from at → ContactWorked ws at t contact u
+    → first ≡ unwrap_or contact (record { value = false; next = at }) → Climbing ws from t at first u
+climbing_first {contact = None} p c e = record { onward = p.onward; roots = p.roots; worked = rw e (c.cases p.leaf) }
+climbing_first {contact = Some w} p c e = record { onward = p.onward; roots = p.roots; worked = rw e c.cases }
 
 module _ {ws : List ℕ} {from : ℕ} {t : List ℕ} {at : ℕ} {first : Worked} {u : List ℕ} (c : Climbing ws from t at first u) where
   -- the first word stands within the words, and the worked part ends after it

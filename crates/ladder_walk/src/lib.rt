@@ -3,11 +3,12 @@
 #![tactic(auto)]
 
 ghost use Rattle.std.specs.Prelude.{◌+◌, ◌-◌, ◌<◌, ◌^◌, length};
-ghost use Rattle.table.specs.State.{state_with};
-ghost use Rattle.table.specs.TimerRecords.{timers_in};
-ghost use Rattle.ladder_walk.specs.Walking.{ContactWorked, PartsJoined, RootsPassed, FrontWorked, OutputRun, RearRun, RungRun};
+ghost use Rattle.table.specs.Parts.{state_in};
+ghost use Rattle.ladder_walk.specs.Walking.{ContactWorked, PartsJoined, RootsPassed, FrontWorked, OutputRun, RearRun, RungRun, SameLent};
 
-use ladder_kinds::KindSort;
+use ladder_kinds::{Kind, KindSort};
+use rungs::OPERANDS;
+use table::State;
 
 // A front's value, and the position after its words.
 #[derive(Clone, Copy)]
@@ -16,32 +17,29 @@ pub struct Worked {
     pub next: usize,
 }
 
-// Past a rear, at the position after its words, or away by a jump to a label; and how many times variables have been turned over.
+// Past a rear, at the position after its words, or away by a jump to a label.
 #[derive(Clone, Copy)]
 pub enum Ran {
-    Onward { next: usize, moved: u32 },
-    Jumped { label: u32, moved: u32 },
+    Onward { next: usize },
+    Jumped { label: u32 },
 }
 
-// The contact at a position; where none stands there, the position stays.
-fn contact_at(words: &[u32], at: usize, table: &[u8]) -> Worked
-    ensures { ContactWorked words.now at table.now result table.now }
+// The contact at a position, if one stands there.
+fn contact_at(words: &[u32], at: usize, state: &State) -> Option<Worked>
+    ensures { ContactWorked words.now at state.now.table.now result state.now.table.now }
 {
-    let word = rungs::word_at(words, at);
-    let value = table::value(table, (word % rungs::OPERANDS) as usize);
-    match word / rungs::OPERANDS {
-        ladder_kinds::CONTACT => Worked {
+    let word = rungs::at_or(words, at, 0);
+    let value = state.value((word % OPERANDS) as usize);
+    match Kind::of(word / OPERANDS)? {
+        Kind::Contact => Some(Worked {
             value,
             next: at + 1,
-        },
-        ladder_kinds::NEGATED_CONTACT => Worked {
+        }),
+        Kind::NegatedContact => Some(Worked {
             value: !value,
             next: at + 1,
-        },
-        _ => Worked {
-            value: false,
-            next: at,
-        },
+        }),
+        _ => None,
     }
 }
 
@@ -49,7 +47,7 @@ fn contact_at(words: &[u32], at: usize, table: &[u8]) -> Worked
 fn joined(kind: u32, first: bool, second: bool) -> bool
     ensures { PartsJoined kind first second result }
 {
-    if kind == ladder_kinds::FRONT_AND {
+    if kind == Kind::FrontAnd as u32 {
         return first & second;
     }
     first | second
@@ -60,8 +58,9 @@ fn first_contact(words: &[u32], from: usize) -> usize
     ensures { RootsPassed words.now from result }
 {
     let mut at = from;
-    while at < words.len() {
-        match ladder_kinds::sort_of(words[at] / rungs::OPERANDS) {
+    // Up to a word of another sort, so no count by a `for`.
+    while let Some(sort) = ladder_kinds::sort_of(rungs::at_or(words, at, 0) / OPERANDS) {
+        match sort {
             KindSort::Joined => {
                 at += 1;
             }
@@ -75,19 +74,20 @@ fn first_contact(words: &[u32], from: usize) -> usize
 
 // The front whose words begin at a position: its first contact, and then, root by root towards that position, the parts joined with it.
 // The part before a root's second is worked when the root is reached, so only a second part that is no contact takes a call.
-fn front_at(words: &[u32], from: usize, table: &[u8]) -> Worked
-    ensures { FrontWorked words.now from table.now result table.now }
+fn front_at(words: &[u32], from: usize, state: &State) -> Worked
+    ensures { FrontWorked words.now from state.now.table.now result state.now.table.now }
 {
     let mut at = first_contact(words, from);
-    let mut first = contact_at(words, at, table);
+    let mut first = contact_at(words, at, state).unwrap_or(Worked {
+        value: false,
+        next: at,
+    });
     while from < at {
         at -= 1;
-        let kind = rungs::word_at(words, at) / rungs::OPERANDS;
-        let contact = contact_at(words, first.next, table);
-        let second = if first.next < contact.next {
-            contact
-        } else {
-            front_at(words, first.next, table)
+        let kind = rungs::at_or(words, at, 0) / OPERANDS;
+        let second = match contact_at(words, first.next, state) {
+            Some(contact) => contact,
+            None => front_at(words, first.next, state),
         };
         first = Worked {
             value: joined(kind, first.value, second.value),
@@ -98,174 +98,113 @@ fn front_at(words: &[u32], from: usize, table: &[u8]) -> Worked
 }
 
 // The output of a word, with a power: on to the position after the word, or away by a jump to a label.
-fn run_output(
-    vars: u32,
-    word: u32,
-    next: usize,
-    power: bool,
-    table: &mut [u8],
-    timers: &mut [u32],
-    tick: u32,
-    moved: u32,
-) -> Ran
-    requires { moved + 1 < 2 ^ 32 }
-    ensures { OutputRun word next power (state_with vars table.old (timers_in timers.old) tick moved)
-        result (state_with vars table.new (timers_in timers.new) tick) }
+fn run_output(word: u32, next: usize, power: bool, state: &mut State) -> Ran
+    requires { state.old.moved + 1 < 2 ^ 32 }
+    ensures ran { OutputRun word next power (state_in state.old) result (state_in state.new) }
+    ensures same { SameLent state.old state.new }
 {
-    let operand = word % rungs::OPERANDS;
-    match word / rungs::OPERANDS {
-        ladder_kinds::COIL => {
-            let sum = table::write(vars, table, operand as usize, power, moved);
-            Ran::Onward { next, moved: sum }
+    let operand = word % OPERANDS;
+    let Some(kind) = Kind::of(word / OPERANDS) else {
+        return Ran::Onward { next };
+    };
+    match kind {
+        Kind::Coil => {
+            state.write(operand as usize, power);
+            Ran::Onward { next }
         }
-        ladder_kinds::NEGATED_COIL => {
-            let sum = table::write(vars, table, operand as usize, !power, moved);
-            Ran::Onward { next, moved: sum }
+        Kind::NegatedCoil => {
+            state.write(operand as usize, !power);
+            Ran::Onward { next }
         }
-        ladder_kinds::JUMP => {
+        Kind::Jump => {
             if power {
-                Ran::Jumped {
-                    label: operand,
-                    moved,
-                }
+                Ran::Jumped { label: operand }
             } else {
-                Ran::Onward { next, moved }
+                Ran::Onward { next }
             }
         }
-        ladder_kinds::NEGATED_JUMP => {
+        Kind::NegatedJump => {
             if power {
-                Ran::Onward { next, moved }
+                Ran::Onward { next }
             } else {
-                Ran::Jumped {
-                    label: operand,
-                    moved,
-                }
+                Ran::Jumped { label: operand }
             }
         }
-        ladder_kinds::SET_COIL => {
-            let sum = table::write_if(vars, table, operand as usize, power, true, moved);
-            Ran::Onward { next, moved: sum }
+        Kind::SetCoil => {
+            state.write_if(operand as usize, power, true);
+            Ran::Onward { next }
         }
-        ladder_kinds::RESET_COIL => {
-            let sum = table::write_if(vars, table, operand as usize, power, false, moved);
-            Ran::Onward { next, moved: sum }
+        Kind::ResetCoil => {
+            state.write_if(operand as usize, power, false);
+            Ran::Onward { next }
         }
-        ladder_kinds::TIMER => {
-            let sum = timers::run_timer(vars, table, timers, operand as usize, power, tick, moved);
-            Ran::Onward { next, moved: sum }
+        Kind::Timer => {
+            timers::run_timer(state, operand as usize, power);
+            Ran::Onward { next }
         }
-        _ => Ran::Onward { next, moved },
+        _ => Ran::Onward { next },
     }
 }
 
 // The rear whose words begin at a position, with a power: a rear-and's front, or a rear-or's first branch, and then what follows it, up to
 // an output. Only a first branch that is no output takes a call of this function. Each output has a word of its own: the sum grows by the
 // words left, at most.
-fn rear_at(
-    vars: u32,
-    words: &[u32],
-    from: usize,
-    given: bool,
-    table: &mut [u8],
-    timers: &mut [u32],
-    tick: u32,
-    before: u32,
-) -> Ran
-    requires { before + (length words.now - from) < 2 ^ 32 }
-    ensures { RearRun words.now from given
-        (state_with vars table.old (timers_in timers.old) tick before)
-        result (state_with vars table.new (timers_in timers.new) tick) }
+fn rear_at(words: &[u32], from: usize, given: bool, state: &mut State) -> Ran
+    requires { state.old.moved + (length words.now - from) < 2 ^ 32 }
+    ensures ran { RearRun words.now from given (state_in state.old) result (state_in state.new) }
+    ensures same { SameLent state.old state.new }
 {
     let mut at = from;
     let mut power = given;
-    let mut moved = before;
+    // Each turn goes on where its front or branch ends, so no count by a `for`.
     loop {
-        let word = rungs::word_at(words, at);
-        match ladder_kinds::sort_of(word / rungs::OPERANDS) {
+        let word = rungs::at_or(words, at, 0);
+        let Some(sort) = ladder_kinds::sort_of(word / OPERANDS) else {
+            return Ran::Onward { next: at };
+        };
+        match sort {
             KindSort::Output => {
-                return run_output(vars, word, at + 1, power, table, timers, tick, moved);
+                return run_output(word, at + 1, power, state);
             }
             KindSort::RearAnd => {
-                let front = front_at(words, at + 1, table);
+                let front = front_at(words, at + 1, state);
                 at = front.next;
                 power = power & front.value;
             }
             KindSort::RearOr => {
                 let first = at + 1;
-                let branch = rungs::word_at(words, first);
-                let ran = match ladder_kinds::sort_of(branch / rungs::OPERANDS) {
-                    KindSort::Output => run_output(
-                        vars,
-                        branch,
-                        first + 1,
-                        power,
-                        table,
-                        timers,
-                        tick,
-                        moved,
-                    ),
-                    _ => rear_at(vars, words, first, power, table, timers, tick, moved),
+                let branch = rungs::at_or(words, first, 0);
+                let ran = match ladder_kinds::sort_of(branch / OPERANDS) {
+                    Some(KindSort::Output) => run_output(branch, first + 1, power, state),
+                    _ => rear_at(words, first, power, state),
                 };
                 match ran {
-                    Ran::Onward {
-                        next,
-                        moved: past_branch,
-                    } => {
+                    Ran::Onward { next } => {
                         at = next;
-                        moved = past_branch;
                     }
-                    Ran::Jumped { label: _, moved: _ } => {
+                    Ran::Jumped { .. } => {
                         return ran;
                     }
                 }
             }
             _ => {
-                return Ran::Onward { next: at, moved };
+                return Ran::Onward { next: at };
             }
         }
     }
 }
 
 // The rung whose words begin at a position.
-pub fn run_rung(
-    vars: u32,
-    words: &[u32],
-    at: usize,
-    table: &mut [u8],
-    timers: &mut [u32],
-    tick: u32,
-    moved: u32,
-) -> Ran
-    requires { moved + (length words.now - at) < 2 ^ 32 }
-    ensures { RungRun words.now at (state_with vars table.old (timers_in timers.old) tick moved)
-        result (state_with vars table.new (timers_in timers.new) tick) }
+pub fn run_rung(words: &[u32], at: usize, state: &mut State) -> Ran
+    requires { state.old.moved + (length words.now - at) < 2 ^ 32 }
+    ensures ran { RungRun words.now at (state_in state.old) result (state_in state.new) }
+    ensures same { SameLent state.old state.new }
 {
-    let front = front_at(words, at, table);
+    let front = front_at(words, at, state);
     // A rear that is an output takes no call of its own.
-    let word = rungs::word_at(words, front.next);
-    match ladder_kinds::sort_of(word / rungs::OPERANDS) {
-        KindSort::Output => {
-            return run_output(
-                vars,
-                word,
-                front.next + 1,
-                front.value,
-                table,
-                timers,
-                tick,
-                moved,
-            );
-        }
-        _ => {}
+    let word = rungs::at_or(words, front.next, 0);
+    if let Some(KindSort::Output) = ladder_kinds::sort_of(word / OPERANDS) {
+        return run_output(word, front.next + 1, front.value, state);
     }
-    rear_at(
-        vars,
-        words,
-        front.next,
-        front.value,
-        table,
-        timers,
-        tick,
-        moved,
-    )
+    rear_at(words, front.next, front.value, state)
 }

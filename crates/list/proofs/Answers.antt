@@ -1,4 +1,5 @@
 -- Laws of the questions in order: the first "no" of the calls. Assumes nothing.
+use Rattle.std.specs.Prelude.{Ok, Err}
 use Prim.Native.Nat.{ℕ, ◌+◌, ◌*◌, ◌/◌, ◌≤◌, ◌<◌}
 use native.Mathlib.Nat.{zero-add}
 use native.Mathlib.Omega.{arith}
@@ -17,7 +18,6 @@ use Rattle.questions.specs.Bytes.{same_bytes}
 use Rattle.questions.specs.Refusals.{refusal_of, verdict_answer}
 use Rattle.questions.specs.declared.Refusal.{Refusal as RefusalCase}
 use Rattle.questions.specs.declared.Refusal.TheVariants.{Variables, List as ListCase, Table, Watchdog, Buffer as BufferCase, Timers, TimerNumber}
-use Rattle.questions.specs.declared.Verdict.TheVariants.{Accepted, Refused}
 use Rattle.table.specs.State.{state_of}
 use Rattle.table.specs.Questions.{table_in_range, question11, timers_in_range, question16}
 use Rattle.table.specs.TimerRecords.{too_many, timers_in, whole, number_timers, numbers_after}
@@ -31,7 +31,6 @@ use Rattle.questions.proofs.Laws.Tests.{T→true}
 use Rattle.list_definitions.specs.Instruction.{code_of}
 use Rattle.list_definitions.specs.Names.{most_op, name_bytes, names_in, is_name, is_name_table, question14}
 use Rattle.list_definitions.specs.Listing.{listing_text, listing, listed_answer, ListingDone}
-use Rattle.list_definitions.specs.declared.Listed.TheVariants.{Written, Refused as RefusedListing}
 use Rattle.printing.specs.Put.{Put}
 use Rattle.list_machine.specs.Parts.{Ran}
 use Rattle.list_machine.proofs.Laws.Scans.{scan_in_range, scan_scans}
@@ -40,21 +39,21 @@ use Rattle.list_definitions.proofs.Laws.Answers.{scan_passed}
 use Rattle.list_definitions.proofs.Laws.InRange.{list_in_range_lem}
 use Rattle.list_definitions.proofs.Laws.Refusing.{first_accepted, names_accepted, scan_refuses}
 use Rattle.list_definitions.specs.Questions.{most_instructions, list_in_range, question10, timers_known, question17, list_answer}
+use Rattle.table.specs.declared.Halt.{Halt as HaltCase}
+use Rattle.list_definitions.specs.declared.Counts.{Counts as CountsStruct}
 use Rattle.list_definitions.specs.ListScan.{list_of, scan_questions, call_list_scan, ListScanDone, ListScanNumbers}
-use Rattle.list_definitions.specs.declared.ListScanned.{ListScanned}
-use Rattle.list_definitions.specs.declared.ListScanned.TheVariants.{Refused as RefusedScan}
 
 -- questions 1 and 10
 module _ (vars : ℕ) (ws : List ℕ) (rs : List RungRecord) where
-  pub refused_variables : vars_in_range vars ≡ false → verdict_answer (Refused Variables) ≡ list_answer vars ws rs
+  pub refused_variables : vars_in_range vars ≡ false → verdict_answer (Err Variables) ≡ list_answer vars ws rs
   unfolding verdict_answer refusal_of list_answer first_no question1 ask
   refused_variables e = rw e
 
-  pub refused_list : vars_in_range vars ≡ true → list_in_range vars ws rs ≡ false → verdict_answer (Refused ListCase) ≡ list_answer vars ws rs
+  pub refused_list : vars_in_range vars ≡ true → list_in_range vars ws rs ≡ false → verdict_answer (Err ListCase) ≡ list_answer vars ws rs
   unfolding verdict_answer refusal_of list_answer first_no question1 question10 ask
   refused_list e f = rw (e, f)
 
-  pub accepted_list : vars_in_range vars ≡ true → list_in_range vars ws rs ≡ true → verdict_answer Accepted ≡ list_answer vars ws rs
+  pub accepted_list : vars_in_range vars ≡ true → list_in_range vars ws rs ≡ true → verdict_answer (Ok tt) ≡ list_answer vars ws rs
   unfolding verdict_answer list_answer first_no question1 question10 ask
   accepted_list e f = rw (e, f)
 
@@ -100,17 +99,17 @@ taken_whole vars ks e = go (whole ks) refl
 
 -- its questions, of timer records in the numbers ks
 module _ (vars : ℕ) (ws : List ℕ) (rs : List RungRecord) (t ks : List ℕ) (w : ℕ) where
-  pub asked_variables : vars_in_range vars ≡ false → verdict_answer (Refused Variables) ≡ scan_questions vars ws rs t (number_timers ks) w
+  pub asked_variables : vars_in_range vars ≡ false → verdict_answer (Err Variables) ≡ scan_questions vars ws rs t (number_timers ks) w
   unfolding verdict_answer refusal_of scan_questions first_no question1 ask
   asked_variables e = rw e
 
   module _ (e1 : vars_in_range vars ≡ true) where
-    pub asked_timers : timers_in_range vars (number_timers ks) ≡ false → verdict_answer (Refused Timers) ≡ scan_questions vars ws rs t (number_timers ks) w
+    pub asked_timers : timers_in_range vars (number_timers ks) ≡ false → verdict_answer (Err Timers) ≡ scan_questions vars ws rs t (number_timers ks) w
     unfolding verdict_answer refusal_of scan_questions first_no question1 question16 ask
     asked_timers e = rw (e1, e)
 
     module _ (e16 : timers_in_range vars (number_timers ks) ≡ true) where
-      pub asked_list_lem : list_in_range vars ws rs ≡ false → verdict_answer (Refused ListCase) ≡ scan_questions vars ws rs t (number_timers ks) w
+      pub asked_list_lem : list_in_range vars ws rs ≡ false → verdict_answer (Err ListCase) ≡ scan_questions vars ws rs t (number_timers ks) w
       unfolding verdict_answer refusal_of scan_questions first_no question1 question16 question10 ask
       asked_list_lem e = rw (e1, e16, e)
 
@@ -123,20 +122,20 @@ module _ (vars : ℕ) (ws : List ℕ) (rs : List RungRecord) (t ks : List ℕ) (
             let n : length (timers_in ks) ≡ length ks / 5 = omega arith in
             rw (whole_timers ks h, n) (sym (q.same (code_of ws) (list_in_range_lem vars ws rs (rw e10 tt)).held))
 
-        pub asked_number : b ≡ false → verdict_answer (Refused TimerNumber) ≡ scan_questions vars ws rs t (number_timers ks) w
+        pub asked_number : b ≡ false → verdict_answer (Err TimerNumber) ≡ scan_questions vars ws rs t (number_timers ks) w
         unfolding verdict_answer refusal_of scan_questions first_no question1 question16 question10 question17 ask
         asked_number e = rw (e1, e16, e10, known, e)
 
         module _ (e17 : b ≡ true) where
-          pub asked_table : table_in_range vars t ≡ false → verdict_answer (Refused Table) ≡ scan_questions vars ws rs t (number_timers ks) w
+          pub asked_table : table_in_range vars t ≡ false → verdict_answer (Err Table) ≡ scan_questions vars ws rs t (number_timers ks) w
           unfolding verdict_answer refusal_of scan_questions first_no question1 question16 question10 question17 question11 ask
           asked_table e = rw (e1, e16, e10, known, e17, e)
 
-          pub asked_watchdog_lem : table_in_range vars t ≡ true → leb w most_instruction_watchdog ≡ false → verdict_answer (Refused Watchdog) ≡ scan_questions vars ws rs t (number_timers ks) w
+          pub asked_watchdog_lem : table_in_range vars t ≡ true → leb w most_instruction_watchdog ≡ false → verdict_answer (Err Watchdog) ≡ scan_questions vars ws rs t (number_timers ks) w
           unfolding verdict_answer refusal_of scan_questions first_no question1 question16 question10 question17 question11 question12 ask
           asked_watchdog_lem e f = rw (e1, e16, e10, known, e17, e, f)
 
-          pub asked_accepted : table_in_range vars t ≡ true → leb w most_instruction_watchdog ≡ true → verdict_answer Accepted ≡ scan_questions vars ws rs t (number_timers ks) w
+          pub asked_accepted : table_in_range vars t ≡ true → leb w most_instruction_watchdog ≡ true → verdict_answer (Ok tt) ≡ scan_questions vars ws rs t (number_timers ks) w
           unfolding verdict_answer scan_questions first_no question1 question16 question10 question17 question11 question12 ask
           asked_accepted e f = rw (e1, e16, e10, known, e17, e, f)
 
@@ -150,7 +149,7 @@ numbers_same ks = go (whole ks) refl
     go false q = rw q refl
 
 pub scan_refused : (vars : ℕ) (ws : List ℕ) (rs : List RungRecord) (t ks : List ℕ) (tick w : ℕ) (refusal : RefusalCase) (times : List ℕ)
-    → scan_questions vars ws rs t (number_timers ks) w ≡ some (refusal_of refusal) → ListScanNumbers (call_list_scan vars ws rs t (number_timers ks) tick w) (RefusedScan refusal) t ks ks times times
+    → scan_questions vars ws rs t (number_timers ks) w ≡ some (refusal_of refusal) → ListScanNumbers (call_list_scan vars ws rs t (number_timers ks) tick w) (Err refusal) t ks ks times times
 scan_refused vars ws rs t ks tick w refusal times e =
     let d = scan_refuses vars ws rs t (number_timers ks) tick w refusal times e in
     record { done = d; numbers = sym (numbers_same ks) ∙ ap (numbers_after ks) d.same_timers }
@@ -174,10 +173,10 @@ module _ (vars : ℕ) (ws ls os ns before t ks : List ℕ) (w : ℕ) (ok : scan_
   as_many = sym many ∙ even.first
 
   -- the scan of it, which left the numbers ms
-  pub scanned_row : (tick : ℕ) (r : ListScanned) (after u ms : List ℕ) → length ms ≡ length ks → Ran ws os before (state_of vars t (timers_in ks) tick) w r after u (timers_in ms)
-      → ListScanNumbers (call_list_scan vars ws (row_of ls os ns before) t (number_timers ks) tick w) r u ks ms before after
+  pub scanned_row : (tick : ℕ) (r : HaltCase CountsStruct) (after u ms : List ℕ) → length ms ≡ length ks → Ran ws os before (state_of vars t (timers_in ks) tick) w r after u (timers_in ms)
+      → ListScanNumbers (call_list_scan vars ws (row_of ls os ns before) t (number_timers ks) tick w) (Ok r) u ks ms before after
   scanned_row tick r after u ms long ran =
-      let d : ListScanDone (call_list_scan vars ws (row_of ls os ns before) t (number_timers ks) tick w) r u (timers_in ms) before after =
+      let d : ListScanDone (call_list_scan vars ws (row_of ls os ns before) t (number_timers ks) tick w) (Ok r) u (timers_in ms) before after =
       rw (row_fields ls os ns before many)
       (scan_scans vars ws (fields_of ls os ns) t (number_timers ks) w tick before r after u (timers_in ms) asked (rw (row_offsets ls os ns even, whole_timers ks none_over) ran)) in
       record {
@@ -199,7 +198,7 @@ module _ (table : List ℕ) (vars : ℕ) (ws : List ℕ) (rs : List RungRecord) 
   abbrev answers : List Answer
   answers = question14 table ∷ question1 vars ∷ question10 vars ws rs ∷ question13 (record { needed = length text; lent = length out } ∷ []) ∷ []
 
-  refuses_listing : (refusal : RefusalCase) → first_no answers ≡ some (refusal_of refusal) → ListingDone (listing table vars ws rs out) (RefusedListing refusal) out
+  refuses_listing : (refusal : RefusalCase) → first_no answers ≡ some (refusal_of refusal) → ListingDone (listing table vars ws rs out) (Err refusal) out
   unfolding listing listed_answer
   refuses_listing refusal e = record { answer = rw (e, listing); same_buffer = rw (e, listing) }
 
@@ -209,13 +208,13 @@ module _ (table : List ℕ) (vars : ℕ) (ws : List ℕ) (rs : List RungRecord) 
     last = names_accepted table named _ ∙ first_accepted (question1 vars) (question10 vars ws rs) _ ok
 
     -- the bytes were counted over a buffer of none
-    listing_short : (n : ℕ) (u : List ℕ) → Put [] 0 text n u → length out < n → ListingDone (listing table vars ws rs out) (RefusedListing BufferCase) out
-    unfolding first_no question13 all long_enough ask refusal_of
+    listing_short : (n : ℕ) (u : List ℕ) → Put [] 0 text n u → length out < n → ListingDone (listing table vars ws rs out) (Err BufferCase) out
+    unfolding first_no question13 long_enough ask refusal_of
     listing_short n u p h = let e = p.end in refuses_listing BufferCase (last ∙ rw (lt-leb (length text) (length out) (omega arith)))
 
     listing_written : (n : ℕ) (u : List ℕ) → Put [] 0 text n u → n ≤ length out
-        → (r : ℕ) (v : List ℕ) → Put out 0 text r v → ListingDone (listing table vars ws rs out) (Written r) v
-    unfolding first_no question13 all long_enough ask listing listed_answer
+        → (r : ℕ) (v : List ℕ) → Put out 0 text r v → ListingDone (listing table vars ws rs out) (Ok r) v
+    unfolding first_no question13 long_enough ask listing listed_answer
     listing_written n u p h r v w =
         let e = p.end in
         let f = w.end in
@@ -233,9 +232,9 @@ module _ (table : List ℕ) (vars : ℕ) (ws ls os ns ts out : List ℕ) (named 
   same_row = row_accepted vars ws ls os ns ts ok
 
   pub row_short : (n : ℕ) (u : List ℕ) → Put [] 0 (listing_text (names_in table) vars (list_of ws (fields_of ls os ns))) n u → length out < n
-      → ListingDone (listing table vars ws (row_of ls os ns ts) out) (RefusedListing BufferCase) out
+      → ListingDone (listing table vars ws (row_of ls os ns ts) out) (Err BufferCase) out
   row_short n u p h = rw same_row (listing_short table vars ws (fields_of ls os ns) out named (rw same_row at ok) n u p h)
 
   pub row_written : (n : ℕ) (u : List ℕ) → Put [] 0 (listing_text (names_in table) vars (list_of ws (fields_of ls os ns))) n u → n ≤ length out
-      → (r : ℕ) (v : List ℕ) → Put out 0 (listing_text (names_in table) vars (list_of ws (fields_of ls os ns))) r v → ListingDone (listing table vars ws (row_of ls os ns ts) out) (Written r) v
+      → (r : ℕ) (v : List ℕ) → Put out 0 (listing_text (names_in table) vars (list_of ws (fields_of ls os ns))) r v → ListingDone (listing table vars ws (row_of ls os ns ts) out) (Ok r) v
   row_written n u p h r v w = rw same_row (listing_written table vars ws (fields_of ls os ns) out named (rw same_row at ok) n u p h r v w)

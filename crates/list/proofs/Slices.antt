@@ -1,4 +1,5 @@
 -- Laws of List scan with timer records in five slices, done on a copy of their numbers. Assumes nothing.
+use Rattle.std.specs.Prelude.{Err}
 use Prim.Native.Nat.{ℕ, ◌≤◌}
 use native.Mathlib.Omega.{arith}
 use mathlib.Core.Path.{◌≡◌, refl, sym, ap, subst, ◌∙◌}
@@ -13,21 +14,15 @@ use Rattle.questions.specs.declared.Refusal.{Refusal as RefusalCase}
 use Rattle.questions.specs.declared.Refusal.TheVariants.{Variables, Timers}
 use Rattle.table.specs.Questions.{question16}
 use Rattle.table.specs.TimerRecords.{Columns, columns, one_length, column_timers, timer_columns, columns_after, timer_numbers, timers_in, number_timers}
-use Rattle.timers.specs.Parts.{can_pack, Packable, Packed, Unpackable, Unpacked}
+use Rattle.timers.specs.Parts.{packs, Packable, Packed, Unpackable, Unpacked}
 use Rattle.table.proofs.Laws.TimerRecords.{numbers_back, whole_timers}
 use Rattle.timers.proofs.Laws.Numbers.{numbers_whole, five_whole}
 use Rattle.timers.proofs.Laws.Columns.{one_length_lem, columns_back, timers_back, columns_after_lem, can_pack_lem, cannot_pack}
 use Rattle.timers.proofs.Laws.Kept.{RecordsKept, columns_left}
 use Rattle.rungs.specs.Records.{RungRecord}
-use Rattle.list_definitions.specs.ListScan.{ListScanCall, scan_questions, call_list_scan, ListScanDone, ListScanNumbers, ListScanColumns}
+use Rattle.list_definitions.specs.ListScan.{ListScanCall, ListScanned, scan_questions, call_list_scan, ListScanDone, ListScanNumbers, ListScanColumns}
 use Rattle.list_definitions.proofs.Laws.Refusing.{scan_refuses}
-use Rattle.list_definitions.specs.declared.ListScanned.{ListScanned}
-use Rattle.list_definitions.specs.declared.ListScanned.TheVariants.{Refused as RefusedScan}
 use Rattle.list.proofs.Kept.{call_kept_lem}
-
--- whether the five slices can be packed
-abbrev packs : Columns → Bool
-packs c = can_pack (length c.preset) (length c.start) (length c.variable) (length c.running) (length c.done)
 
 -- room for the numbers of 32 records
 pub packable : (c : Columns) → packs c ≡ true → (out : List ℕ) → 160 ≤ length out → Packable c out
@@ -54,7 +49,7 @@ module _ (vars : ℕ) (ws : List ℕ) (rs : List RungRecord) (t : List ℕ) (c :
   abbrev call : ListScanCall
   call = call_list_scan vars ws rs t (column_timers c) tick w
 
-  slices_refused : (refusal : RefusalCase) → scan_questions vars ws rs t (column_timers c) w ≡ some (refusal_of refusal) → ListScanColumns call (RefusedScan refusal) t c c times times
+  slices_refused : (refusal : RefusalCase) → scan_questions vars ws rs t (column_timers c) w ≡ some (refusal_of refusal) → ListScanColumns call (Err refusal) t c c times times
   slices_refused refusal e =
       let d = scan_refuses vars ws rs t (column_timers c) tick w refusal times e in
       record { done = d; slices = sym (columns_same c) ∙ ap (columns_after c) d.same_timers }
@@ -65,14 +60,14 @@ module _ (vars : ℕ) (ws : List ℕ) (rs : List RungRecord) (t : List ℕ) (c :
     unfolding scan_questions first_no question1 ask refusal_of
     first_variables e = rw e
 
-    pub slices_variables : vars_in_range vars ≡ false → ListScanColumns call (RefusedScan Variables) t c c times times
+    pub slices_variables : vars_in_range vars ≡ false → ListScanColumns call (Err Variables) t c c times times
     slices_variables e = slices_refused Variables (first_variables e)
 
     first_timers : vars_in_range vars ≡ true → scan_questions vars ws rs t (column_timers c) w ≡ some (refusal_of Timers)
     unfolding scan_questions first_no question1 question16 ask refusal_of
     first_timers e = rw (e, cannot_pack c no vars)
 
-    pub slices_timers : vars_in_range vars ≡ true → ListScanColumns call (RefusedScan Timers) t c c times times
+    pub slices_timers : vars_in_range vars ≡ true → ListScanColumns call (Err Timers) t c c times times
     slices_timers e = slices_refused Timers (first_timers e)
 
   -- slices that were packed into n numbers from a buffer's start

@@ -4,7 +4,7 @@ use Rattle.std.proofs.Math.Option.{some}
 use mathlib.Core.List.{List, [], ◌∷◌, ◌++◌, map, flat_map, zip_with}
 use Rattle.std.proofs.Math.Bool.{xor}
 use Rattle.questions.specs.Bytes.{bytes, decimal, digits, same_bytes}
-use Rattle.questions.specs.Tests.{all, different}
+use Rattle.questions.specs.Tests.{different}
 use Rattle.questions.specs.Questions.{Answer, yes, ask, vars_in_range, question1, first_no}
 use Rattle.table.specs.Timer.{Timer, elapsed, started, tested, powered}
 use Rattle.table.specs.State.{State, state_of, scratch_bytes, variables, value_at, value, written_at, turns, write, write_if, set_timer, run_timer}
@@ -186,7 +186,7 @@ answers =
     ∷ []
 
 answers_worked : answers ≡ yes ∷ no_place ∷ no_place ∷ yes ∷ no_place ∷ yes ∷ no_place ∷ yes ∷ no_place ∷ yes ∷ no_place ∷ no_place ∷ yes ∷ no_place ∷ yes ∷ no_timer ∷ yes ∷ no_place ∷ no_place ∷ []
-unfolding answers no_place no_timer operand_timed timers_known question17 words list_answer first_no question1 vars_in_range question10 list_in_range ask all laid records_laid word_in_range operand_in_range operand decode_instr ops only_not instr_word op_of operand_number
+unfolding answers no_place no_timer operand_timed timers_known question17 words list_answer first_no question1 vars_in_range question10 list_in_range ask laid records_laid word_in_range operand_in_range operand decode_instr ops only_not instr_word op_of operand_number
 answers_worked = refl
 
 -- document 01, "Listing": what stands above the count line
@@ -294,7 +294,7 @@ no_names : Answer
 no_names = some (record { number = 14; place = 0 })
 
 tables_worked : tables ≡ yes ∷ yes ∷ no_names ∷ no_names ∷ no_names ∷ no_names ∷ no_names ∷ no_names ∷ no_names ∷ no_names ∷ []
-unfolding tables no_names park_table zeros fixed_table bytes fixed_names trimmed flat_map all ask names_from is_capital is_name same_bytes different is_name_table question14
+unfolding tables no_names park_table zeros fixed_table bytes fixed_names trimmed flat_map ask names_from is_capital is_name same_bytes different is_name_table question14
 tables_worked = refl
 
 -- a list in the park's names

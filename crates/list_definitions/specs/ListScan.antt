@@ -1,21 +1,22 @@
 -- The call List scan: its answer, the table, the times entered and the timer records afterwards, for all inputs. Document 01, "What a list does", "Questions
 -- before work"; 02, Req 04 and 06. Assumes nothing.
-use Rattle.std.specs.Prelude.{ℕ, ◌≡◌, List, [], ◌∷◌, length}
+use Rattle.std.specs.Prelude.{ℕ, ◌≡◌, List, [], ◌∷◌, length, Result, Ok, Err}
 use Rattle.std.proofs.Math.Option.{none, some}
 use Rattle.questions.specs.Questions.{Refusal, Answer, first_no, question1, question12, most_instruction_watchdog}
 use Rattle.questions.specs.Refusals.{refusal_of}
+use Rattle.questions.specs.declared.Refusal.{Refusal as RefusalCase}
 use Rattle.table.specs.Timer.{Timer}
 use Rattle.table.specs.State.{state_of}
 use Rattle.table.specs.TimerRecords.{Columns, column_timers, columns_after, number_timers, numbers_after}
 use Rattle.table.specs.Halt.{Halt, Ended, Stopped}
+use Rattle.table.specs.declared.Halt.{Halt as HaltCase}
+use Rattle.table.specs.declared.Halt.TheVariants.{Ended as EndedCase, Stopped as StoppedCase}
 use Rattle.table.specs.Questions.{question11, question16}
 use Rattle.rungs.specs.Records.{RungRecord}
 use Rattle.list_definitions.specs.Instruction.{code_of}
 use Rattle.list_definitions.specs.Machine.{InstructionList, ListResult, scan_list}
 use Rattle.list_definitions.specs.Questions.{question10, question17}
 use Rattle.list_definitions.specs.declared.Counts.{Counts as CountsStruct}
-use Rattle.list_definitions.specs.declared.ListScanned.{ListScanned}
-use Rattle.list_definitions.specs.declared.ListScanned.TheVariants.{Ended as EndedCase, Stopped as StoppedCase, Refused as RefusedCase}
 
 -- the counts that List scan answers: the instructions carried out, the rungs entered, and how many times a variable was turned over (02, Req 02: "both scans
 -- add these up in their answers, Stopped ones included")
@@ -70,11 +71,15 @@ call_list_scan vars words rs table timers now watchdog = elim (scan_questions va
 unfoldable pub counts_in : CountsStruct → ListCounts
 counts_in c = record { instructions = c.instructions; rungs = c.rungs; moved = c.moved }
 
--- document 01's values for each case of the enum ListScanned
+-- what list_scan answers
+abbrev pub ListScanned : Type 0
+ListScanned = Result (HaltCase CountsStruct) RefusalCase
+
+-- document 01's values for each case of it
 unfoldable pub list_scanned_answer : ListScanned → ListScanAnswer
-list_scanned_answer (EndedCase c) = scanned Ended (counts_in c)
-list_scanned_answer (StoppedCase c) = scanned Stopped (counts_in c)
-list_scanned_answer (RefusedCase refusal) = refused (refusal_of refusal)
+list_scanned_answer (Ok (EndedCase c)) = scanned Ended (counts_in c)
+list_scanned_answer (Ok (StoppedCase c)) = scanned Stopped (counts_in c)
+list_scanned_answer (Err refusal) = refused (refusal_of refusal)
 
 -- the promise of list_scan: answer, table, timer records and times entered are those of the definition
 pub record ListScanDone (call : ListScanCall) (r : ListScanned) (table : List ℕ) (timers : List Timer) (before after : List ℕ) : Type 0 where

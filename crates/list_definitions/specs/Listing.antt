@@ -1,18 +1,17 @@
 -- The call Listing: the printed list, and the call's answer and buffer afterwards, for all inputs. Document 01, "Listing"; 02, Req 05. Assumes nothing.
-use Rattle.std.specs.Prelude.{ℕ, ◌-◌, ◌≡◌, true, false, ltb, length, take, drop}
+use Rattle.std.specs.Prelude.{ℕ, ◌-◌, ◌≡◌, true, false, ltb, length, take, drop, Result, Ok, Err}
 use Rattle.std.proofs.Math.Option.{none, some}
 use mathlib.Core.List.{List, [], ◌∷◌, ◌++◌, map, flat_map}
 use Rattle.questions.specs.Bytes.{byte, decimal}
 use Rattle.questions.specs.Questions.{Refusal, first_no, question1, question13}
 use Rattle.questions.specs.Refusals.{refusal_of}
+use Rattle.questions.specs.declared.Refusal.{Refusal as RefusalCase}
 use Rattle.rungs.specs.Records.{RungRecord}
 use Rattle.list_definitions.specs.Instruction.{Instr, Operand, table_index, no_operand, instruction_index, timer_number, operand, op_of}
 use Rattle.list_definitions.specs.Machine.{InstructionList}
 use Rattle.list_definitions.specs.Questions.{question10}
 use Rattle.list_definitions.specs.ListScan.{list_of}
 use Rattle.list_definitions.specs.Names.{Names, name_of, names_in, question14}
-use Rattle.list_definitions.specs.declared.Listed.{Listed}
-use Rattle.list_definitions.specs.declared.Listed.TheVariants.{Written, Refused as RefusedCase}
 
 -- "space, operand (NOT: name only). Operands are v or t with its number, or @ with the index." 02, Req 06: "Listing shows a timer as d
 -- with its number"
@@ -63,10 +62,14 @@ listing table vars words rs out =
       | none ↦ record { answer = written (length text); buffer = text ++ drop (length text) out }
     ]
 
--- document 01's values for each case of the enum Listed
+-- what listing answers: the bytes written, or the refusal
+abbrev pub Listed : Type 0
+Listed = Result ℕ RefusalCase
+
+-- document 01's values for each case of it
 unfoldable pub listed_answer : Listed → ListingAnswer
-listed_answer (Written n) = written n
-listed_answer (RefusedCase refusal) = refused (refusal_of refusal)
+listed_answer (Ok n) = written n
+listed_answer (Err refusal) = refused (refusal_of refusal)
 
 -- the promise of listing: answer and buffer are those of the definition
 pub record ListingDone (call : ListingCall) (r : Listed) (out : List ℕ) : Type 0 where

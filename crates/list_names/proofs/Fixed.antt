@@ -1,15 +1,12 @@
 -- Laws of the fixed table as it is written, name by name. Assumes nothing.
 use Prim.Native.Nat.{ℕ, suc, ◌+◌, ◌-◌, ◌*◌, ◌≤◌, ◌<◌}
-use native.Mathlib.Nat.{add-zero}
-use native.Mathlib.Numerals.{add-one}
 use native.Mathlib.Omega.{arith}
 use mathlib.Core.Path.{◌≡◌, refl, ap, ◌∙◌}
-use mathlib.Core.List.{List, [], ◌∷◌, ◌++◌, flat_map, append-nil}
+use mathlib.Core.List.{List, [], ◌++◌, flat_map, append-nil}
 use lib.Dec.{eqb, eqb→eq}
 use lib.ListN.{length, get_or, drop, drop_of_length-le}
 use lib.Seq.{drop-cons, sets-eq}
 use Rattle.questions.specs.Bytes.{bytes}
-use Rattle.questions.specs.Tests.{all}
 use Rattle.questions.proofs.Laws.Tests.{all_get_d}
 use Rattle.list_definitions.specs.Names.{fixed_names, most_op, name_bytes, fixed_table}
 use Rattle.list_definitions.proofs.Laws.Names.{fixed_names_lem, fixed_accepted}
@@ -19,31 +16,8 @@ use Rattle.list_names.specs.Parts.{FixedNamesPut}
 
 -- each fixed name has six bytes
 pub fixed_long : (p : ℕ) → p < most_op → length (get_or fixed_names p []) ≡ 6
-unfolding fixed_names bytes all
+unfolding fixed_names bytes
 fixed_long p h = eqb→eq (length (get_or fixed_names p [])) 6 (all_get_d (λ name. eqb (length name) 6) fixed_names p [] h tt)
-
--- a name of which k bytes are written
-pub record Naming (l : List ℕ) (at : ℕ) (name x : List ℕ) (k : ℕ) : Type 0 where
-  pub left : Left l at name x (at + k) (drop k name)
-  pub within : k ≤ 6
-  pub six : length name ≡ 6
-
-pub naming_start : (l : List ℕ) (at : ℕ) (name : List ℕ) → length name ≡ 6 → Naming l at name l 0
-naming_start l at name h = record { left = rw add-zero (all_left l at name); within = omega arith; six = h }
-
-module _ {l : List ℕ} {at : ℕ} {name x : List ℕ} {k : ℕ} (h : Naming l at name x k) where
-  pub naming_more : {r : ℕ} {y : List ℕ} → k < 6 → Put x (at + k) (get_or name k 0 ∷ []) r y → Naming l at name y (k + 1)
-  naming_more {r} {y} lt p =
-      let q : r ≡ at + suc k = omega (arith, p.end) in
-      let n = h.six in
-      record {
-        left = rw (add-one, ← q) (left_more h.left (drop-cons name k 0 (omega arith)) p);
-        within = omega arith;
-        six = h.six;
-      }
-
-  pub naming_end : 6 ≤ k → Put l at name (at + k) x
-  naming_end e = left_none h.left (drop_of_length-le name {i = k} (omega (arith, h.six)))
 
 table_long : length fixed_table ≡ name_bytes * most_op
 unfolding fixed_table fixed_names bytes flat_map

@@ -1,16 +1,18 @@
 -- Laws of the printed list: texts written one after the other, how long they are, and the words and records that they print. Assumes nothing.
-use mathlib.Core.Path.{◌≡◌, refl, sym, ap, subst, ◌∙◌}
+use mathlib.Core.Path.{◌≡◌, refl, ap, ◌∙◌}
 use mathlib.Core.Bool.{Bool, true, false}
 use mathlib.Core.Option.{Option, none, some}
 use mathlib.Core.List.{List, [], ◌∷◌, ◌++◌, map, flat_map}
-use Prim.Native.Nat.{ℕ, zero, suc, ◌+◌, ◌-◌, ◌*◌, ◌≤◌, ◌<◌}
-use native.Mathlib.Nat.{add-zero, suc-add, zero-add}
+use Rattle.std.specs.List.{position}
+use Rattle.std.proofs.Math.ListN.{length-take, length-drop}
+use Rattle.std.specs.Option.{unwrap_or}
+use Prim.Native.Nat.{ℕ, suc, ◌+◌, ◌-◌, ◌*◌, ◌≤◌, ◌<◌}
 use native.Mathlib.Numerals.{add-one}
 use native.Mathlib.Omega.{arith}
-use borrow.Author.Tests.{eq-eqb, ne_eqb, lt-ltb, le-ltb, ltb-true, ltb-false}
-use lib.Dec.{T, ltb}
+use borrow.Author.Tests.{lt-ltb, le-ltb, ltb-true, ltb-false}
+use lib.Dec.{T, ltb, eqb}
 use lib.ListN.{length, get_or, take, drop, length-append, drop_of_length-le}
-use lib.Seq.{get_or-take, get_or-drop, slice, slice_empty, slice-cons, length-slice, take-nil}
+use lib.Seq.{drop-cons, get_or-take, get_or-drop}
 use Rattle.questions.proofs.Laws.Maps.{take_map, drop_map, flat_map_append}
 use Rattle.questions.specs.Bytes.{byte, decimal}
 use Rattle.rungs.specs.Words.{operands, number_of, operand_of}
@@ -19,24 +21,19 @@ use Rattle.list_definitions.specs.Instruction.{Instr, LD, LDN, ST, STN, AND, AND
 use Rattle.list_definitions.proofs.Laws.Decoding.{number_small, instr_decoded}
 use Rattle.list_definitions.specs.Questions.{list_in_range}
 use Rattle.list_definitions.specs.ListScan.{list_of}
-use Rattle.list_definitions.specs.Names.{Names, trimmed, name_of, most_op, names_in}
+use Rattle.list_definitions.specs.Names.{Names, name_of, most_op, names_in}
 use Rattle.list_definitions.proofs.Laws.Names.{trimmed_long, name_at_lem, name_short, op_in_table}
 use Rattle.list_definitions.specs.Listing.{operand_text, instr_line, label_line, rung_lines, listing_lines, ended, listing_text}
 use Rattle.rungs.proofs.Laws.Rows.{row_length, row_at}
 use Rattle.rungs.proofs.Laws.Layout.{laid_next_lem, laid_most}
 use Rattle.list_printing.proofs.Accepting.{ListAccepted, list_accepted}
+use Rattle.list_names.proofs.Letters.{trimmed_taken}
 use Rattle.printing.specs.Put.{Put}
 use Rattle.printing.proofs.Laws.Puts.{put_then, put_as, Left, all_left, left_none, left_more, decimal_long}
 use Rattle.list_definitions.specs.Decoding.{instr_of, Decodes}
 use Rattle.list_printing.specs.Parts.{word_line, word_lines, operand_in, operand_by, RungReady}
 
 -- The names.
-
--- a byte of a table's name
-pub name_byte : (table : List ℕ) (p k : ℕ) → p < most_op → k < 6 → get_or table (p * 6 + k) 0 ≡ get_or (get_or (names_in table) p []) k 0
-name_byte table p k h l =
-    let e : 6 * p ≡ p * 6 = omega arith in
-    sym (rw (name_at_lem most_op table p h, get_or-take 6 (drop (6 * p) table) k 0 l, e) (get_or-drop (p * 6) table k 0))
 
 -- names of at most six letters
 abbrev pub Short : Names → Type 0
@@ -50,56 +47,15 @@ name_long names short op = omega (arith, short (op - 1), trimmed_long (get_or na
 pub name_reach : (table : List ℕ) (op : ℕ) {l : List ℕ} {at r : ℕ} {x : List ℕ} → Put l at (name_of (names_in table) op) r x → r ≤ at + 6
 name_reach table op p = omega (arith, p.end, name_long (names_in table) (name_short most_op table) op)
 
-trimmed_zero : (name : List ℕ) (k : ℕ) → get_or name k 0 ≡ 0 → trimmed (drop k name) ≡ []
-unfolding trimmed
-trimmed_zero [] zero e = refl
-trimmed_zero [] (suc k) e = refl
-trimmed_zero (b ∷ bs) zero e = rw (eq-eqb b 0 e, trimmed)
-trimmed_zero (b ∷ bs) (suc k) e = trimmed_zero bs k e
-
-trimmed_more : (name : List ℕ) (k : ℕ) → (get_or name k 0 ≡ 0 → ⊥) → trimmed (drop k name) ≡ get_or name k 0 ∷ trimmed (drop (suc k) name)
-unfolding trimmed
-trimmed_more [] zero e = absurd (e refl)
-trimmed_more [] (suc k) e = absurd (e refl)
-trimmed_more (b ∷ bs) zero e = rw (ne_eqb b 0 e, trimmed)
-trimmed_more (b ∷ bs) (suc k) e = trimmed_more bs k e
-
--- a name of which k bytes are written
-pub record Naming (l : List ℕ) (at : ℕ) (name x : List ℕ) (k : ℕ) : Type 0 where
-  pub left : Left l at (trimmed name) x (at + k) (trimmed (drop k name))
-  pub within : k ≤ 6
-  pub short : length name ≤ 6
-
-pub naming_start : (l : List ℕ) (at : ℕ) (name : List ℕ) → length name ≤ 6 → Naming l at name l 0
-naming_start l at name h = record { left = rw add-zero (all_left l at (trimmed name)); within = omega arith; short = h }
-
-module _ {l : List ℕ} {at : ℕ} {name x : List ℕ} {k : ℕ} (h : Naming l at name x k) where
-  pub naming_stop : get_or name k 0 ≡ 0 → Put l at (trimmed name) (at + k) x
-  naming_stop e = left_none h.left (trimmed_zero name k e)
-
-  pub naming_end : 6 ≤ k → Put l at (trimmed name) (at + k) x
-  unfolding trimmed
-  naming_end e = left_none h.left (rw (drop_of_length-le name {i = k} (omega (arith, h.short))))
-
-  pub naming_more : {r : ℕ} {y : List ℕ} → k < 6 → (get_or name k 0 ≡ 0 → ⊥) → Put x (at + k) (get_or name k 0 ∷ []) r y → Naming l at name y (k + 1)
-  naming_more {r} {y} lt e p =
-      let q : r ≡ at + suc k = omega (arith, p.end) in
-      record {
-        left = rw (add-one, ← q) (left_more h.left (trimmed_more name k e) p);
-        within = omega arith;
-        short = h.short;
-      }
-
--- the same of a table's name, byte by byte
-module _ (table : List ℕ) (p : ℕ) (known : p < most_op) {l : List ℕ} {at : ℕ} {x : List ℕ} {k : ℕ} (h : Naming l at (get_or (names_in table) p []) x k) (lt : k < 6) where
-  pub table_stop : get_or table (p * 6 + k) 0 ≡ 0 → Put l at (trimmed (get_or (names_in table) p [])) (at + k) x
-  table_stop e = naming_stop h (sym (name_byte table p k known lt) ∙ e)
-
-  pub table_more : {r : ℕ} {y : List ℕ} → (get_or table (p * 6 + k) 0 ≡ 0 → ⊥) → Put x (at + k) (get_or table (p * 6 + k) 0 ∷ []) r y
-      → Naming l at (get_or (names_in table) p []) y (k + 1)
-  table_more {r} {y} e q =
-      let b = name_byte table p k known lt in
-      naming_more h lt (λ z. e (b ∙ z)) (subst (λ c. Put x (at + k) (c ∷ []) r y) b q)
+-- the name of an op in a table, by where its filling begins
+pub name_taken : (table : List ℕ) (op n : ℕ) → 1 ≤ op → op ≤ most_op → length table ≡ 6 * most_op → n ≡ 6
+    → let name = take n (drop ((op - 1) * 6) table) in name_of (names_in table) op ≡ take (unwrap_or (position (λ b. eqb b 0) name) 6) name
+unfolding name_of
+name_taken table op n l h e six =
+    let name = take 6 (drop ((op - 1) * 6) table) in
+    let at : get_or (names_in table) (op - 1) [] ≡ name = name_at_lem most_op table (op - 1) (omega arith) ∙ (let q : 6 * (op - 1) ≡ (op - 1) * 6 = omega arith in rw q refl) in
+    let long : length name ≡ 6 = simp (length-take, length-drop) (omega (arith, e)) in
+    rw (six, at, trimmed_taken name, long) refl
 
 -- The operands, by the sort of their op.
 
@@ -198,36 +154,31 @@ module _ (names : Names) (short : Short names) where
       let more = words_long vars ws in
       rw (length-append (word_line names vars w) (word_lines names vars ws)) (omega arith)
 
--- words from one index up to another, of which those below i are printed
-pub record Printing (names : Names) (vars : ℕ) (ws : List ℕ) (from to at : ℕ) (l x : List ℕ) (m i : ℕ) : Type 0 where
-  pub left : Left l at (word_lines names vars (slice from to ws)) x m (word_lines names vars (slice i to ws))
-  pub within : i ≤ to
-  pub room : m + 14 * (to - i) < 500000
+-- words of which those below i are printed
+pub record Printing (names : Names) (vars : ℕ) (ws : List ℕ) (at : ℕ) (l x : List ℕ) (m i : ℕ) : Type 0 where
+  pub left : Left l at (word_lines names vars ws) x m (word_lines names vars (drop i ws))
+  pub within : i ≤ length ws
+  pub room : m + 14 * (length ws - i) < 500000
 
-pub printing_start : {names : Names} {vars : ℕ} {ws : List ℕ} {from to at : ℕ} (l : List ℕ) → RungReady vars ws from to at → Printing names vars ws from to at l l at from
-printing_start {names} {vars} {ws} {from} {to} {at} l h = record { left = all_left l at (word_lines names vars (slice from to ws)); within = h.ordered; room = h.room }
+pub printing_start : {names : Names} {vars : ℕ} {ws : List ℕ} {at : ℕ} (l : List ℕ) → RungReady vars ws at → Printing names vars ws at l l at 0
+printing_start {names} {vars} {ws} {at} l h = record { left = all_left l at (word_lines names vars ws); within = omega arith; room = omega (arith, h.room) }
 
-module _ {names : Names} {vars : ℕ} {ws : List ℕ} {from to at : ℕ} {l x : List ℕ} {m i : ℕ} (h : Printing names vars ws from to at l x m i) where
-  pub printing_more : Short names → {r : ℕ} {y : List ℕ} → to ≤ length ws → i < to → Put x m (word_line names vars (get_or ws i 0)) r y → Printing names vars ws from to at l y r (i + 1)
+module _ {names : Names} {vars : ℕ} {ws : List ℕ} {at : ℕ} {l x : List ℕ} {m i : ℕ} (h : Printing names vars ws at l x m i) where
+  pub printing_more : Short names → {r : ℕ} {y : List ℕ} → i < length ws → Put x m (word_line names vars (get_or ws i 0)) r y → Printing names vars ws at l y r (i + 1)
   unfolding word_lines flat_map
-  printing_more short within lt p =
+  printing_more short lt p =
       let n = word_long names short vars (get_or ws i 0) in
       record {
-        left = rw add-one (left_more h.left (rw (slice-cons i to ws 0 lt within)) p);
+        left = rw add-one (left_more h.left (rw (drop-cons ws i 0 lt)) p);
         within = omega arith;
         room = omega (arith, p.end, h.room);
       }
 
-  pub printing_end : to ≤ i → Put l at (word_lines names vars (slice from to ws)) m x
+  pub printing_end : length ws ≤ i → Put l at (word_lines names vars ws) m x
   unfolding word_lines flat_map
-  printing_end le = let e : i ≡ to = omega (arith, h.within) in left_none h.left (rw (e, slice_empty to ws))
+  printing_end le = left_none h.left (rw (drop_of_length-le ws le))
 
 -- The text of records over words.
-
-slice_add : (o n : ℕ) (ws : List ℕ) → slice o (o + n) ws ≡ take n (drop o ws)
-slice_add zero n ws = rw zero-add
-slice_add (suc o) n [] = rw (suc-add, take-nil)
-slice_add (suc o) n (w ∷ ws) = rw suc-add (slice_add o n ws)
 
 lines_of_words : (names : Names) (vars : ℕ) (ws : List ℕ) → flat_map ended (map (instr_line names vars) (map instr_of ws)) ≡ word_lines names vars ws
 unfolding flat_map word_lines word_line
@@ -237,13 +188,13 @@ lines_of_words names vars (w ∷ ws) = ap (λ l. word_line names vars w ++ l) (l
 -- a label's line and its words' lines, record by record
 unfoldable pub rungs_text : Names → ℕ → List ℕ → List RungRecord → List ℕ
 rungs_text names vars ws [] = []
-rungs_text names vars ws (r ∷ rs) = ended (label_line r.label) ++ word_lines names vars (slice r.offset (r.offset + r.length) ws) ++ rungs_text names vars ws rs
+rungs_text names vars ws (r ∷ rs) = ended (label_line r.label) ++ word_lines names vars (take r.length (drop r.offset ws)) ++ rungs_text names vars ws rs
 
 rung_text_lem : (names : Names) (vars : ℕ) (ws : List ℕ) (r : RungRecord) → code_of ws ≡ map instr_of ws
-    → flat_map ended (rung_lines names vars (code_of ws) r) ≡ ended (label_line r.label) ++ word_lines names vars (slice r.offset (r.offset + r.length) ws)
+    → flat_map ended (rung_lines names vars (code_of ws) r) ≡ ended (label_line r.label) ++ word_lines names vars (take r.length (drop r.offset ws))
 unfolding flat_map rung_lines
 rung_text_lem names vars ws r e =
-    rw (e, drop_map instr_of r.offset ws, take_map instr_of r.length (drop r.offset ws), slice_add r.offset r.length ws, lines_of_words names vars (take r.length (drop r.offset ws)))
+    rw (e, drop_map instr_of r.offset ws, take_map instr_of r.length (drop r.offset ws), lines_of_words names vars (take r.length (drop r.offset ws)))
 
 listing_text_lem : (names : Names) (vars : ℕ) (ws : List ℕ) (rs : List RungRecord) → code_of ws ≡ map instr_of ws → listing_text names vars (list_of ws rs) ≡ rungs_text names vars ws rs
 unfolding listing_text listing_lines list_of rungs_text flat_map
@@ -284,26 +235,27 @@ module _ {names : Names} {vars : ℕ} {ws ls os ns l x : List ℕ} {m start k : 
   pub next_within : start + get_or ns k 0 ≤ length ws
   next_within = laid_most (start + get_or ns k 0) (length ws) (drop (suc k) (fields_of ls os ns)) next_lies.1
 
+  rung_long : length (take (get_or ns k 0) (drop start ws)) ≡ get_or ns k 0
+  rung_long = let w = next_within in simp (length-take, length-drop) (omega arith)
+
   module _ {n : ℕ} {y : List ℕ} (p : Put x m (ended (label_line (get_or ls k 0))) n y) (small : get_or ls k 0 < operands) where
-    pub next_ready : RungReady vars ws start (start + get_or ns k 0) n
+    pub next_ready : RungReady vars (take (get_or ns k 0) (drop start ws)) n
     next_ready =
         let w = next_within in
         let s = label_long (get_or ls k 0) small in
         record {
-          ordered = omega arith;
-          within = w;
-          room = omega (arith, p.end, h.room, h.can.code_most, h.can.records_most);
-          decodes = h.can.decodes;
+          room = omega (arith, rung_long, p.end, h.room, h.can.code_most, h.can.records_most);
+          decodes = λ i l. let e : get_or (take (get_or ns k 0) (drop start ws)) i 0 ≡ get_or ws (start + i) 0 = get_or-take (get_or ns k 0) (drop start ws) i 0 (omega (arith, rung_long)) ∙ get_or-drop start ws i 0 in rw e (h.can.decodes (start + i) (omega (arith, rung_long)));
         }
 
-    pub listing_more : Short names → {r : ℕ} {z : List ℕ} → Put y n (word_lines names vars (slice start (start + get_or ns k 0) ws)) r z → Listing names vars ws ls os ns l z r (start + get_or ns k 0) (k + 1)
+    pub listing_more : Short names → {r : ℕ} {z : List ℕ} → Put y n (word_lines names vars (take (get_or ns k 0) (drop start ws))) r z → Listing names vars ws ls os ns l z r (start + get_or ns k 0) (k + 1)
     unfolding rungs_text
     listing_more short q =
         let w = next_within in
         let s = label_long (get_or ls k 0) small in
-        let t = words_long names short vars (slice start (start + get_or ns k 0) ws) in
-        let u = length-slice start (start + get_or ns k 0) ws w in
-        let e : rungs_text names vars ws (drop k (fields_of ls os ns)) ≡ ended (label_line (get_or ls k 0)) ++ word_lines names vars (slice start (start + get_or ns k 0) ws) ++ rungs_text names vars ws (drop (suc k) (fields_of ls os ns)) = rw (row_at ls os ns h.can.even k lt, next_lies.0) in
+        let t = words_long names short vars (take (get_or ns k 0) (drop start ws)) in
+        let u = rung_long in
+        let e : rungs_text names vars ws (drop k (fields_of ls os ns)) ≡ ended (label_line (get_or ls k 0)) ++ word_lines names vars (take (get_or ns k 0) (drop start ws)) ++ rungs_text names vars ws (drop (suc k) (fields_of ls os ns)) = rw (row_at ls os ns h.can.even k lt, next_lies.0) in
         record {
           can = h.can;
           left = rw add-one (left_more h.left e (put_then p q));

@@ -1,5 +1,5 @@
 -- What the functions of this crate promise to each other. Nothing here is a sentence of document 01. Assumes nothing.
-use Rattle.std.specs.Prelude.{ℕ, ◌+◌, ◌-◌, ◌*◌, ◌≤◌, ◌<◌, length, get_or}
+use Rattle.std.specs.Prelude.{ℕ, ◌+◌, ◌*◌, ◌<◌, length, get_or}
 use mathlib.Core.List.{List, flat_map}
 use Rattle.list_definitions.specs.Instruction.{Operand, table_index, no_operand, instruction_index, timer_number, OperandSort, table_sort, nothing_sort, instruction_sort, timer_sort, no_sort, operand_sort}
 use Rattle.list_definitions.specs.Names.{Names}
@@ -25,9 +25,7 @@ operand_in no_sort x = no_operand
 unfoldable pub operand_by : ℕ → ℕ → ℕ → List ℕ
 operand_by vars op x = operand_text vars (operand_in (operand_sort op) x)
 
--- words from one index up to another that can be printed from `at` on
-pub record RungReady (vars : ℕ) (ws : List ℕ) (from to at : ℕ) : Type 0 where
-  pub ordered : from ≤ to
-  pub within : to ≤ length ws
-  pub room : at + 14 * (to - from) < 500000
+-- words that can be printed from `at` on
+pub record RungReady (vars : ℕ) (ws : List ℕ) (at : ℕ) : Type 0 where
+  pub room : at + 14 * length ws < 500000
   pub decodes : (i : ℕ) → i < length ws → Decodes (get_or ws i 0)

@@ -3,7 +3,6 @@
 #![tactic(auto)]
 
 ghost use Rattle.std.specs.Prelude.{◌*◌, ◌≤◌, ◌<◌, ◌≡◌, ◌∷◌, T, length};
-ghost use Rattle.std.proofs.Math.Seq.{slice};
 ghost use Rattle.questions.specs.Bytes.{byte, decimal};
 ghost use Rattle.rungs.specs.Words.{operands};
 ghost use Rattle.rungs.specs.Records.{fields_of};
@@ -17,6 +16,7 @@ ghost use Rattle.list_printing.specs.Parts.{operand_by, word_line, word_lines, R
 
 use list_names::NAME_BYTES;
 use list_ops::OperandSort;
+use rungs::Slices;
 
 // The name of an op, up to its filling.
 fn put_name(out: &mut [u8], at: usize, names: &[u8], op: usize) -> usize
@@ -24,16 +24,12 @@ fn put_name(out: &mut [u8], at: usize, names: &[u8], op: usize) -> usize
     ensures { Put out.old at (name_of (names_in names.now) op) result out.new }
 {
     let from = (op - 1) * NAME_BYTES;
-    let mut k: usize = 0;
-    while k < NAME_BYTES {
-        let b = names[from + k];
-        if b == 0 {
-            return at + k;
-        }
-        printing::put_byte(out, at + k, b);
-        k += 1;
-    }
-    at + k
+    let name = &names[from..from + NAME_BYTES];
+    let letters = name
+        .iter()
+        .position(|letter| *letter == 0)
+        .unwrap_or(NAME_BYTES);
+    printing::put_text(out, at, &name[..letters])
 }
 
 // A space, a letter and a number.
@@ -51,17 +47,14 @@ fn put_operand(out: &mut [u8], at: usize, vars: u32, op: u32, operand: u32) -> u
     requires { (at < 700000) × (operand < operands) }
     ensures { Put out.old at (operand_by vars op operand) result out.new }
 {
+    let variable = operand < vars;
     match list_ops::operand_sort(op) {
-        OperandSort::Table => {
-            if operand < vars {
-                return put_index(out, at, b'v', operand as usize);
-            }
-            put_index(out, at, b't', (operand - vars) as usize)
-        }
-        OperandSort::Nothing => at,
-        OperandSort::Instruction => put_index(out, at, b'@', operand as usize),
-        OperandSort::Timer => put_index(out, at, b'd', operand as usize),
-        OperandSort::NoOp => at,
+        Some(OperandSort::Table) if variable => put_index(out, at, b'v', operand as usize),
+        Some(OperandSort::Table) => put_index(out, at, b't', (operand - vars) as usize),
+        Some(OperandSort::Instruction) => put_index(out, at, b'@', operand as usize),
+        Some(OperandSort::Timer) => put_index(out, at, b'd', operand as usize),
+        Some(OperandSort::Nothing) => at,
+        None => at,
     }
 }
 
@@ -83,60 +76,41 @@ fn put_label(out: &mut [u8], at: usize, label: u16) -> usize
     ensures { Put out.old at (ended (label_line label)) result out.new }
 {
     let sign = printing::put_byte(out, at, b'L');
-    let number = printing::put_number(out, sign, label as usize);
+    let number = printing::put_number(out, sign, usize::from(label));
     let colon = printing::put_byte(out, number, b':');
     printing::put_byte(out, colon, b'\n')
 }
 
-// The lines of the instructions from one index up to another.
-fn put_rung(
-    out: &mut [u8],
-    at: usize,
-    names: &[u8],
-    vars: u32,
-    code: &[u32],
-    from: usize,
-    to: usize,
-) -> usize
-    requires { RungReady vars code.now from to at × (length names.now ≡ name_bytes * most_op) }
-    ensures { Put out.old at
-        (word_lines (names_in names.now) vars (slice from to code.now)) result out.new }
+// The lines of a rung's instructions.
+fn put_rung(out: &mut [u8], at: usize, names: &[u8], vars: u32, words: &[u32]) -> usize
+    requires { RungReady vars words.now at × (length names.now ≡ name_bytes * most_op) }
+    ensures { Put out.old at (word_lines (names_in names.now) vars words.now) result out.new }
 {
     let mut end = at;
-    let mut i = from;
-    while i < to {
-        end = put_instruction(out, end, names, vars, code[i]);
-        i += 1;
+    for word in words {
+        end = put_instruction(out, end, names, vars, *word);
     }
     end
 }
 
 // The whole listing, in the names of a table.
-pub fn put_list(
-    names: &[u8],
-    vars: u32,
-    code: &[u32],
-    labels: &[u16],
-    offsets: &[u32],
-    lengths: &[u32],
-    out: &mut [u8],
-) -> usize
+pub fn put_list(names: &[u8], vars: u32, list: Slices, out: &mut [u8]) -> usize
     requires { (length names.now ≡ name_bytes * most_op)
-        × T (list_in_range vars code.now (fields_of labels.now offsets.now lengths.now)) }
+        × T (list_in_range vars list.words.now
+        (fields_of list.labels.now list.offsets.now list.lengths.now)) }
     ensures { Put out.old 0
-        (listing_text (names_in names.now) vars (list_of code.now
-        (fields_of labels.now offsets.now lengths.now)))
+        (listing_text (names_in names.now) vars (list_of list.entry.words.now
+        (fields_of list.entry.labels.now list.entry.offsets.now list.entry.lengths.now)))
         result out.new }
 {
     let mut end: usize = 0;
     let mut start: usize = 0;
-    let mut k: usize = 0;
-    while k < labels.len() {
-        end = put_label(out, end, labels[k]);
-        let next = start + lengths[k] as usize;
-        end = put_rung(out, end, names, vars, code, start, next);
+    for (label, length) in list.labels.iter().zip(list.lengths) {
+        end = put_label(out, end, *label);
+        let next = start + *length as usize;
+        let words = &list.words[start..next];
+        end = put_rung(out, end, names, vars, words);
         start = next;
-        k += 1;
     }
     end
 }

@@ -1,18 +1,17 @@
 -- Laws of question 17: words compared with the last before those of a TON without a record. Assumes nothing.
-use Prim.Native.Nat.{ℕ, ◌+◌, ◌-◌, ◌≤◌, ◌<◌}
+use Prim.Native.Nat.{ℕ, ◌-◌, ◌≤◌, ◌<◌, min}
+use Rattle.std.specs.List.{fold}
+use Rattle.std.proofs.Math.Bool.{and_assoc}
 use native.Mathlib.Omega.{arith}
 use native.Mathlib.Decide.{dec_lt}
 use mathlib.Core.Path.{◌≡◌, refl, sym, ap, ◌∙◌}
-use mathlib.Core.Bool.{Bool, true, false, not, ◌&&◌, ◌||◌, and-true}
+use mathlib.Core.Bool.{Bool, true, ◌&&◌, and-true}
 use mathlib.Core.Option.{Option, none, some}
 use mathlib.Core.List.{List, [], ◌∷◌}
 use lib.Dec.{T, leb, ltb}
-use lib.ListN.{length, get_or, drop}
-use lib.Seq.{drop-cons}
 use borrow.Author.Tests.{le-leb, lt-leb, lt-ltb, le-ltb}
-use native.Mathlib.Numerals.{add-one}
 use Rattle.questions.specs.Tests.{all}
-use Rattle.questions.proofs.Laws.Tests.{all_ends, none_some}
+use Rattle.questions.proofs.Laws.Tests.{none_some}
 use Rattle.rungs.specs.Words.{operands, word}
 use Rattle.list_definitions.specs.Instruction.{Instr, LD, LDN, ST, STN, AND, ANDN, OR, ORN, XOR, XORN, NOT, JMP, JMPC, JMPCN, S, R, TON, operand, op_of, operand_number, instr_word, instr_fits, decode_instr, decode_code}
 use Rattle.list_definitions.proofs.Laws.Decoding.{number_small, instr_decoded}
@@ -21,11 +20,24 @@ use Rattle.list_questions.specs.Parts.{last_known, TimersAsked}
 
 -- ---- the last word
 
-pub last_few : (records : ℕ) → records < operands → word 17 records - 1 ≡ last_known records
+pub last_least_of : (records : ℕ) → word 17 (min records operands) - 1 ≡ last_known records
+unfolding last_known instr_word op_of operand operand_number
+last_least_of records = elim (dec_lt records operands) [
+  | yes h ↦ rw (lt-ltb records operands h, min_few records h) refl
+  | no h ↦ rw (le-ltb records operands (omega arith), min_many records (omega arith)) refl
+]
+  where
+    min_few : (k : ℕ) → k < operands → min k operands ≡ k
+    min_few k l = omega arith
+
+    min_many : (k : ℕ) → operands ≤ k → min k operands ≡ operands
+    min_many k l = omega arith
+
+last_few : (records : ℕ) → records < operands → word 17 records - 1 ≡ last_known records
 unfolding last_known instr_word op_of operand operand_number
 last_few records h = rw (lt-ltb records operands h) refl
 
-pub last_many : (records : ℕ) → operands ≤ records → word 17 operands - 1 ≡ last_known records
+last_many : (records : ℕ) → operands ≤ records → word 17 operands - 1 ≡ last_known records
 unfolding last_known instr_word op_of operand operand_number
 last_many records h = rw (le-ltb records operands h) refl
 
@@ -74,7 +86,7 @@ module _ (records : ℕ) where
   -- ---- all words
 
   words_timed : (ws : List ℕ) (is : List Instr) → decode_code ws ≡ some is → all (λ w. leb w (last_known records)) ws ≡ timers_known records is
-  unfolding decode_code timers_known all
+  unfolding decode_code timers_known
   words_timed [] is e = let z : ◌≡◌ {A = List Instr} [] is = cc in rw (← z) refl
   words_timed (w ∷ ws) is e = go (decode_instr w) refl (decode_code ws) refl (λ js. words_timed ws js)
     where
@@ -89,28 +101,11 @@ module _ (records : ℕ) where
           let d = instr_decoded w i p in
           rw (← s, d.0, instr_timed i d.1, ih js q) refl
 
--- ---- the loop
+-- ---- the fold
 
--- no word so far was unknown, and none from i on is, just when none is
-pub record Asking (last : ℕ) (ws : List ℕ) (unknown : Bool) (i : ℕ) : Type 0 where
-  pub same : (not unknown && all (λ w. leb w last) (drop i ws)) ≡ all (λ w. leb w last) ws
-  pub within : i ≤ length ws
+fold_all : (test : ℕ → Bool) (a : Bool) (ws : List ℕ) → fold (λ known w. known && test w) a ws ≡ (a && all test ws)
+fold_all test a [] = sym (and-true a)
+fold_all test a (w ∷ ws) = fold_all test (a && test w) ws ∙ and_assoc a (test w) (all test ws)
 
-pub asking_start : (last : ℕ) (ws : List ℕ) → Asking last ws false 0
-asking_start last ws = record { same = refl; within = omega arith }
-
-not_or : (a : Bool) (x y : ℕ) (b : Bool) → (not (a || ltb x y) && b) ≡ (not a && (leb y x && b))
-not_or true x y b = refl
-not_or false x y b = elim (dec_lt x y) [ yes l ↦ rw (lt-ltb x y l, lt-leb y x l) refl | no l ↦ rw (le-ltb x y (omega arith), le-leb y x (omega arith)) refl ]
-
-module _ {last : ℕ} {ws : List ℕ} {unknown : Bool} {i : ℕ} (h : Asking last ws unknown i) where
-  pub asking_more : i < length ws → Asking last ws (unknown || ltb last (get_or ws i 0)) (i + 1)
-  unfolding all
-  asking_more l =
-      let e : all (λ w. leb w last) (drop i ws) ≡ (leb (get_or ws i 0) last && all (λ w. leb w last) (drop (i + 1) ws)) = rw (add-one, drop-cons ws i 0 l) in
-      record { same = not_or unknown last (get_or ws i 0) (all (λ w. leb w last) (drop (i + 1) ws)) ∙ (ap (λ b. not unknown && b) (sym e) ∙ h.same); within = omega arith }
-
-  pub asking_end : (records : ℕ) → last ≡ last_known records → length ws ≤ i → TimersAsked ws records (not unknown)
-  asking_end records e l =
-      let none_left : (not unknown && all (λ w. leb w last) (drop i ws)) ≡ not unknown = rw (all_ends (λ w. leb w last) ws i l) (and-true (not unknown)) in
-      record { same = λ is d. sym none_left ∙ (h.same ∙ (ap (λ m. all (λ w. leb w m) ws) e ∙ words_timed records ws is d)) }
+pub asked : (ws : List ℕ) (records last : ℕ) → last ≡ last_known records → {r : Bool} → r ≡ fold (λ known w. known && leb w last) true ws → TimersAsked ws records r
+asked ws records last e f = record { same = λ is d. f ∙ (fold_all (λ w. leb w last) true ws ∙ (ap (λ m. all (λ w. leb w m) ws) e ∙ words_timed records ws is d)) }

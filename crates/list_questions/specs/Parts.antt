@@ -1,9 +1,15 @@
 -- What the functions of this crate promise. Nothing here is a sentence of the documents. Assumes nothing.
-use Rattle.std.specs.Prelude.{ℕ, ◌+◌, ◌-◌, ◌≡◌, Bool, false, cond, ◌&&◌, List, [], ◌∷◌, eqb, ltb}
+use Rattle.std.specs.Prelude.{ℕ, ◌+◌, ◌-◌, ◌≡◌, Bool, false, cond, ◌&&◌, List, [], ◌∷◌, eqb, leb, ltb}
 use Rattle.std.proofs.Math.Option.{some}
 use Rattle.rungs.specs.Words.{operands}
 use Rattle.list_definitions.specs.Instruction.{Instr, TON, instr_word, decode_code}
-use Rattle.list_definitions.specs.Questions.{timers_known}
+use Rattle.rungs.specs.Records.{most_records}
+use Rattle.list_definitions.specs.Questions.{most_instructions, timers_known}
+
+-- so many instructions, and as many labels, offsets and lengths of records
+abbrev pub sizes_in_range : ℕ → ℕ → ℕ → ℕ → Bool
+sizes_in_range code labels offsets lengths =
+    (leb 1 code && leb code most_instructions) && (eqb labels offsets && (eqb offsets lengths && (leb 1 labels && leb labels most_records)))
 
 -- records laid from `start` on, none of length 0, up to `end`, over two number slices
 unfoldable pub laid_pairs : ℕ → ℕ → List ℕ → List ℕ → Bool

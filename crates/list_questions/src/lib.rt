@@ -5,41 +5,31 @@ ghost use Rattle.std.specs.Prelude.{◌≡◌, length};
 ghost use Rattle.questions.specs.Tests.{all};
 ghost use Rattle.rungs.specs.Records.{fields_of};
 ghost use Rattle.list_definitions.specs.Questions.{word_in_range, list_in_range};
-ghost use Rattle.list_questions.specs.Parts.{laid_pairs, last_known, TimersAsked};
+ghost use Rattle.list_questions.specs.Parts.{sizes_in_range, laid_pairs, last_known, TimersAsked};
 
-use list_ops::OperandSort;
+use list_ops::{Op, OperandSort};
+use rungs::Slices;
 
 // An op and its operand, for a table of `size` bytes and a list of n instructions.
+#[tactic(auto, using(list_ops::proofs::Laws::Sorts::word_by_sort), unfolding(list_ops::specs::Sorts::sort_in, list_ops::proofs::Laws::Sorts::sort_in_range))]
 fn word_in_range(size: usize, n: usize, word: u32) -> bool
     ensures { result ≡ word_in_range size n word }
 {
     let operand = (word % rungs::OPERANDS) as usize;
     match list_ops::operand_sort(word / rungs::OPERANDS) {
-        OperandSort::Table => operand < size,
-        OperandSort::Nothing => operand == 0,
-        OperandSort::Instruction => operand <= n,
-        OperandSort::Timer => true,
-        OperandSort::NoOp => false,
+        Some(OperandSort::Table) => operand < size,
+        Some(OperandSort::Nothing) => operand == 0,
+        Some(OperandSort::Instruction) => operand <= n,
+        Some(OperandSort::Timer) => true,
+        None => false,
     }
 }
 
 fn code_in_range(size: usize, code: &[u32]) -> bool
     ensures { result ≡ all (word_in_range size (length code.now)) code.now }
 {
-    let mut i: usize = 0;
-    while i < code.len() {
-        if !word_in_range(size, code.len(), code[i]) {
-            return false;
-        }
-        i += 1;
-    }
-    true
-}
-
-fn wide(x: u32) -> u64
-    ensures { result ≡ x }
-{
-    x as u64
+    code.iter()
+        .all(|word| word_in_range(size, code.len(), *word))
 }
 
 // Records laid one after the other, none of length 0, up to `end`. Sums are wider than offsets and lengths, so none wraps.
@@ -48,63 +38,44 @@ fn records_laid(offsets: &[u32], lengths: &[u32], end: usize) -> bool
     ensures { result ≡ laid_pairs 0 end offsets.now lengths.now }
 {
     let mut start: u64 = 0;
-    let mut i: usize = 0;
-    while i < offsets.len() {
-        if wide(offsets[i]) != start {
+    for (offset, length) in offsets.iter().zip(lengths) {
+        let off = u64::from(*offset) != start;
+        let empty = *length < 1;
+        if off || empty {
             return false;
         }
-        let n = wide(lengths[i]);
-        if n < 1 {
-            return false;
-        }
-        start += n;
-        i += 1;
+        start += u64::from(*length);
     }
     start == end as u64
 }
 
-pub fn list_in_range(
-    vars: u32,
-    code: &[u32],
-    labels: &[u16],
-    offsets: &[u32],
-    lengths: &[u32],
-) -> bool
-    ensures { result ≡ list_in_range vars code.now
-        (fields_of labels.now offsets.now lengths.now) }
+// Whether there are as many instructions and records as there may be, and a record for each label.
+fn sizes_in_range(list: Slices) -> bool
+    ensures { result ≡ sizes_in_range (length list.entry.words.now) (length list.entry.labels.now) (length list.entry.offsets.now) (length list.entry.lengths.now) }
 {
-    if code.len() < 1 {
-        return false;
-    }
-    if list_ops::MOST_INSTRUCTIONS < code.len() {
-        return false;
-    }
-    if labels.len() != offsets.len() {
-        return false;
-    }
-    if offsets.len() != lengths.len() {
-        return false;
-    }
-    if labels.len() < 1 {
-        return false;
-    }
-    if rungs::MOST_RECORDS < labels.len() {
-        return false;
-    }
-    if !records_laid(offsets, lengths, code.len()) {
-        return false;
-    }
-    code_in_range(vars as usize + table::SCRATCH_BYTES, code)
+    (1..=list_ops::MOST_INSTRUCTIONS).contains(&list.words.len())
+        && list.labels.len() == list.offsets.len()
+        && list.offsets.len() == list.lengths.len()
+        && (1..=rungs::MOST_RECORDS).contains(&list.labels.len())
+}
+
+#[tactic(auto, using(crate::proofs::Ranges::in_parts))]
+pub fn list_in_range(vars: u32, list: Slices) -> bool
+    ensures { result ≡ list_in_range vars list.entry.words.now
+        (fields_of list.entry.labels.now list.entry.offsets.now list.entry.lengths.now) }
+{
+    sizes_in_range(list)
+        && records_laid(list.offsets, list.lengths, list.words.len())
+        && code_in_range(vars as usize + table::SCRATCH_BYTES, list.words)
 }
 
 // The last word before those of a TON whose number has no record.
+#[tactic(auto, unfolding(list_ops::specs::Ops::op_number))]
 fn last_known(records: usize) -> u32
     ensures { result ≡ last_known records }
 {
-    if records < rungs::OPERANDS as usize {
-        return list_ops::TON * rungs::OPERANDS + records as u32 - 1;
-    }
-    list_ops::TON * rungs::OPERANDS + rungs::OPERANDS - 1
+    let numbers = records.min(rungs::OPERANDS as usize);
+    Op::Ton.number() * rungs::OPERANDS + numbers as u32 - 1
 }
 
 // Question 17, after question 10. TON is the last op, so that one comparison tells its words; the loop has no exit, so that it runs
@@ -113,11 +84,6 @@ pub fn timers_known(code: &[u32], records: usize) -> bool
     ensures { TimersAsked code.now records result }
 {
     let last = last_known(records);
-    let mut unknown = false;
-    let mut i: usize = 0;
-    while i < code.len() {
-        unknown = unknown | (code[i] > last);
-        i += 1;
-    }
-    !unknown
+    code.iter()
+        .fold(true, |known, word| known & (*word <= last))
 }

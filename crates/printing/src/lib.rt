@@ -21,11 +21,12 @@ pub fn put_number(out: &mut [u8], at: usize, n: usize) -> usize
     requires { at < 900000 }
     ensures { Put out.old at (decimal n) result out.new }
 {
-    let mut end = at;
-    if 10 <= n {
-        end = put_number(out, at, n / 10);
-    }
-    put_byte(out, end, (n % 10) as u8 + 48)
+    let end = if n < 10 {
+        at
+    } else {
+        put_number(out, at, n / 10)
+    };
+    put_byte(out, end, b'0' + (n % 10) as u8)
 }
 
 // The bytes of a text.
@@ -34,10 +35,8 @@ pub fn put_text(out: &mut [u8], at: usize, text: &[u8]) -> usize
     ensures { Put out.old at text.now result out.new }
 {
     let mut end = at;
-    let mut i: usize = 0;
-    while i < text.len() {
-        end = put_byte(out, end, text[i]);
-        i += 1;
+    for byte in text {
+        end = put_byte(out, end, *byte);
     }
     end
 }

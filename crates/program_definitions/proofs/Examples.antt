@@ -23,7 +23,7 @@ watchdogs_worked = (refl, refl, refl, refl, refl)
 
 pub tables_worked :
     (table_of 5 (bytes "10010") ≡ 1 ∷ 0 ∷ 0 ∷ 1 ∷ 0 ∷ replicate 32 0) × (table_of 5 (bytes "1001") ≡ []) × (table_of 5 (bytes "100100") ≡ []) × (table_of 5 (bytes "10012") ≡ [])
-unfolding table_of is_binary_digit all bytes
+unfolding table_of is_binary_digit bytes
 tables_worked = (refl, refl, refl, refl)
 
 pub refusals_worked :
@@ -78,13 +78,13 @@ timer preset start variable running done = record { preset = preset; start = sta
 
 pub now_lines : (now_of (bytes "now 0") ≡ some 0) × (now_of (bytes "now 4294967295") ≡ some 4294967295) × (now_of (bytes "now 4294967296") ≡ none) × (now_of (bytes "now 05") ≡ none)
     × (now_of (bytes "now") ≡ none) × (now_of (bytes "now 5 ") ≡ none) × (now_of (bytes "Now 5") ≡ none)
-unfolding now_of is_number is_digit digits_after all same_bytes bytes
+unfolding now_of is_number is_digit digits_after same_bytes bytes
 now_lines = (refl, refl, refl, refl, refl, refl, refl)
 
 pub timer_lines_lem : (timer_of (bytes "timer 3 0 1 0 0") ≡ some (timer 3 0 1 0 0)) × (timer_of (bytes "timer 4294967295 4294967295 65535 1 1") ≡ some (timer 4294967295 4294967295 65535 1 1))
     × (timer_of (bytes "timer 3 0 65536 0 0") ≡ none) × (timer_of (bytes "timer 3 0 1 2 0") ≡ none) × (timer_of (bytes "timer 3 0 1 0") ≡ none) × (timer_of (bytes "timer 3 0 1 0 0 0") ≡ none)
     × (timer_of (bytes "timer 3  0 1 0 0") ≡ none) × (timer_of (bytes "timer 03 0 1 0 0") ≡ none)
-unfolding timer_of before_space after_space is_number is_digit digits_after all same_bytes bytes
+unfolding timer_of before_space after_space is_number is_digit digits_after same_bytes bytes
 timer_lines_lem = (refl, refl, refl, refl, refl, refl, refl, refl)
 
 -- the tick, two timers, and the text; and a text that follows the variables at once
@@ -92,7 +92,7 @@ pub clock_lines :
     (now_taken (bytes "now 10\ntimer 3 0 1 0 0\ntimer 5 6 0 1 1\n0:c0>t0\n") ≡ record { now = 10; rest = bytes "timer 3 0 1 0 0\ntimer 5 6 0 1 1\n0:c0>t0\n" })
     × (timers_taken (bytes "timer 3 0 1 0 0\ntimer 5 6 0 1 1\n0:c0>t0\n") ≡ record { timers = timer 3 0 1 0 0 ∷ timer 5 6 0 1 1 ∷ []; text = bytes "0:c0>t0\n" })
     × (now_taken (bytes "0:c0>o0\n") ≡ record { now = 0; rest = bytes "0:c0>o0\n" }) × (timers_taken (bytes "now 4\n") ≡ record { timers = []; text = bytes "now 4\n" })
-unfolding now_taken timers_taken timers_from now_of timer_of first_line text_after before_space after_space is_number is_digit digits_after all same_bytes bytes
+unfolding now_taken timers_taken timers_from now_of timer_of first_line text_after before_space after_space is_number is_digit digits_after same_bytes bytes
 clock_lines = (refl, refl, refl, refl)
 
 -- README's report with a timer that came to be done, beside one that stayed as it was

@@ -2,7 +2,7 @@
 use Rattle.std.specs.Prelude.{◌≡◌, refl}
 use Rattle.std.proofs.Math.Bool.{xor}
 use mathlib.Core.List.{zip_with, flat_map}
-use Rattle.questions.specs.Tests.{all, different, first_failed}
+use Rattle.questions.specs.Tests.{different, first_failed}
 use Rattle.questions.specs.Bytes.{bytes, decimal, digits, same_bytes}
 use Rattle.questions.specs.Questions.{ask, ask_each, first_no, vars_in_range, question1, question2, question12, long_enough, question13}
 use Rattle.table.specs.State.{value_at, value, written_at, turns, write}
@@ -37,7 +37,7 @@ use Rattle.program_definitions.specs.Scanout.{end_word, scan_count_lines, end_li
 pub A_printed : output (bytes "5\n10:c0|c1&n2>o1|c3&j20\n20:n3>o4\n")
     ≡ bytes "L10:\nLD v0\nST t0\nLD v1\nANDN v2\nOR t0\nST t0\nST v1\nLD t0\nAND v3\nJMPC @10\nL20:\nLDN v3\nST v4\nrungs 2 instructions 12 longest 10\n"
 unfolding output outcome text_printed kept_printed list_printed count_line output_of first_line text_after line_number bytes decimal digits
-    all first_failed ask ask_each first_no vars_in_range question1 question2 question3 question4 question5 question6 question7 question8 question9 question10 question13 long_enough
+    first_failed ask ask_each first_no vars_in_range question1 question2 question3 question4 question5 question6 question7 question8 question9 question10 question13 long_enough
     laid lay search present start_of longest fields_of row_of as_buffers needs written written_over written_words written_records zip_with flat_map
     front_all rear_all rung_all input_kind input_variable input_word output_kind output_names number output_word front_words rear_words rung_words encode put_input put_front put_output put_rear_and put_rear_or
     kinds decode_words one_rung decode_rung decode_from decode ladder_of holds_ladder sizes_in_range input_below output_below new_labels output_leads join_scratch front_scratch rear_scratch rung_scratch
@@ -56,7 +56,7 @@ unfolding scan_output scan_outcome rest_scanned now_taken now_of timers_taken ti
     output_of first_line text_after line_number is_binary_digit table_of bytes decimal digits copy_question scan_questions both_questions both_scans instruction_watchdog paired_watchdog
     question11 question12 table_in_range value_at value written_at turns write xor is_start enter
     scan_ladder scan_from run_rung run_rear run_output work_front work_input jump_if unless_jumped from follow left scan_list scan_machine begin fresh step count does halted
-    all first_failed ask ask_each first_no vars_in_range question1 question2 question3 question4 question5 question6 question7 question8 question9 question10 question13 long_enough
+    first_failed ask ask_each first_no vars_in_range question1 question2 question3 question4 question5 question6 question7 question8 question9 question10 question13 long_enough
     laid lay search present start_of longest fields_of row_of as_buffers needs written written_over written_words written_records zip_with flat_map
     front_all rear_all rung_all input_kind input_variable input_word output_kind output_names number output_word front_words rear_words rung_words encode put_input put_front put_output put_rear_and put_rear_or
     kinds decode_words one_rung decode_rung decode_from decode ladder_of holds_ladder sizes_in_range input_below output_below new_labels output_leads join_scratch front_scratch rear_scratch rung_scratch

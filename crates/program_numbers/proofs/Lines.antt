@@ -5,13 +5,13 @@ use mathlib.Core.List.{List, [], ◌∷◌}
 use Prim.Native.Nat.{ℕ, zero, suc, ◌+◌, ◌-◌, ◌*◌, ◌≤◌, ◌<◌, min}
 use native.Mathlib.Numerals.{add-one}
 use native.Mathlib.Omega.{arith}
-use native.Mathlib.Decide.{dec_le}
 use borrow.Author.Tests.{leb-true, leb-false, ltb-true, ltb-false, eqb-true, eqb-false, lt-ltb, le-ltb, le-leb, lt-leb, eq-eqb, ne_eqb}
 use lib.Dec.{eqb, leb, ltb}
 use lib.ListN.{length, get_or, take, drop, length-drop, drop_of_length-le, get_or-eq_default}
-use lib.Seq.{drop-cons, take_all, take-length}
+use lib.Seq.{drop-cons}
+use Rattle.std.proofs.lemmas.List.{take_min}
 use Rattle.text_grammar.specs.Reader.{pick, Parse, read, stuck, digit_of, digits_from, numeral_of}
-use Rattle.program_definitions.specs.Lines.{first_line, text_after, line_number, most_kept}
+use Rattle.program_definitions.specs.Lines.{first_line, text_after, line_number}
 use Rattle.program_numbers.specs.Parts.{step_of, line_from, number_by, NumberTaken}
 use Rattle.program_numbers.specs.declared.FirstLine.{FirstLine}
 use Rattle.program_numbers.specs.declared.FirstLine.TheVariants.{Empty, Zero, Number, Bad}
@@ -41,22 +41,6 @@ module _ (b x : ℕ) (e : x ≡ digit_of b) where
   pub more_digit : (v : ℕ) → x < 10 → v * 10 + x ≤ 65535 → Number (v * 10 + x) ≡ step_of (Number v) b
   unfolding step_of
   more_digit v h w = simp (← e, lt-leb _ _ h, le-ltb _ _ w)
-
--- a number past 65,535 is followed by no number
-pub more_large : (b v : ℕ) → 65535 < v → Bad ≡ step_of (Number v) b
-more_large b v w = go (dec_le 10 (digit_of b))
-  where
-    go : Dec (10 ≤ digit_of b) → Bad ≡ step_of (Number v) b
-    go (yes h) = more_none b (digit_of b) refl v h
-    go (no h) = more_over b (digit_of b) refl v (omega arith) (omega arith)
-
-pub step_zero : (line : FirstLine) (b : ℕ) → line ≡ Zero → Bad ≡ step_of line b
-unfolding step_of
-step_zero line b e = rw e refl
-
-pub step_bad : (line : FirstLine) (b : ℕ) → line ≡ Bad → Bad ≡ step_of line b
-unfolding step_of
-step_bad line b e = rw e refl
 
 -- no number stays no number
 bad_stays : (bs : List ℕ) → line_from Bad bs ≡ Bad
@@ -247,9 +231,6 @@ pub record Numbering (input : List ℕ) (from : ℕ) (line : FirstLine) (i : ℕ
   pub left : line_from line (first_line (drop i input)) ≡ line_from Empty (first_line (drop from input))
   pub rest : text_after (drop i input) ≡ text_after (drop from input)
 
-pub numbering_first : (input : List ℕ) (from : ℕ) (line : FirstLine) → line ≡ Empty → Numbering input from line from
-numbering_first input from line e = record { within = λ w. w; left = ap (λ (l : FirstLine). line_from l (first_line (drop from input))) e; rest = refl }
-
 -- the first line and the rest of a list, by its first byte
 module _ (b : ℕ) (bs : List ℕ) where
   pub at_break : b ≡ 10 → first_line (b ∷ bs) ≡ []
@@ -305,27 +286,18 @@ module _ {input : List ℕ} {from : ℕ} {line : FirstLine} {i : ℕ} (h : Numbe
         rest = rw add-one (sym (ap text_after d ∙ rest_break b later n) ∙ h.rest);
       }
 
-  pub numbering_end : length input ≤ i → NumberTaken input from (record { line = line; at = i })
+  pub numbering_end : length input ≤ i → NumberTaken input from (record { line = line; at = length input })
   numbering_end k =
       let d : drop i input ≡ [] = drop_of_length-le input k in
       record {
         line = whole (ap first_line d ∙ line_none_left);
-        within = h.within;
-        rest = d ∙ (sym rest_none_left ∙ (ap text_after (sym d) ∙ h.rest));
+        within = λ w. omega arith;
+        rest = drop_of_length-le input (omega arith) ∙ (sym rest_none_left ∙ (ap text_after (sym d) ∙ h.rest));
       }
 
--- the part of the input that is kept as text
-take_min : (n : ℕ) (l : List ℕ) → take (min (length l) n) l ≡ take n l
-take_min n l = go (leb (length l) n) refl
-  where
-    go : (t : Bool) → leb (length l) n ≡ t → take (min (length l) n) l ≡ take n l
-    go true h =
-        let q : min (length l) n ≡ length l = omega (arith, leb-true (length l) n h) in
-        ap (λ (m : ℕ). take m l) q ∙ (take-length l ∙ sym (take_all n l (leb-true _ _ h)))
-    go false h = let q : min (length l) n ≡ n = omega (arith, leb-false (length l) n h) in ap (λ (m : ℕ). take m l) q
-
-pub kept_text : (input rest : List ℕ) (at to : ℕ) → drop at input ≡ rest → to ≡ at + min (length input - at) most_kept
-    → take (to - at) (drop at input) ≡ take most_kept rest
-kept_text input rest at to d e =
-    let q : to - at ≡ min (length (drop at input)) most_kept = omega (arith, e, length-drop at input) in
-    ap (λ (n : ℕ). take n (drop at input)) q ∙ (take_min most_kept (drop at input) ∙ ap (take most_kept) d)
+-- the part of the input that is kept
+pub kept_text : (most : ℕ) (input rest : List ℕ) (at to : ℕ) → drop at input ≡ rest → to ≡ at + min (length input - at) most
+    → take (to - at) (drop at input) ≡ take most rest
+kept_text most input rest at to d e =
+    let q : to - at ≡ min most (length (drop at input)) = omega (arith, e, length-drop at input) in
+    ap (λ (n : ℕ). take n (drop at input)) q ∙ (take_min most (drop at input) ∙ ap (take most) d)

@@ -1,9 +1,8 @@
 // Lines that are a number, byte by byte, and the text after them. Document 01, "Listing".
 #![tactic(auto)]
 
-ghost use Rattle.std.specs.Prelude.{◌≡◌, ◌+◌, ◌-◌, ◌≤◌, min};
+ghost use Rattle.std.specs.Prelude.{◌≡◌, ◌+◌, ◌-◌, ◌<◌, ◌≤◌, min, MatchOption};
 ghost use Rattle.text_grammar.specs.Reader.{digit_of};
-ghost use Rattle.program_definitions.specs.Lines.{most_kept};
 ghost use Rattle.program_numbers.specs.Parts.{step_of, number_by, NumberTaken};
 ghost use Rattle.program_numbers.specs.declared.FirstLine.TheVariants.{Empty, Number};
 
@@ -13,7 +12,7 @@ use text_grammar::MOST_NUMBER;
 pub const MOST_KEPT: usize = 65536;
 
 // What the bytes of the first line so far are: none, "0", another number, or no number.
-#[derive(Clone, Copy)]
+#[derive(Clone, Copy, PartialEq, Eq)]
 pub enum FirstLine {
     Empty,
     Zero,
@@ -21,87 +20,76 @@ pub enum FirstLine {
     Bad,
 }
 
-// Before the first byte.
-pub fn begin() -> FirstLine
-    ensures { result ≡ Empty }
+// The digit that a byte is.
+#[tactic(auto, unfolding(text_grammar::specs::Reader::digit_of))]
+pub fn digit_of(byte: u8) -> Option<u32>
+    ensures { MatchOption result (digit_of byte ≡ 10) (λ digit. (digit ≡ digit_of byte) × (digit < 10)) }
 {
-    FirstLine::Empty
+    char::from(byte).to_digit(10)
 }
 
-// The digit of a byte, 10 where it is none.
-pub fn digit_of(byte: u8) -> u32
-    ensures { (result ≡ digit_of byte) × (result ≤ 10) }
-{
-    if byte < 48 {
-        return 10;
+impl FirstLine {
+    // The line that has one byte.
+    #[tactic(auto, unfolding(crate::specs::Parts::step_of))]
+    fn first(byte: u8) -> FirstLine
+        ensures { result ≡ step_of Empty byte }
+    {
+        match digit_of(byte) {
+            None => FirstLine::Bad,
+            Some(0) => FirstLine::Zero,
+            Some(digit) => FirstLine::Number(digit),
+        }
     }
-    if 57 < byte {
-        return 10;
-    }
-    (byte - 48) as u32
-}
 
-// The first byte of the line.
-fn first_byte(byte: u8) -> FirstLine
-    ensures { result ≡ step_of Empty byte }
-{
-    let digit = digit_of(byte);
-    if 10 <= digit {
-        return FirstLine::Bad;
+    // A number's line with one byte more.
+    #[tactic(auto, unfolding(crate::specs::Parts::step_of))]
+    fn more(value: u32, byte: u8) -> FirstLine
+        ensures { result ≡ step_of (Number value) byte }
+    {
+        let Some(digit) = digit_of(byte) else {
+            return FirstLine::Bad;
+        };
+        if MOST_NUMBER < value {
+            return FirstLine::Bad;
+        }
+        let more = value * 10 + digit;
+        let large = MOST_NUMBER < more;
+        if large {
+            return FirstLine::Bad;
+        }
+        FirstLine::Number(more)
     }
-    if digit == 0 {
-        return FirstLine::Zero;
-    }
-    FirstLine::Number(digit)
-}
 
-// A byte after a number.
-fn more_bytes(value: u32, byte: u8) -> FirstLine
-    ensures { result ≡ step_of (Number value) byte }
-{
-    if MOST_NUMBER < value {
-        return FirstLine::Bad;
+    // The line with one byte more.
+    #[tactic(auto, unfolding(crate::specs::Parts::step_of))]
+    pub fn step(self, byte: u8) -> FirstLine
+        ensures { result ≡ step_of self byte }
+    {
+        match self {
+            FirstLine::Empty => FirstLine::first(byte),
+            FirstLine::Number(value) => FirstLine::more(value, byte),
+            FirstLine::Zero | FirstLine::Bad => FirstLine::Bad,
+        }
     }
-    let digit = digit_of(byte);
-    if 10 <= digit {
-        return FirstLine::Bad;
-    }
-    let more = value * 10 + digit;
-    let large = MOST_NUMBER < more;
-    if large {
-        return FirstLine::Bad;
-    }
-    FirstLine::Number(more)
-}
 
-// The line with one byte more.
-pub fn step(line: FirstLine, byte: u8) -> FirstLine
-    ensures { result ≡ step_of line byte }
-{
-    match line {
-        FirstLine::Empty => first_byte(byte),
-        FirstLine::Zero => FirstLine::Bad,
-        FirstLine::Number(value) => more_bytes(value, byte),
-        FirstLine::Bad => FirstLine::Bad,
+    // The number that the line is, or another.
+    #[tactic(auto, unfolding(crate::specs::Parts::number_by))]
+    pub fn number_or(self, other: u32) -> u32
+        ensures { result ≡ number_by other self }
+    {
+        match self {
+            FirstLine::Number(value) => value,
+            FirstLine::Zero => 0,
+            FirstLine::Empty | FirstLine::Bad => other,
+        }
     }
-}
 
-// The number that the line is, or another.
-pub fn number_or(line: FirstLine, other: u32) -> u32
-    ensures { result ≡ number_by other line }
-{
-    match line {
-        FirstLine::Number(value) => value,
-        FirstLine::Zero => 0,
-        _ => other,
+    // V: the number that the line is, or 0.
+    pub fn variables(self) -> u32
+        ensures { result ≡ number_by 0 self }
+    {
+        self.number_or(0)
     }
-}
-
-// V: the number that the line is, or 0.
-pub fn variables(line: FirstLine) -> u32
-    ensures { result ≡ number_by 0 line }
-{
-    number_or(line, 0)
 }
 
 // A line that is a number, or not, and where the next begins.
@@ -115,27 +103,22 @@ pub struct Lined {
 pub fn take_number(input: &[u8], from: usize) -> Lined
     ensures { NumberTaken input.now from result }
 {
-    let mut line = begin();
-    let mut i = from;
-    while i < input.len() {
+    let mut line = FirstLine::Empty;
+    for i in from..input.len() {
         if input[i] == b'\n' {
             return Lined { line, at: i + 1 };
         }
-        line = step(line, input[i]);
-        i += 1;
+        line = line.step(input[i]);
     }
-    Lined { line, at: i }
+    Lined {
+        line,
+        at: input.len(),
+    }
 }
 
-// Where the kept text that begins at a position ends.
-pub fn kept_end(length: usize, at: usize) -> usize
-    ensures { result ≡ at + min (length - at) most_kept }
+// Where the kept bytes that begin at a position end: up to `most` are kept.
+pub fn kept_end(length: usize, at: usize, most: usize) -> usize
+    ensures { result ≡ at + min (length - at) most }
 {
-    if length <= at {
-        return at;
-    }
-    if MOST_KEPT < length - at {
-        return at + MOST_KEPT;
-    }
-    length
+    at + length.saturating_sub(at).min(most)
 }

@@ -8,22 +8,24 @@ ghost use Rattle.printing.specs.Put.{Put};
 ghost use Rattle.program_definitions.specs.Outcome.{Finished, FinishedWithin};
 ghost use Rattle.program_definitions.specs.Refusals.{refusal_line, explanation, error_lines};
 
-use program_definitions::Printed;
 use questions::Refusal;
+use std::io::{Stderr, Stdout};
 
 // The line "refused N place P".
+#[tactic(auto, using(printing::proofs::Laws::Puts::decimal_most), unfolding(questions::specs::Bytes::bytes))]
 pub fn put_refusal(out: &mut [u8], refusal: Refusal) -> usize
     ensures put { Put out.old 0 (refusal_line (refusal_of refusal)) result out.new }
     ensures upper_bound { result ≤ 60 }
 {
     let word = printing::put_text(out, 0, b"refused ");
-    let number = printing::put_number(out, word, questions::refusal_number(refusal));
+    let number = printing::put_number(out, word, refusal.number());
     let at = printing::put_text(out, number, b" place ");
-    let place = printing::put_number(out, at, questions::refusal_place(refusal));
+    let place = printing::put_number(out, at, refusal.place());
     printing::put_text(out, place, b"\n")
 }
 
 // A text with a place in its middle.
+#[tactic(auto, using(printing::proofs::Laws::Puts::decimal_most))]
 fn put_placed(out: &mut [u8], at: usize, before: &[u8], place: usize, after: &[u8]) -> usize
     requires { (at ≤ 1000) × (length before.now ≤ 100) × (length after.now ≤ 100) }
     ensures { Put out.old at (before.now ++ (decimal place ++ after.now)) result out.new }
@@ -34,6 +36,7 @@ fn put_placed(out: &mut [u8], at: usize, before: &[u8], place: usize, after: &[u
 }
 
 // A text that begins with a rung's place.
+#[tactic(auto, unfolding(questions::specs::Bytes::bytes))]
 fn put_rung(out: &mut [u8], at: usize, rung: usize, after: &[u8]) -> usize
     requires { (at ≤ 1000) × (length after.now ≤ 100) }
     ensures { Put out.old at (bytes "rung " ++ (decimal rung ++ after.now)) result out.new }
@@ -42,6 +45,7 @@ fn put_rung(out: &mut [u8], at: usize, rung: usize, after: &[u8]) -> usize
 }
 
 // What is wrong.
+#[tactic(auto, unfolding(questions::specs::Refusals::refusal_of, program_definitions::specs::Refusals::explanation, program_definitions::specs::Refusals::explanations, questions::specs::Bytes::bytes))]
 fn put_explanation(out: &mut [u8], at: usize, refusal: Refusal) -> usize
     requires { at ≤ 1000 }
     ensures { Put out.old at (explanation (refusal_of refusal)) result out.new }
@@ -161,11 +165,34 @@ pub fn put_errors(out: &mut [u8], name: &[u8], crlf: bool, refusal: Refusal) -> 
 }
 
 // What was placed, or the refusal's line.
-pub fn finish(printed: Printed, out: &mut [u8]) -> usize
+pub fn finish(printed: Result<usize, Refusal>, out: &mut [u8]) -> usize
     ensures { Finished printed out.old result out.new × FinishedWithin printed result }
 {
     match printed {
-        Printed::Placed(n) => n,
-        Printed::Refused(refusal) => put_refusal(out, refusal),
+        Ok(n) => n,
+        Err(refusal) => put_refusal(out, refusal),
+    }
+}
+
+// Standard error, where nothing can be done if it takes no bytes: the program's name, and what is wrong.
+pub fn complain(stderr: Stderr, name: &[u8], what: &[u8]) {
+    let _ = stderr.write_all(name);
+    let _ = stderr.write_all(b": ");
+    let _ = stderr.write_all(what);
+}
+
+// What is wrong, on standard error.
+pub fn write_errors(stderr: Stderr, name: &[u8], refusal: Refusal, crlf: bool)
+    requires { length name.now ≤ 100 }
+{
+    let mut lines = [0; 600];
+    let n = put_errors(&mut lines, name, crlf, refusal);
+    let _ = stderr.write_all(&lines[..n]);
+}
+
+// The output, on standard output.
+pub fn write_output(stdout: Stdout, stderr: Stderr, name: &[u8], bytes: &[u8]) {
+    if stdout.write_all(bytes).is_err() {
+        complain(stderr, name, b"standard output could not be written\n");
     }
 }

@@ -14,32 +14,26 @@ use Rattle.questions.specs.Bytes.{byte}
 use Rattle.questions.specs.Tests.{all}
 use Rattle.program_definitions.specs.Lines.{is_binary_digit, table_of}
 use Rattle.program_scan_lines.specs.Parts.{taken, no_variables, next_variable, next_table, table_bytes}
-use Rattle.program_scan_lines.specs.declared.Variables.{Variables}
+use Rattle.std.specs.Prelude.{Option, Some, None}
 
 pub record Filled : Type 0 where
-  pub variables : Variables
+  pub variables : Option ℕ
   pub table : List ℕ
 
 -- what the bytes of a line lead to
-unfoldable pub fill : ℕ → Variables → List ℕ → List ℕ → Filled
+unfoldable pub fill : ℕ → Option ℕ → List ℕ → List ℕ → Filled
 fill vars v t [] = record { variables = v; table = t }
 fill vars v t (b ∷ bs) = fill vars (next_variable v vars b) (next_table v vars b t) bs
 
-pub fill_more : (vars : ℕ) (v : Variables) (t : List ℕ) (b : ℕ) (bs : List ℕ) → fill vars v t (b ∷ bs) ≡ fill vars (next_variable v vars b) (next_table v vars b t) bs
+pub fill_more : (vars : ℕ) (v : Option ℕ) (t : List ℕ) (b : ℕ) (bs : List ℕ) → fill vars v t (b ∷ bs) ≡ fill vars (next_variable v vars b) (next_table v vars b t) bs
 unfolding fill
 fill_more vars v t b bs = refl
 
-pub fill_end : (vars : ℕ) (v : Variables) (t : List ℕ) → fill vars v t [] ≡ record { variables = v; table = t }
+pub fill_end : (vars : ℕ) (v : Option ℕ) (t : List ℕ) → fill vars v t [] ≡ record { variables = v; table = t }
 unfolding fill
 fill_end vars v t = refl
 
 -- ---- a byte that is not taken: no table
-
-unfoldable wrong : Variables
-wrong = record { count = 0; legal = false }
-
-unfoldable counted : ℕ → Variables
-counted c = record { count = c; legal = true }
 
 unfoldable digit : ℕ → ℕ
 digit b = b - byte "0"
@@ -48,32 +42,32 @@ digit b = b - byte "0"
 unfoldable pub shown : ℕ → Filled → List ℕ
 shown vars f = take (table_bytes f.variables vars) f.table
 
-pub shown_bytes : (vars : ℕ) (v : Variables) (t : List ℕ) → shown vars (record { variables = v; table = t }) ≡ take (table_bytes v vars) t
+pub shown_bytes : (vars : ℕ) (v : Option ℕ) (t : List ℕ) → shown vars (record { variables = v; table = t }) ≡ take (table_bytes v vars) t
 unfolding shown
 shown_bytes vars v t = refl
 
-next_wrong : (vars b : ℕ) → next_variable wrong vars b ≡ wrong
-unfolding next_variable taken wrong
-next_wrong vars b = refl
-
-wrong_shown : (vars : ℕ) (t bs : List ℕ) → shown vars (fill vars wrong t bs) ≡ []
-unfolding shown table_bytes wrong fill
-wrong_shown vars t [] = rw (and-false (leb vars 1024), shown, table_bytes) refl
-wrong_shown vars t (b ∷ bs) =
-    ap (λ (v : Variables). shown vars (fill vars v (next_table wrong vars b t) bs)) (next_wrong vars b) ∙ wrong_shown vars (next_table wrong vars b t) bs
+wrong_shown : (vars : ℕ) (t bs : List ℕ) → shown vars (fill vars None t bs) ≡ []
+unfolding shown table_bytes fill next_variable
+wrong_shown vars t [] = refl
+wrong_shown vars t (b ∷ bs) = wrong_shown vars (next_table None vars b t) bs
 
 -- too many variables: no table
+bytes_over : (v : Option ℕ) (vars : ℕ) → 1024 < vars → 0 ≡ table_bytes v vars
+unfolding table_bytes
+bytes_over None vars h = refl
+bytes_over (Some c) vars h = rw (lt-leb _ _ h, table_bytes) refl
+
 over_shown : (vars : ℕ) (f : Filled) → 1024 < vars → shown vars f ≡ []
-unfolding shown table_bytes
-over_shown vars f h = rw (lt-leb vars 1024 h, table_bytes) refl
+unfolding shown
+over_shown vars f h = ap (λ n. take n f.table) (sym (bytes_over f.variables vars h))
 
 -- as many as there are variables: all of them and the scratch bytes
-shown_whole : (vars c : ℕ) (t : List ℕ) → vars ≤ 1024 → eqb c vars ≡ true → shown vars (record { variables = counted c; table = t }) ≡ take (vars + 32) t
-unfolding shown table_bytes counted
+shown_whole : (vars c : ℕ) (t : List ℕ) → vars ≤ 1024 → eqb c vars ≡ true → shown vars (record { variables = Some c; table = t }) ≡ take (vars + 32) t
+unfolding shown table_bytes
 shown_whole vars c t h e = rw (le-leb vars 1024 h, e, table_bytes) refl
 
-shown_nothing : (vars c : ℕ) (t : List ℕ) → vars ≤ 1024 → eqb c vars ≡ false → shown vars (record { variables = counted c; table = t }) ≡ []
-unfolding shown table_bytes counted
+shown_nothing : (vars c : ℕ) (t : List ℕ) → vars ≤ 1024 → eqb c vars ≡ false → shown vars (record { variables = Some c; table = t }) ≡ []
+unfolding shown table_bytes
 shown_nothing vars c t h e = rw (le-leb vars 1024 h, e, table_bytes) refl
 
 -- ---- the bytes that are left, c being taken
@@ -92,7 +86,6 @@ unfolding left_table
 left_some vars c t bs e = rw (e, left_table) refl
 
 all_more : (b : ℕ) (bs : List ℕ) → all is_binary_digit (b ∷ bs) ≡ (is_binary_digit b && all is_binary_digit bs)
-unfolding all
 all_more b bs = refl
 
 -- one byte that is taken
@@ -130,23 +123,22 @@ left_not_taken vars c t b bs e = left_none vars c t (b ∷ bs) (go (ltb c vars) 
 
 -- the first byte of what is left
 next_taken : (vars c b : ℕ) (t : List ℕ) → (ltb c vars && is_binary_digit b) ≡ true
-    → (next_variable (counted c) vars b ≡ counted (c + 1)) × (next_table (counted c) vars b t ≡ set t c (digit b))
-unfolding next_variable next_table taken counted digit
+    → (next_variable (Some c) vars b ≡ Some (c + 1)) × (next_table (Some c) vars b t ≡ set t c (digit b))
+unfolding next_variable next_table taken digit
 next_taken vars c b t e = (rw (e, next_variable) refl, rw (e, next_table) refl)
 
-next_not_taken : (vars c b : ℕ) → (ltb c vars && is_binary_digit b) ≡ false → next_variable (counted c) vars b ≡ wrong
-unfolding next_variable taken counted wrong
+next_not_taken : (vars c b : ℕ) → (ltb c vars && is_binary_digit b) ≡ false → next_variable (Some c) vars b ≡ None
+unfolding next_variable taken
 next_not_taken vars c b e = rw (e, next_variable) refl
 
 -- nothing is left: the variables have to be as many
 none_tests : (vars c : ℕ) (x : Bool) → eqb c vars ≡ x → (eqb (c + 0) vars && all is_binary_digit []) ≡ x
-unfolding all
 none_tests vars c x e = and-true (eqb (c + 0) vars) ∙ (ap (λ (n : ℕ). eqb n vars) (add-zero c) ∙ e)
 
-none_left : (vars c : ℕ) (t : List ℕ) → vars ≤ 1024 → shown vars (record { variables = counted c; table = t }) ≡ left_table vars c t []
+none_left : (vars c : ℕ) (t : List ℕ) → vars ≤ 1024 → shown vars (record { variables = Some c; table = t }) ≡ left_table vars c t []
 none_left vars c t h = go (eqb c vars) refl
   where
-    go : (x : Bool) → eqb c vars ≡ x → shown vars (record { variables = counted c; table = t }) ≡ left_table vars c t []
+    go : (x : Bool) → eqb c vars ≡ x → shown vars (record { variables = Some c; table = t }) ≡ left_table vars c t []
     go true e = shown_whole vars c t h e ∙ (take-add vars 32 t ∙ (ap (λ (n : ℕ). take n t ++ take 32 (drop vars t)) (sym (eqb-true c vars e))
         ∙ sym (left_some vars c t [] (none_tests vars c true e))))
     go false e = shown_nothing vars c t h e ∙ sym (left_none vars c t [] (none_tests vars c false e))
@@ -158,27 +150,27 @@ both_true false y e = absurd (true≢false (sym e))
 
 -- what one byte more shows, from what the bytes after it show
 shown_more : (vars c : ℕ) (t : List ℕ) (b : ℕ) (bs : List ℕ) → vars ≤ length t
-    → ((u : List ℕ) → vars ≤ length u → shown vars (fill vars (counted (c + 1)) u bs) ≡ left_table vars (c + 1) u bs)
-    → shown vars (fill vars (next_variable (counted c) vars b) (next_table (counted c) vars b t) bs) ≡ left_table vars c t (b ∷ bs)
+    → ((u : List ℕ) → vars ≤ length u → shown vars (fill vars (Some (c + 1)) u bs) ≡ left_table vars (c + 1) u bs)
+    → shown vars (fill vars (next_variable (Some c) vars b) (next_table (Some c) vars b t) bs) ≡ left_table vars c t (b ∷ bs)
 shown_more vars c t b bs k later = go (ltb c vars && is_binary_digit b) refl
   where
     go : (x : Bool) → (ltb c vars && is_binary_digit b) ≡ x
-        → shown vars (fill vars (next_variable (counted c) vars b) (next_table (counted c) vars b t) bs) ≡ left_table vars c t (b ∷ bs)
+        → shown vars (fill vars (next_variable (Some c) vars b) (next_table (Some c) vars b t) bs) ≡ left_table vars c t (b ∷ bs)
     go true e =
         let w = next_taken vars c b t e in
         let p = both_true (ltb c vars) (is_binary_digit b) e in
-        ap (λ (v : Variables). shown vars (fill vars v (next_table (counted c) vars b t) bs)) w.0
-        ∙ (ap (λ (u : List ℕ). shown vars (fill vars (counted (c + 1)) u bs)) w.1
+        ap (λ (v : Option ℕ). shown vars (fill vars v (next_table (Some c) vars b t) bs)) w.0
+        ∙ (ap (λ (u : List ℕ). shown vars (fill vars (Some (c + 1)) u bs)) w.1
         ∙ (later (set t c (digit b)) (omega (arith, length-set t c (digit b)))
         ∙ left_taken vars c t b bs p.1 (ltb-true c vars p.0) k))
     go false e =
-        ap (λ (v : Variables). shown vars (fill vars v (next_table (counted c) vars b t) bs)) (next_not_taken vars c b e)
-        ∙ (wrong_shown vars (next_table (counted c) vars b t) bs ∙ sym (left_not_taken vars c t b bs e))
+        ap (λ (v : Option ℕ). shown vars (fill vars v (next_table (Some c) vars b t) bs)) (next_not_taken vars c b e)
+        ∙ (wrong_shown vars (next_table (Some c) vars b t) bs ∙ sym (left_not_taken vars c t b bs e))
 
-left_shown : (vars c : ℕ) (t bs : List ℕ) → vars ≤ 1024 → vars ≤ length t → shown vars (fill vars (counted c) t bs) ≡ left_table vars c t bs
-left_shown vars c t [] h k = ap (shown vars) (fill_end vars (counted c) t) ∙ none_left vars c t h
+left_shown : (vars c : ℕ) (t bs : List ℕ) → vars ≤ 1024 → vars ≤ length t → shown vars (fill vars (Some c) t bs) ≡ left_table vars c t bs
+left_shown vars c t [] h k = ap (shown vars) (fill_end vars (Some c) t) ∙ none_left vars c t h
 left_shown vars c t (b ∷ bs) h k =
-    ap (shown vars) (fill_more vars (counted c) t b bs) ∙ shown_more vars c t b bs k (λ u j. left_shown vars (c + 1) u bs h j)
+    ap (shown vars) (fill_more vars (Some c) t b bs) ∙ shown_more vars c t b bs k (λ u j. left_shown vars (c + 1) u bs h j)
 
 -- ---- a table of zeros
 
@@ -219,10 +211,6 @@ table_left vars t line q e = go (eqb (length line) vars && all is_binary_digit l
     go true z = left_some vars 0 t line (zero_tests vars line ∙ z) ∙ (ap (λ (l : List ℕ). map digit line ++ l) e ∙ sym (table_some vars line q z))
     go false z = left_none vars 0 t line (zero_tests vars line ∙ z) ∙ sym (table_none vars line q z)
 
-none_counted : no_variables ≡ counted 0
-unfolding no_variables counted
-none_counted = refl
-
 -- what the whole line makes of it
 pub filled_table : (vars : ℕ) (t line : List ℕ) → t ≡ replicate 1056 0 → shown vars (fill vars no_variables t line) ≡ table_of vars line
 filled_table vars t line e = go (leb vars 1024) refl
@@ -230,6 +218,5 @@ filled_table vars t line e = go (leb vars 1024) refl
     go : (x : Bool) → leb vars 1024 ≡ x → shown vars (fill vars no_variables t line) ≡ table_of vars line
     go false q = over_shown vars (fill vars no_variables t line) (leb-false vars 1024 q) ∙ sym (table_over vars line q)
     go true q =
-        ap (λ (v : Variables). shown vars (fill vars v t line)) none_counted
-        ∙ (left_shown vars 0 t line (leb-true vars 1024 q) (omega (arith, leb-true vars 1024 q, ap length e, length-replicate {A = ℕ} 1056 0))
-        ∙ table_left vars t line q (scratch_zeros vars (leb-true vars 1024 q) t e))
+        left_shown vars 0 t line (leb-true vars 1024 q) (omega (arith, leb-true vars 1024 q, ap length e, length-replicate {A = ℕ} 1056 0))
+        ∙ table_left vars t line q (scratch_zeros vars (leb-true vars 1024 q) t e)

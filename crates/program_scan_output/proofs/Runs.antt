@@ -1,13 +1,8 @@
 -- Laws of the whole run: the three lines, the lines of ticks and timers, and the text. Assumes nothing.
-use mathlib.Core.Path.{◌≡◌, refl, sym, ap, ◌∙◌}
-use mathlib.Core.Bool.{Bool, true, false}
+use mathlib.Core.Path.{◌≡◌, sym, ap, ◌∙◌}
 use mathlib.Core.List.{List}
 use Prim.Native.Nat.{ℕ, ◌+◌, ◌-◌, min}
-use native.Mathlib.Omega.{arith}
-use lib.Dec.{leb}
-use lib.ListN.{length, take, drop, replicate, length-drop, length-replicate}
-use lib.Seq.{take_all, take-length}
-use borrow.Author.Tests.{leb-true, leb-false}
+use lib.ListN.{length, take, drop, replicate, length-replicate}
 use Rattle.table.specs.TimerRecords.{timer_numbers}
 use Rattle.program_definitions.specs.Lines.{first_line, text_after, variables_of, watchdog_of, table_of}
 use Rattle.program_definitions.specs.TimerLines.{now_taken, timers_taken}
@@ -33,7 +28,7 @@ module _ (rest : List ℕ) (clock : NowTaken) (records : TimersTaken) (to : ℕ)
 
   their_text : take (to - records.at) (drop records.at rest) ≡ take 65536 (timers_taken (now_taken rest).rest).text
   their_text =
-      kept_text rest (timers_taken (now_taken rest).rest).text records.at to (taken.text ∙ ap (λ (l : List ℕ). (timers_taken l).text) read.rest) end
+      kept_text 65536 rest (timers_taken (now_taken rest).rest).text records.at to (taken.text ∙ ap (λ (l : List ℕ). (timers_taken l).text) read.rest) end
 
   pub rest_same : (vars n : ℕ) (table : List ℕ) → rest_scanned vars n table rest
       ≡ text_scanned vars n table (take records.count u) clock.tick (take (to - records.at) (drop records.at rest))
@@ -41,16 +36,6 @@ module _ (rest : List ℕ) (clock : NowTaken) (records : TimersTaken) (to : ℕ)
   rest_same vars n table = λ i. text_scanned vars n table (sym their_numbers i) (sym read.tick i) (sym their_text i)
 
 -- ---- the whole input
-
--- the part that is kept
-take_min : (n : ℕ) (l : List ℕ) → take (min (length l) n) l ≡ take n l
-take_min n l = go (leb (length l) n) refl
-  where
-    go : (b : Bool) → leb (length l) n ≡ b → take (min (length l) n) l ≡ take n l
-    go true h =
-        let q : min (length l) n ≡ length l = omega (arith, leb-true (length l) n h) in
-        ap (λ (m : ℕ). take m l) q ∙ (take-length l ∙ sym (take_all n l (leb-true _ _ h)))
-    go false h = let q : min (length l) n ≡ n = omega (arith, leb-false (length l) n h) in ap (λ (m : ℕ). take m l) q
 
 module _ (input : List ℕ) (first second : Lined) (third : VariablesTaken) (v w bytes to : ℕ) (t u : List ℕ)
     (taken : NumberTaken input 0 first) (variables : v ≡ number_by 0 first.line)
@@ -75,10 +60,7 @@ module _ (input : List ℕ) (first second : Lined) (third : VariablesTaken) (v w
   rest = take (to - third.at) (drop third.at input)
 
   their_rest : rest ≡ take 131072 (text_after (text_after (text_after input)))
-  their_rest =
-      let l = drop third.at input in
-      let q : to - third.at ≡ min (length l) 131072 = omega (arith, end, length-drop third.at input) in
-      ap (λ (n : ℕ). take n l) q ∙ (take_min 131072 l ∙ ap (take 131072) (filled.rest ∙ ap text_after rest_2))
+  their_rest = kept_text 131072 input (text_after (text_after (text_after input))) third.at to (filled.rest ∙ ap text_after rest_2) end
 
   pub run_same : outcome input ≡ rest_scanned v w (take bytes u) rest
   unfolding outcome

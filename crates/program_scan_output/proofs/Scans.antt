@@ -20,32 +20,28 @@ use Rattle.table.specs.TimerRecords.{timers_in, number_timers}
 use Rattle.table.proofs.Laws.TimerRecords.{asked_whole, whole_timers, asked_few}
 use Rattle.timers.proofs.Laws.Numbers.{whole_length}
 use Rattle.rungs.specs.Records.{none_entered}
-use Rattle.rungs.specs.Buffers.{Buffers, needs, written_words, written_records}
+use Rattle.std.specs.Prelude.{Ok, Err}
+use Rattle.rungs.specs.Buffers.{Buffers, Columns, columns, first_columns, needs, written_words, written_records}
 use Rattle.rungs.proofs.Laws.Filling.{labels_count, roomy}
 use Rattle.ladder_definitions.specs.Kept.{Kept, kept_of}
 use Rattle.ladder_definitions.specs.Questions.{ladder_of}
 use Rattle.ladder_definitions.specs.LadderScan.{scan_questions}
 use Rattle.ladder_definitions.proofs.Laws.Accepting.{accepted, scan_passed}
 use Rattle.text_definitions.proofs.Laws.Reads.{written_room as kept_room_of}
-use Rattle.text_definitions.specs.Read.{read_text, kept, written_kept, text_read_answer, ReadDone, refused as read_refused}
-use Rattle.text_definitions.specs.declared.TextRead.{TextRead}
+use Rattle.text_definitions.specs.Read.{TextRead, read_text, kept, written_kept, text_read_answer, ReadDone, refused as read_refused}
 use Rattle.text_definitions.specs.declared.Counts.{Counts as KeptStruct}
-use Rattle.text_definitions.specs.declared.TextRead.TheVariants.{Kept as KeptCase, Refused as ReadRefusedCase}
 use Rattle.list_definitions.specs.Instruction.{instr_word}
 use Rattle.translation_definitions.specs.Translate.{translate}
 use Rattle.translation_definitions.specs.TranslateKept.{counts_of, list_buffers}
 use Rattle.translation_definitions.specs.BothScans.{Lent, lends, BothEnds, BothAnswer, both, copy_questions, refused as both_refused}
-use Rattle.translation_definitions.specs.BothScans.{both_questions, paired_watchdog, paired_scans, ends_in, both_scanned_answer, BothScansDone}
+use Rattle.translation_definitions.specs.BothScans.{both_questions, paired_watchdog, paired_scans, ends_in, BothScanned, both_scanned_answer, BothScansDone}
 use Rattle.translation_definitions.specs.BothAgree.{BothGiven}
 use Rattle.translation_definitions.proofs.Laws.Boths.{not_refused, long_copy, both_passed, both_ends, both_left, both_refused_lem, both_scanned}
 use Rattle.translation_definitions.specs.declared.BothEnds.{BothEnds as EndsStruct}
-use Rattle.translation_definitions.specs.declared.BothScanned.{BothScanned}
-use Rattle.translation_definitions.specs.declared.BothScanned.TheVariants.{Scanned, Refused}
 use Rattle.noninterference.specs.Contacts.{word_contacts, left_out, unread}
 use Rattle.noninterference.proofs.Theorems.{contacts_in_words}
 use Rattle.program_definitions.proofs.Laws.Outcomes.{room_of, placed_within}
-use Rattle.program_definitions.specs.Outcome.{printed, refused, Done, PlacedWithin}
-use Rattle.program_definitions.specs.declared.Printed.{Printed}
+use Rattle.program_definitions.specs.Outcome.{Printed, printed, refused, Done, PlacedWithin}
 use Rattle.program_definitions.specs.Printout.{blank}
 use Rattle.program_definitions.specs.Scanout.{lent_for, most_report, report_of, report_lines, kept_scanned, text_scanned}
 use Rattle.program_definitions.proofs.Theorems.{scan_output_short}
@@ -53,27 +49,27 @@ use Rattle.program_definitions.proofs.Theorems.{scan_output_short}
 -- ---- Read
 
 module _ (vars : ℕ) (text : List ℕ) {r : TextRead} {after : Buffers} (done : ReadDone (read_text vars text (blank 8192 256)) r after) where
-  read_answer : (c : KeptStruct) → r ≡ KeptCase c → (read_text vars text (blank 8192 256)).answer ≡ kept c.words c.rungs
+  read_answer : (c : KeptStruct) → r ≡ Ok c → (read_text vars text (blank 8192 256)).answer ≡ kept c.words c.rungs
   unfolding text_read_answer
   read_answer c e = sym done.answer ∙ ap text_read_answer e
 
-  pub read_room : (c : KeptStruct) → r ≡ KeptCase c → (c.words ≤ 8192) × (c.rungs ≤ 256)
+  pub read_room : (c : KeptStruct) → r ≡ Ok c → (c.words ≤ 8192) × (c.rungs ≤ 256)
   read_room c e =
       let h = kept_room_of vars text (blank 8192 256) c.words c.rungs (read_answer c e) in
       (room_of c.words 8192 0 h.0, room_of c.rungs 256 0 h.1)
 
   module _ (w : ℕ) (table timers : List ℕ) (now : ℕ) where
-    pub read_refused_lem : (x : RefusalCase) → r ≡ ReadRefusedCase x → text_scanned vars w table timers now text ≡ refused (refusal_of x)
+    pub read_refused_lem : (x : RefusalCase) → r ≡ Err x → text_scanned vars w table timers now text ≡ refused (refusal_of x)
     unfolding text_scanned text_read_answer
     read_refused_lem x e =
         let q : (read_text vars text (blank 8192 256)).answer ≡ read_refused (refusal_of x) = sym done.answer ∙ ap text_read_answer e in
         rw (q, text_scanned) refl
 
-    pub read_kept : (c : KeptStruct) → r ≡ KeptCase c → text_scanned vars w table timers now text ≡ kept_scanned vars
-        (kept_of (take c.words after.words) (take c.rungs after.labels) (take c.rungs after.offsets) (take c.rungs after.lengths) (take c.rungs after.times))
-        table timers now w
+    pub read_kept : (c : KeptStruct) → r ≡ Ok c → {ws ls os ns ts : List ℕ} {cols : Columns} → cols ≡ first_columns c.words c.rungs (columns ws ls os ns)
+        → ws ≡ after.words → ls ≡ after.labels → os ≡ after.offsets → ns ≡ after.lengths → ts ≡ after.times
+        → text_scanned vars w table timers now text ≡ kept_scanned vars (kept_of cols.words cols.labels cols.offsets cols.lengths (take c.rungs ts)) table timers now w
     unfolding text_scanned written_kept written_words written_records
-    read_kept c e = rw (read_answer c e, text_scanned, ← done.same_buffers) refl
+    read_kept c e f a b d g h = rw (read_answer c e, text_scanned, ← done.same_buffers, f, a, b, d, g, h) refl
 
 -- ---- a part of an array that was lent and came back
 
@@ -170,7 +166,7 @@ module _ (vars : ℕ) (k : Kept) (table timers : List ℕ) (now n : ℕ) (u v p 
       (copy_questions table timers (length timers) (length timers) (length table) (length table) ++ later) copies_same
 
   module _ {r : BothScanned} {after : Lent} (done : BothScansDone (paired_scans vars k table timers now lent n) r after) where
-    pub scans_refused_lem : (x : RefusalCase) → r ≡ Refused x → kept_scanned vars k table timers now n ≡ refused (refusal_of x)
+    pub scans_refused_lem : (x : RefusalCase) → r ≡ Err x → kept_scanned vars k table timers now n ≡ refused (refusal_of x)
     unfolding kept_scanned both_scanned_answer
     scans_refused_lem x e = go (first_no (both_questions vars k table timers (lent_for table timers) n w)) refl
       where
@@ -184,7 +180,7 @@ module _ (vars : ℕ) (k : Kept) (table timers : List ℕ) (now n : ℕ) (u v p 
             rw (both_refused_lem vars k table timers now (lent_for table timers) n w y q, kept_scanned) cc
         go none q = absurd (not_refused (sym (ap (λ c. c.answer) (both_scanned vars k table timers now lent n w (asked_same ∙ q))) ∙ answered))
 
-    module _ (e : EndsStruct) (scanned : r ≡ Scanned e) where
+    module _ (e : EndsStruct) (scanned : r ≡ Ok e) where
       answered : (paired_scans vars k table timers now lent n).answer ≡ both (ends_in e)
       unfolding both_scanned_answer
       answered = sym done.answer ∙ ap both_scanned_answer scanned
@@ -235,7 +231,6 @@ module _ (vars : ℕ) (k : Kept) (table timers : List ℕ) (now n : ℕ) (u v p 
 -- ---- numbers of 32 bits
 
 pub all_ticks : (ns : List ℕ) → ((k : ℕ) → get_or ns k 0 < 4294967296) → T (all (λ x. ltb x 4294967296) ns)
-unfolding all
 all_ticks [] h = tt
 all_ticks (x ∷ xs) h = rw (lt-ltb x 4294967296 (h 0)) (all_ticks xs (λ k. h (suc k)))
 

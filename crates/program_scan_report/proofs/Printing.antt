@@ -1,5 +1,6 @@
 -- Laws of the lines of the report: how far they reach, their parts put one after the other, and the variables' lines from any variable on. Assumes nothing.
-use Prim.Native.Nat.{ℕ, zero, suc, ◌+◌, ◌*◌, ◌≤◌, ◌<◌}
+use Prim.Native.Nat.{ℕ, zero, suc, ◌+◌, ◌*◌, ◌≤◌, ◌<◌, min}
+use native.Mathlib.Decide.{dec_le}
 use native.Mathlib.Numerals.{add-one}
 use native.Mathlib.Omega.{arith}
 use mathlib.Core.Path.{◌≡◌, refl, sym, subst}
@@ -12,20 +13,8 @@ use Rattle.ladder_definitions.specs.LadderScan.{LadderCounts}
 use Rattle.list_definitions.specs.ListScan.{ListCounts}
 use Rattle.printing.specs.Put.{Put}
 use Rattle.printing.proofs.Laws.Puts.{put_then, Left, all_left, left_none, left_more, decimal_long}
-use Rattle.translation_definitions.specs.BothScans.{BothEnds, halt_of}
-use Rattle.program_definitions.proofs.Laws.Bounds.{Fitting, ends_short}
+use Rattle.translation_definitions.specs.BothScans.{BothEnds}
 use Rattle.program_definitions.specs.Scanout.{end_word, scan_count_lines, end_lines, changed_line, changed_lines, Verdict, verdict_line}
-
-module _ {l : List ℕ} {i : ℕ} {r : ℕ} {x : List ℕ} where
-  -- ---- how each scan ended
-
-  pub end_true : (b : Bool) → b ≡ true → Put l i (bytes "Ended") r x → Put l i (end_word (halt_of b)) r x
-  unfolding end_word halt_of
-  end_true b e p = rw e p
-
-  pub end_false : (b : Bool) → b ≡ false → Put l i (bytes "Stopped") r x → Put l i (end_word (halt_of b)) r x
-  unfolding end_word halt_of
-  end_false b e p = rw e p
 
 module _ {l : List ℕ} {i m1 m2 m3 m4 m5 m6 m7 m8 m9 m10 r : ℕ} {x1 x2 x3 x4 x5 x6 x7 x8 x9 x10 y : List ℕ} where
   pub counts_put : (k : LadderCounts) (c : ListCounts)
@@ -120,19 +109,15 @@ pub changing_start : (from n : ℕ) (bs ls ts l : List ℕ) → Changing from n 
 changing_start from n bs ls ts l = record { left = all_left l from (changed_lines 0 (take n bs) (take n ls) (take n ts)); within = omega arith; room = omega arith }
 
 module _ {from n : ℕ} {bs ls ts l x : List ℕ} {m i : ℕ} (h : Changing from n bs ls ts l x m i) where
-  pub changing_end : n ≤ i → Put l from (changed_lines 0 (take n bs) (take n ls) (take n ts)) m x
+  pub changing_end : min (min (min (length bs) (length ls)) (length ts)) n ≤ i → Put l from (changed_lines 0 (take n bs) (take n ls) (take n ts)) m x
   unfolding changed_lines
-  changing_end g = left_none h.left (rw (none_end i n bs g, changed_lines))
-
-  pub changing_no_before : length bs ≤ i → Put l from (changed_lines 0 (take n bs) (take n ls) (take n ts)) m x
-  unfolding changed_lines
-  changing_no_before g = left_none h.left (rw (none_long i n bs g, changed_lines))
-
-  pub changing_no_ladder : length ls ≤ i → Put l from (changed_lines 0 (take n bs) (take n ls) (take n ts)) m x
-  changing_no_ladder g = left_none h.left (rw (none_long i n ls g) (no_ladder i (drop i (take n bs)) (drop i (take n ts))))
-
-  pub changing_no_list : length ts ≤ i → Put l from (changed_lines 0 (take n bs) (take n ls) (take n ts)) m x
-  changing_no_list g = left_none h.left (rw (none_long i n ts g) (no_list i (drop i (take n bs)) (drop i (take n ls))))
+  changing_end g = left_none h.left (go (dec_le n i) (dec_le (length bs) i) (dec_le (length ls) i))
+    where
+      go : Dec (n ≤ i) → Dec (length bs ≤ i) → Dec (length ls ≤ i) → lines_from n bs ls ts i ≡ []
+      go (yes k) y z = rw (none_end i n bs k, changed_lines)
+      go (no k) (yes y) z = rw (none_long i n bs y, changed_lines)
+      go (no k) (no y) (yes z) = rw (none_long i n ls z) (no_ladder i (drop i (take n bs)) (drop i (take n ts)))
+      go (no k) (no y) (no z) = rw (none_long i n ts (omega arith)) (no_list i (drop i (take n bs)) (drop i (take n ls)))
 
   module _ (lt : i < n) (kb : i < length bs) (kl : i < length ls) (kt : i < length ts) where
     next_line : lines_from n bs ls ts i
@@ -203,9 +188,6 @@ changed_reach n bs ls ts p few from hb hl ht =
     let most = length_take_most n bs in
     let long = lines_long 0 (take n bs) (take n ls) (take n ts) (omega arith) (small_take n bs hb) (small_take n ls hl) (small_take n ts ht) in
     omega (arith, p.end)
-
-pub ends_reach : {l : List ℕ} {r : ℕ} {x : List ℕ} (e : BothEnds) → Put l 0 (end_lines e) r x → Fitting e.ladder e.list → r ≤ 1000
-ends_reach e p f = omega (arith, p.end, ends_short e f)
 
 -- ---- the verdict
 

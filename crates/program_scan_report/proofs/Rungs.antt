@@ -1,5 +1,6 @@
 -- Laws of the rungs' lines of the report: the parts of a line put one after the other, the lines from any rung on, and how far they reach. Assumes nothing.
-use Prim.Native.Nat.{ℕ, suc, ◌+◌, ◌*◌, ◌^◌, ◌≤◌, ◌<◌}
+use Prim.Native.Nat.{ℕ, suc, ◌+◌, ◌*◌, ◌^◌, ◌≤◌, ◌<◌, min}
+use native.Mathlib.Decide.{dec_le}
 use native.Mathlib.Numerals.{add-one}
 use native.Mathlib.Omega.{arith}
 use mathlib.Core.Path.{◌≡◌, refl}
@@ -43,12 +44,13 @@ pub entering_start : (from : ℕ) (ls ns l : List ℕ) → Entering from ls ns l
 entering_start from ls ns l = record { left = all_left l from (entered_lines ls ns); within = omega arith; room = omega arith }
 
 module _ {from : ℕ} {ls ns l x : List ℕ} {m i : ℕ} (h : Entering from ls ns l x m i) where
-  pub entering_end : length ls ≤ i → Put l from (entered_lines ls ns) m x
+  pub entering_end : i ≡ min (length ls) (length ns) → Put l from (entered_lines ls ns) m x
   unfolding entered_lines
-  entering_end g = left_none h.left (rw (drop_of_length-le ls g, entered_lines))
-
-  pub entering_no_times : length ns ≤ i → Put l from (entered_lines ls ns) m x
-  entering_no_times g = left_none h.left (rw (drop_of_length-le ns g) (no_times (drop i ls)))
+  entering_end g = left_none h.left (go (dec_le (length ls) i))
+    where
+      go : Dec (length ls ≤ i) → entered_lines (drop i ls) (drop i ns) ≡ []
+      go (yes k) = rw (drop_of_length-le ls k, entered_lines)
+      go (no k) = rw (drop_of_length-le ns {i = i} (omega arith)) (no_times (drop i ls))
 
   module _ (kl : i < length ls) (kn : i < length ns) where
     next_line : entered_lines (drop i ls) (drop i ns)

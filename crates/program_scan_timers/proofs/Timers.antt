@@ -1,19 +1,24 @@
 -- Laws of the timers' lines: their parts put one after the other, how far they reach, and the lines from any timer on. Assumes nothing.
-use Prim.Native.Nat.{ℕ, suc, ◌+◌, ◌*◌, ◌^◌, ◌≤◌, ◌<◌}
+use Prim.Native.Nat.{ℕ, suc, ◌+◌, ◌*◌, ◌-◌, ◌≤◌, ◌<◌, min}
 use native.Mathlib.Omega.{arith}
 use mathlib.Core.Path.{◌≡◌, refl, sym, ap, ◌∙◌}
-use mathlib.Core.Bool.{Bool, true, false, ◌&&◌}
+use mathlib.Core.Bool.{Bool, true, false, not, ◌&&◌, and-false}
 use mathlib.Core.List.{List, [], ◌∷◌, ◌++◌, append_assoc}
-use borrow.Author.Tests.{eq-eqb, ne_eqb}
+use native.Mathlib.Decide.{dec_le}
+use borrow.Author.Tests.{not-true, not-false}
+use native.Mathlib.Nat.{add-zero}
 use lib.Dec.{eqb}
-use lib.ListN.{length, get_or, drop, length-append, length-drop}
+use lib.ListN.{length, get_or, take, drop, length-drop}
+use Rattle.std.proofs.lemmas.List.{length-take-le, get_or-take, get_or-drop}
+use Rattle.std.specs.Cmp.Lexicographic.{pointwise}
+use Rattle.questions.proofs.Laws.Bytes.{same_is}
 use Rattle.questions.specs.Bytes.{bytes, decimal, same_bytes}
 use Rattle.table.specs.Timer.{Timer}
 use Rattle.table.specs.TimerRecords.{numbers_of, timers_in}
 use Rattle.timers.specs.Parts.{timer_at}
 use Rattle.timers.proofs.Laws.Numbers.{timers_more}
 use Rattle.printing.specs.Put.{Put}
-use Rattle.printing.proofs.Laws.Puts.{put_then, put_as, Left, all_left, left_none, left_more, decimal_most}
+use Rattle.printing.proofs.Laws.Puts.{put_then, put_as, Left, all_left, left_none, left_more}
 use Rattle.program_definitions.specs.Scanout.{timer_text, timer_line, same_timer, timer_lines}
 
 -- ---- a timer's start tick and flags
@@ -23,32 +28,6 @@ module _ (t : Timer) {l : List ℕ} {i m1 m2 m3 m4 r : ℕ} {x1 x2 x3 x4 y : Lis
       → Put x4 m4 (decimal t.done) r y → Put l i (timer_text t) r y
   unfolding timer_text
   state_put a b c d e = put_then a (put_then b (put_then c (put_then d e)))
-
--- numbers that fit 64 bits
-pub record Fits (t : Timer) : Type 0 where
-  pub start : t.start < 2 ^ 64
-  pub running : t.running < 2 ^ 64
-  pub done : t.done < 2 ^ 64
-
-text_long : (t : Timer) → Fits t → length (timer_text t) ≤ 62
-unfolding timer_text bytes
-text_long t f =
-    let a = decimal_most t.start f.start in
-    let b = decimal_most t.running f.running in
-    let c = decimal_most t.done f.done in
-    simp length-append (omega arith)
-
-module _ {l : List ℕ} {i r : ℕ} {x : List ℕ} where
-  pub state_reach : (t : Timer) (most : ℕ) → Put l i (timer_text t) r x → Fits t → i ≤ most → r ≤ most + 62
-  state_reach t most p f h = omega (arith, p.end, text_long t f)
-
-  pub change_reach : (b a : Timer) (most : ℕ) → Put l i (timer_text b ++ (bytes ">" ++ timer_text a)) r x → Fits b → Fits a → i ≤ most → r ≤ most + 125
-  unfolding bytes
-  change_reach b a most p f g h =
-      let k = text_long b f in
-      let j = text_long a g in
-      let n = length-append (timer_text b) (62 ∷ timer_text a) in
-      omega (arith, p.end)
 
 -- ---- a line
 
@@ -66,60 +45,45 @@ module _ (n : ℕ) (b l t : Timer) {o : List ℕ} {i m1 m2 m3 m4 m5 m6 r : ℕ} 
       append_assoc (timer_text b) (bytes ">" ++ timer_text l) after ∙ ap (λ z. timer_text b ++ z) (append_assoc (bytes ">") (timer_text l) after) in
       put_then a (put_then c (put_then d (put_as (sym ladder) (put_then e (put_then f (put_as (sym list) (put_then g h)))))))
 
-line_long : (n : ℕ) (b l t : Timer) → n < 2 ^ 64 → Fits b → Fits l → Fits t → length (timer_line n b l t) ≤ 300
-unfolding timer_line bytes
-line_long n b l t h fb fl ft =
-    let d = decimal_most n h in
-    let p = text_long b fb in
-    let q = text_long l fl in
-    let r = text_long t ft in
-    simp length-append (omega arith)
+-- ---- a record among the numbers, and two compared
 
--- ---- two records compared
+abbrev pub record_of : List ℕ → ℕ → List ℕ
+record_of ns at = take (at + 5 - at) (drop at ns)
 
-module _ (a b : Timer) where
-  abbrev five_tests : Bool → Bool → Bool → Bool → Bool → Bool
-  five_tests p s v r d = p && (s && (v && (r && (d && true))))
+module _ (ns : List ℕ) (at : ℕ) (k : at + 5 ≤ length ns) where
+  pub record_five : length (record_of ns at) ≡ 5
+  record_five = length-take-le (at + 5 - at) (drop at ns) (omega (arith, length-drop at ns)) ∙ omega arith
 
-  same_five : same_timer a b
-      ≡ five_tests (eqb a.preset b.preset) (eqb a.start b.start) (eqb a.variable b.variable) (eqb a.running b.running) (eqb a.done b.done)
-  unfolding same_timer numbers_of same_bytes
-  same_five = refl
+  number_at : (i : ℕ) → i < 5 → get_or (record_of ns at) i 0 ≡ get_or ns (at + i) 0
+  number_at i h = get_or-take (at + 5 - at) (drop at ns) i 0 (omega arith) ∙ get_or-drop at ns i 0
 
-  pub preset_differs : (a.preset ≡ b.preset → ⊥) → false ≡ same_timer a b
-  preset_differs n = sym (same_five ∙ rw (ne_eqb _ _ n) refl)
+  pub record_timer : timer_at (record_of ns at) 0 ≡ timer_at ns at
+  record_timer = λ j. record {
+    preset = (number_at 0 (omega arith) ∙ ap (λ i. get_or ns i 0) (add-zero at)) j;
+    start = number_at 1 (omega arith) j;
+    variable = number_at 2 (omega arith) j;
+    running = number_at 3 (omega arith) j;
+    done = number_at 4 (omega arith) j;
+  }
 
-  module _ (p : a.preset ≡ b.preset) where
-    pub start_differs : (a.start ≡ b.start → ⊥) → false ≡ same_timer a b
-    start_differs n = sym (same_five ∙ rw (eq-eqb _ _ p, ne_eqb _ _ n) refl)
+numbers_five : (ns : List ℕ) → length ns ≡ 5 → numbers_of (timer_at ns 0) ≡ ns
+unfolding numbers_of
+numbers_five [] h = absurd (omega arith)
+numbers_five (p ∷ []) h = absurd (omega arith)
+numbers_five (p ∷ s ∷ []) h = absurd (omega arith)
+numbers_five (p ∷ s ∷ v ∷ []) h = absurd (omega arith)
+numbers_five (p ∷ s ∷ v ∷ r ∷ []) h = absurd (omega arith)
+numbers_five (p ∷ s ∷ v ∷ r ∷ d ∷ []) h = refl
+numbers_five (p ∷ s ∷ v ∷ r ∷ d ∷ x ∷ more) h = absurd (omega arith)
 
-    module _ (s : a.start ≡ b.start) where
-      pub variable_differs : (a.variable ≡ b.variable → ⊥) → false ≡ same_timer a b
-      variable_differs n = sym (same_five ∙ rw (eq-eqb _ _ p, eq-eqb _ _ s, ne_eqb _ _ n) refl)
-
-      module _ (v : a.variable ≡ b.variable) where
-        pub running_differs : (a.running ≡ b.running → ⊥) → false ≡ same_timer a b
-        running_differs n = sym (same_five ∙ rw (eq-eqb _ _ p, eq-eqb _ _ s, eq-eqb _ _ v, ne_eqb _ _ n) refl)
-
-        pub done_decides : a.running ≡ b.running → eqb a.done b.done ≡ same_timer a b
-        done_decides r = sym (same_five ∙ rw (eq-eqb _ _ p, eq-eqb _ _ s, eq-eqb _ _ v, eq-eqb _ _ r) (last (eqb a.done b.done)))
-          where
-            last : (d : Bool) → (d && true) ≡ d
-            last true = refl
-            last false = refl
-
--- a flag and what it stands for, both ways
-pub first_not : {p q : Bool} (x : Bool) → p ≡ q → p ≡ false → false ≡ (q && x)
-first_not {p} x e n = rw (← e, n) refl
-
-pub first_then : {p q r x : Bool} → p ≡ q → p ≡ true → r ≡ x → r ≡ (q && x)
-first_then {p} e n f = rw (← e, n) f
-
-pub stands : {p q : Bool} → p ≡ q → p ≡ true → q ≡ true
-stands {p} e n = sym e ∙ n
-
-pub stands_not : {p q : Bool} → p ≡ q → p ≡ false → q ≡ false
-stands_not {p} e n = sym e ∙ n
+-- `==` compares two records
+pub compared : (ls bs : List ℕ) (at : ℕ) → at + 5 ≤ length ls → at + 5 ≤ length bs
+    → pointwise eqb (record_of ls at) (record_of bs at) ≡ same_timer (timer_at ls at) (timer_at bs at)
+unfolding same_timer
+compared ls bs at ka kb =
+    sym (same_is (record_of ls at) (record_of bs at))
+    ∙ (λ j. same_bytes (sym (numbers_five (record_of ls at) (record_five ls at ka)) j) (sym (numbers_five (record_of bs at) (record_five bs at kb)) j))
+    ∙ (λ j. same_bytes (numbers_of (record_timer ls at ka j)) (numbers_of (record_timer bs at kb j)))
 
 -- ---- the lines from any timer on
 
@@ -165,28 +129,17 @@ pub record Timing (from : ℕ) (bs ls ts l x : List ℕ) (m i : ℕ) : Type 0 wh
 pub timing_start : (from : ℕ) (bs ls ts l : List ℕ) → Timing from bs ls ts l l from 0
 timing_start from bs ls ts l = record { left = all_left l from (all_lines bs ls ts); room = omega arith; few = omega arith }
 
--- every number fits
-abbrev pub Small : List ℕ → Type 0
-Small xs = (k : ℕ) → get_or xs k 0 < 2 ^ 64
-
-pub small_fits : (ns : List ℕ) (at : ℕ) → Small ns → Fits (timer_at ns at)
-small_fits ns at h = record { start = h (at + 1); running = h (at + 3); done = h (at + 4) }
-
 module _ {from : ℕ} {bs ls ts l x : List ℕ} {m i : ℕ} (h : Timing from bs ls ts l x m i) where
   within : from ≤ 100000 → m ≤ 150000
   within w = omega (arith, h.room, h.few)
 
-  pub timing_no_before : from ≤ 100000 → length bs < i * 5 + 5 → Put l from (all_lines bs ls ts) m x × (m ≤ 150000)
-  timing_no_before w g =
-      (left_none h.left (rw (none_from bs (i * 5) g) (no_before i (timers_in (drop (i * 5) ls)) (timers_in (drop (i * 5) ts)))), within w)
-
-  pub timing_no_ladder : from ≤ 100000 → length ls < i * 5 + 5 → Put l from (all_lines bs ls ts) m x × (m ≤ 150000)
-  timing_no_ladder w g =
-      (left_none h.left (rw (none_from ls (i * 5) g) (no_ladder i (timers_in (drop (i * 5) bs)) (timers_in (drop (i * 5) ts)))), within w)
-
-  pub timing_no_list : from ≤ 100000 → length ts < i * 5 + 5 → Put l from (all_lines bs ls ts) m x × (m ≤ 150000)
-  timing_no_list w g =
-      (left_none h.left (rw (none_from ts (i * 5) g) (no_list i (timers_in (drop (i * 5) bs)) (timers_in (drop (i * 5) ls)))), within w)
+  pub timing_end : from ≤ 100000 → min (min (length bs) (length ls)) (length ts) < i * 5 + 5 → Put l from (all_lines bs ls ts) m x × (m ≤ 150000)
+  timing_end w g = (left_none h.left (go (dec_le (i * 5 + 5) (length bs)) (dec_le (i * 5 + 5) (length ls))), within w)
+    where
+      go : Dec (i * 5 + 5 ≤ length bs) → Dec (i * 5 + 5 ≤ length ls) → lines_from bs ls ts i ≡ []
+      go (no k) j = rw (none_from bs (i * 5) (omega arith)) (no_before i (timers_in (drop (i * 5) ls)) (timers_in (drop (i * 5) ts)))
+      go (yes k) (no j) = rw (none_from ls (i * 5) (omega arith)) (no_ladder i (timers_in (drop (i * 5) bs)) (timers_in (drop (i * 5) ts)))
+      go (yes k) (yes j) = rw (none_from ts (i * 5) (omega arith)) (no_list i (timers_in (drop (i * 5) bs)) (timers_in (drop (i * 5) ls)))
 
   module _ (lt : i < 32) (kb : i * 5 + 5 ≤ length bs) (kl : i * 5 + 5 ≤ length ls) (kt : i * 5 + 5 ≤ length ts) where
     abbrev record_in : List ℕ → Timer
@@ -201,6 +154,18 @@ module _ {from : ℕ} {bs ls ts l x : List ℕ} {m i : ℕ} (h : Timing from bs 
         let e : i * 5 + 5 ≡ suc i * 5 = omega arith in
         rw (timers_more bs (i * 5) kb, timers_more ls (i * 5) kl, timers_more ts (i * 5) kt, e, timer_lines) refl
 
+    -- what `!=` says of the records
+    pub ladder_differs : {r : Bool} → r ≡ not (pointwise eqb (record_of ls (i * 5)) (record_of bs (i * 5))) → r ≡ true → test ≡ false
+    ladder_differs e h = rw (sym (compared ls bs (i * 5) kl kb) ∙ not-true _ (sym e ∙ h)) refl
+
+    pub list_differs : {r : Bool} → r ≡ not (pointwise eqb (record_of ts (i * 5)) (record_of bs (i * 5))) → r ≡ true → test ≡ false
+    list_differs e h = rw (sym (compared ts bs (i * 5) kt kb) ∙ not-true _ (sym e ∙ h)) (and-false (same_timer (record_in ls) (record_in bs)))
+
+    pub neither_differs : {r q : Bool} → r ≡ not (pointwise eqb (record_of ls (i * 5)) (record_of bs (i * 5))) → r ≡ false
+        → q ≡ not (pointwise eqb (record_of ts (i * 5)) (record_of bs (i * 5))) → q ≡ false → test ≡ true
+    neither_differs e h f k =
+        rw (sym (compared ls bs (i * 5) kl kb) ∙ not-false _ (sym e ∙ h), sym (compared ts bs (i * 5) kt kb) ∙ not-false _ (sym f ∙ k)) refl
+
     pub timing_same : test ≡ true → Timing from bs ls ts l x m (i + 1)
     timing_same e =
         let one : i + 1 ≡ suc i = omega arith in
@@ -210,13 +175,15 @@ module _ {from : ℕ} {bs ls ts l x : List ℕ} {m i : ℕ} (h : Timing from bs 
           few = omega arith;
         }
 
-    pub timing_more : {r : ℕ} {y : List ℕ} → test ≡ false → i < 2 ^ 64 → Small bs → Small ls → Small ts
-        → Put x m (timer_line i (record_in bs) (record_in ls) (record_in ts)) r y → Timing from bs ls ts l y r (i + 1)
-    timing_more e n sb sl st p =
+    pub timing_more : {r : ℕ} {y : List ℕ} → test ≡ false
+        → Put x m (timer_line i (timer_at (record_of bs (i * 5)) 0) (timer_at (record_of ls (i * 5)) 0) (timer_at (record_of ts (i * 5)) 0)) r y
+        → r ≤ m + 300 → Timing from bs ls ts l y r (i + 1)
+    timing_more {r} {y} e q s =
+        let p : Put x m (timer_line i (record_in bs) (record_in ls) (record_in ts)) r y
+        = rw (← record_timer bs (i * 5) kb, ← record_timer ls (i * 5) kl, ← record_timer ts (i * 5) kt) q in
         let one : i + 1 ≡ suc i = omega arith in
-        let s = line_long i (record_in bs) (record_in ls) (record_in ts) n (small_fits bs (i * 5) sb) (small_fits ls (i * 5) sl) (small_fits ts (i * 5) st) in
         record {
           left = rw one (left_more h.left (rw e at next_line) p);
-          room = omega (arith, p.end, h.room);
+          room = omega (arith, h.room);
           few = omega arith;
         }

@@ -1,41 +1,45 @@
 // The timers' lines of ladder-scan's report. README, "ladder-scan"; document 02, Req 06.
 #![tactic(auto)]
 
-ghost use Rattle.std.specs.Prelude.{◌≡◌, ◌&&◌, ◌++◌, ◌+◌, ◌*◌, ◌≤◌, length};
+ghost use Rattle.std.specs.Prelude.{◌≡◌, ◌++◌, ◌+◌, ◌*◌, ◌≤◌, length};
 ghost use Rattle.questions.specs.Bytes.{bytes};
 ghost use Rattle.table.specs.Questions.{most_timers};
 ghost use Rattle.table.specs.TimerRecords.{timers_in};
 ghost use Rattle.timers.specs.Parts.{timer_at};
 ghost use Rattle.printing.specs.Put.{Put};
-ghost use Rattle.program_definitions.specs.Scanout.{timer_text, timer_line, same_timer, timer_lines};
+ghost use Rattle.program_definitions.specs.Scanout.{timer_text, timer_line, timer_lines};
 
-use timers::{DONE, MOST_TIMERS, NUMBERS, RUNNING, START, VARIABLE};
+use timers::{DONE, NUMBERS, RUNNING, START};
 
 // A timer's start tick and its flags running and done.
-fn put_state(out: &mut [u8], at: usize, timers: &[u32], place: usize) -> usize
-    requires { (at ≤ 200000) × (place + 5 ≤ length timers.now) }
-    ensures { Put out.old at (timer_text (timer_at timers.now place)) result out.new }
+#[tactic(auto, using(printing::proofs::Laws::Puts::decimal_most))]
+fn put_state(out: &mut [u8], at: usize, timer: &[u32]) -> usize
+    requires { (at ≤ 200000) × (length timer.now ≡ 5) }
+    ensures put { Put out.old at (timer_text (timer_at timer.now 0)) result out.new }
+    ensures upper_bound { result ≤ at + 62 }
 {
-    let start = printing::put_number(out, at, timers[place + START] as usize);
+    let start = printing::put_number(out, at, timer[START] as usize);
     let first = printing::put_text(out, start, b",");
-    let running = printing::put_number(out, first, timers[place + RUNNING] as usize);
+    let running = printing::put_number(out, first, timer[RUNNING] as usize);
     let second = printing::put_text(out, running, b",");
-    printing::put_number(out, second, timers[place + DONE] as usize)
+    printing::put_number(out, second, timer[DONE] as usize)
 }
 
 // A timer before and after a scan.
-fn put_change(out: &mut [u8], at: usize, before: &[u32], after: &[u32], place: usize) -> usize
-    requires { (at ≤ 180000) × ((place + 5 ≤ length before.now) × (place + 5 ≤ length after.now)) }
-    ensures { Put out.old at
-        (timer_text (timer_at before.now place) ++ (bytes ">" ++ timer_text (timer_at after.now place))) result
+fn put_change(out: &mut [u8], at: usize, before: &[u32], after: &[u32]) -> usize
+    requires { (at ≤ 180000) × ((length before.now ≡ 5) × (length after.now ≡ 5)) }
+    ensures put { Put out.old at
+        (timer_text (timer_at before.now 0) ++ (bytes ">" ++ timer_text (timer_at after.now 0))) result
         out.new }
+    ensures upper_bound { result ≤ at + 125 }
 {
-    let first = put_state(out, at, before, place);
+    let first = put_state(out, at, before);
     let to = printing::put_text(out, first, b">");
-    put_state(out, to, after, place)
+    put_state(out, to, after)
 }
 
 // The line of a timer: before and after, in both.
+#[tactic(auto, using(printing::proofs::Laws::Puts::decimal_most))]
 fn put_timer(
     out: &mut [u8],
     at: usize,
@@ -44,53 +48,19 @@ fn put_timer(
     ladder: &[u32],
     list: &[u32],
 ) -> usize
-    requires { (at ≤ 150000) × ((number * 5 + 5 ≤ length before.now) × ((number * 5 + 5 ≤ length ladder.now)
-        × (number * 5 + 5 ≤ length list.now))) }
-    ensures { Put out.old at
-        (timer_line number (timer_at before.now (number * 5)) (timer_at ladder.now (number * 5))
-        (timer_at list.now (number * 5))) result
+    requires { (at ≤ 150000) × ((length before.now ≡ 5) × ((length ladder.now ≡ 5) × (length list.now ≡ 5))) }
+    ensures put { Put out.old at
+        (timer_line number (timer_at before.now 0) (timer_at ladder.now 0) (timer_at list.now 0)) result
         out.new }
+    ensures upper_bound { result ≤ at + 300 }
 {
-    let place = number * NUMBERS;
     let name = printing::put_text(out, at, b"d");
     let end = printing::put_number(out, name, number);
     let space = printing::put_text(out, end, b" ");
-    let first = put_change(out, space, before, ladder, place);
+    let first = put_change(out, space, before, ladder);
     let apart = printing::put_text(out, first, b" ");
-    let second = put_change(out, apart, before, list, place);
+    let second = put_change(out, apart, before, list);
     printing::put_text(out, second, b"\n")
-}
-
-// Whether two records at a place are the same.
-fn same_timer(left: &[u32], right: &[u32], place: usize) -> bool
-    requires { (place + 5 ≤ length left.now) × (place + 5 ≤ length right.now) }
-    ensures { result ≡ same_timer (timer_at left.now place) (timer_at right.now place) }
-{
-    if left[place] != right[place] {
-        return false;
-    }
-    if left[place + START] != right[place + START] {
-        return false;
-    }
-    if left[place + VARIABLE] != right[place + VARIABLE] {
-        return false;
-    }
-    if left[place + RUNNING] != right[place + RUNNING] {
-        return false;
-    }
-    left[place + DONE] == right[place + DONE]
-}
-
-// Whether a record is the same before and after both scans.
-fn unchanged(before: &[u32], ladder: &[u32], list: &[u32], place: usize) -> bool
-    requires { (place + 5 ≤ length before.now) × ((place + 5 ≤ length ladder.now) × (place + 5 ≤ length list.now)) }
-    ensures { result ≡ (same_timer (timer_at ladder.now place) (timer_at before.now place)
-        && same_timer (timer_at list.now place) (timer_at before.now place)) }
-{
-    if !same_timer(ladder, before, place) {
-        return false;
-    }
-    same_timer(list, before, place)
 }
 
 // The lines of the timers that changed.
@@ -107,23 +77,18 @@ pub fn put_timers(
         out.new
         × (result ≤ 150000) }
 {
+    let count = before.len().min(ladder.len()).min(list.len()) / NUMBERS;
     let mut end = from;
-    let mut number: usize = 0;
-    while number < MOST_TIMERS {
+    // A range: the chunks of three slices, zipped and enumerated, are no plainer than one place in each.
+    for number in 0..count {
         let place = number * NUMBERS;
-        if before.len() < place + NUMBERS {
-            return end;
+        let next = place + NUMBERS;
+        let timer = &before[place..next];
+        let ladder_timer = &ladder[place..next];
+        let list_timer = &list[place..next];
+        if ladder_timer != timer || list_timer != timer {
+            end = put_timer(out, end, number, timer, ladder_timer, list_timer);
         }
-        if ladder.len() < place + NUMBERS {
-            return end;
-        }
-        if list.len() < place + NUMBERS {
-            return end;
-        }
-        if !unchanged(before, ladder, list, place) {
-            end = put_timer(out, end, number, before, ladder, list);
-        }
-        number += 1;
     }
     end
 }

@@ -13,13 +13,11 @@ use ladder_kinds::KindSort;
 use questions::MOST_VARIABLES;
 use rungs::OPERANDS;
 
+#[tactic(auto, unfolding(noninterference::specs::Contacts::is_contact, ladder_kinds::specs::Kinds::sort_in, ladder_kinds::specs::Kinds::case_sort))]
 fn is_contact(kind: u32) -> bool
     ensures { result ≡ is_contact kind }
 {
-    match ladder_kinds::sort_of(kind) {
-        KindSort::Contact => true,
-        _ => false,
-    }
+    matches!(ladder_kinds::sort_of(kind), Some(KindSort::Contact))
 }
 
 // Marks the variable of a word that is a contact's.
@@ -27,10 +25,7 @@ fn mark_word(word: u32, marks: &mut [u8])
     ensures { marks.new ≡ marked (word_contact word) marks.old }
 {
     if is_contact(word / OPERANDS) {
-        let variable = (word % OPERANDS) as usize;
-        if variable < marks.len() {
-            marks[variable] = 1;
-        }
+        rungs::put(marks, (word % OPERANDS) as usize, 1);
     }
 }
 
@@ -38,10 +33,8 @@ fn mark_word(word: u32, marks: &mut [u8])
 fn mark_contacts(words: &[u32], marks: &mut [u8])
     ensures { marks.new ≡ marked (word_contacts words.now) marks.old }
 {
-    let mut i: usize = 0;
-    while i < words.len() {
-        mark_word(words[i], marks);
-        i += 1;
+    for word in words {
+        mark_word(*word, marks);
     }
 }
 
@@ -59,13 +52,11 @@ fn put_names(out: &mut [u8], from: usize, marks: &[u8]) -> usize
     ensures { Put out.old from (variable_names (unmarked 0 marks.now)) result out.new }
 {
     let mut end = from;
-    let mut i: usize = 0;
-    while i < marks.len() {
-        let unnamed = marks[i] == 0;
+    for (variable, mark) in marks.iter().enumerate() {
+        let unnamed = *mark == 0;
         if unnamed {
-            end = put_name(out, end, i);
+            end = put_name(out, end, variable);
         }
-        i += 1;
     }
     end
 }

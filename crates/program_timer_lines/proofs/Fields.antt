@@ -15,7 +15,8 @@ use Rattle.text_grammar.specs.Reader.{pick, digit_of}
 use Rattle.program_definitions.specs.Lines.{first_line, text_after}
 use Rattle.program_definitions.specs.TimerLines.{before_space, after_space, is_digit, digits_after, number_in, is_number}
 use Rattle.program_numbers.proofs.Lines.{at_break, rest_break, at_other, rest_other, line_none_left, rest_none_left}
-use Rattle.program_timer_lines.specs.Fields.{next_digit, next_byte, field_of, has_space, FieldTaken, BreakTaken}
+use Rattle.std.specs.Prelude.{Option, Some, None, max}
+use Rattle.program_timer_lines.specs.Fields.{next_digit, next_byte, field_of, has_space, FieldRead, BreakTaken}
 use Rattle.program_timer_lines.specs.declared.Digits.{Digits}
 use Rattle.program_timer_lines.specs.declared.Digits.TheVariants.{Empty, Value, Wrong}
 use Rattle.program_timer_lines.specs.declared.Field.{Field}
@@ -35,22 +36,10 @@ module _ (most v b x : ℕ) (e : x ≡ digit_of b) where
   unfolding next_digit
   digit_taken h w = simp (← e, lt-leb _ _ h, le-ltb _ _ w)
 
-module _ (most b : ℕ) where
-  pub byte_first : (d : Digits) → d ≡ Empty → next_digit most 0 b ≡ next_byte most d b
+module _ (most b v : ℕ) where
+  byte_more : (v ≡ 0 → ⊥) → next_digit most v b ≡ next_byte most (Value v) b
   unfolding next_byte
-  byte_first d e = rw e refl
-
-  pub byte_zero : (d : Digits) (v : ℕ) → d ≡ Value v → v ≡ 0 → Wrong ≡ next_byte most d b
-  unfolding next_byte
-  byte_zero d v e z = rw (e, z) refl
-
-  pub byte_more : (d : Digits) (v : ℕ) → d ≡ Value v → (v ≡ 0 → ⊥) → next_digit most v b ≡ next_byte most d b
-  unfolding next_byte
-  byte_more d v e z = rw (e, ne_eqb v 0 z) refl
-
-  pub byte_wrong : (d : Digits) → d ≡ Wrong → Wrong ≡ next_byte most d b
-  unfolding next_byte
-  byte_wrong d e = rw e refl
+  byte_more z = rw (ne_eqb v 0 z) refl
 
 -- the digit of a byte that is one
 digit_is : (b : ℕ) → is_digit b ≡ true → (digit_of b ≡ b - 48) × (digit_of b < 10)
@@ -98,11 +87,10 @@ number_after most v ds = pick (all is_digit ds && leb (digits_after v ds) most) 
 
 module _ (most d : ℕ) (ds : List ℕ) (v : ℕ) (later : (n : ℕ) → 1 ≤ n → n ≤ most → field_from most (Value n) ds ≡ number_after most n ds) where
   more_none : is_digit d ≡ false → field_from most (next_digit most v d) ds ≡ number_after most v (d ∷ ds)
-  unfolding all
   more_none h = ap (λ (y : Digits). field_from most y ds) (sym (digit_none most v d (digit_of d) refl (digit_not d h))) ∙ (wrong_stays most ds ∙ rw h refl)
 
   more_over : is_digit d ≡ true → most < v * 10 + (d - 48) → field_from most (next_digit most v d) ds ≡ number_after most v (d ∷ ds)
-  unfolding all digits_after
+  unfolding digits_after
   more_over h x =
       let k = digit_is d h in
       let g = grows ds (v * 10 + (d - 48)) in
@@ -110,7 +98,7 @@ module _ (most d : ℕ) (ds : List ℕ) (v : ℕ) (later : (n : ℕ) → 1 ≤ n
       ∙ (wrong_stays most ds ∙ rw (h, lt-leb (digits_after (v * 10 + (d - 48)) ds) most (omega arith), and_no (all is_digit ds)) refl)
 
   more_taken : is_digit d ≡ true → 1 ≤ v * 10 + (d - 48) → v * 10 + (d - 48) ≤ most → field_from most (next_digit most v d) ds ≡ number_after most v (d ∷ ds)
-  unfolding all digits_after
+  unfolding digits_after
   more_taken h p x =
       let k = digit_is d h in
       let n = v * 10 + (d - 48) in
@@ -126,10 +114,10 @@ module _ (most d : ℕ) (ds : List ℕ) (v : ℕ) (later : (n : ℕ) → 1 ≤ n
       go true false h x = more_over h (leb-false _ _ x)
 
 field_more : (most : ℕ) (ds : List ℕ) (v : ℕ) → 1 ≤ v → v ≤ most → field_from most (Value v) ds ≡ number_after most v ds
-unfolding field_from digits_after all
+unfolding field_from digits_after
 field_more most [] v p w = rw (le-leb v most w) refl
 field_more most (d ∷ ds) v p w =
-    sym (ap (λ (y : Digits). field_from most y ds) (byte_more most d (Value v) v refl (λ z. omega arith)))
+    sym (ap (λ (y : Digits). field_from most y ds) (byte_more most d v (λ z. omega arith)))
     ∙ more_digit most d ds v (λ n. field_more most ds n) (λ h. omega arith)
 
 -- a field that begins with 0
@@ -144,7 +132,7 @@ abbrev number_or : Digits → ℕ → List ℕ → Digits
 number_or other most ds = pick (is_number most ds) (Value (number_in ds)) other
 
 whole_zero : (most : ℕ) (ds : List ℕ) → pick (eqb (length ds) 0) (Value 0) Wrong ≡ number_or Wrong most (48 ∷ ds)
-unfolding is_number is_digit digits_after all
+unfolding is_number is_digit digits_after
 whole_zero most [] = rw (le-leb 0 most (omega arith)) refl
 whole_zero most (d ∷ ds) =
     rw (
@@ -190,44 +178,24 @@ field_all most (d ∷ ds) = inl (field_one most d ds)
 
 -- what is made of it
 module _ (most : ℕ) (ds : List ℕ) (spaced : Bool) (at : ℕ) where
-  abbrev made : Field
+  abbrev made : Option Field
   made = field_of (field_from most Empty ds) spaced at
 
-  made_legal : made.legal ≡ is_number most ds
+  made_field : is_number most ds ≡ true → made ≡ Some (record { value = number_in ds; spaced = spaced; at = at })
   unfolding field_of
-  made_legal = go (is_number most ds) refl (field_all most ds)
+  made_field e = go (field_all most ds)
     where
-      go : (t : Bool) → is_number most ds ≡ t → (field_from most Empty ds ≡ number_or Wrong most ds) ⊎ ((field_from most Empty ds ≡ Empty) × (is_number most ds ≡ false))
-          → made.legal ≡ is_number most ds
-      go true e (inl q) = rw (q, e) refl
-      go false e (inl q) = rw (q, e) refl
-      go t e (inr q) = rw (q.0, q.1) refl
+      go : (field_from most Empty ds ≡ number_or Wrong most ds) ⊎ ((field_from most Empty ds ≡ Empty) × (is_number most ds ≡ false)) → made ≡ Some (record { value = number_in ds; spaced = spaced; at = at })
+      go (inl q) = rw (q, e) refl
+      go (inr q) = absurd (cc)
 
-  made_value : made.legal ≡ true → made.value ≡ number_in ds
+  made_none : is_number most ds ≡ false → made ≡ None
   unfolding field_of
-  made_value l = go (field_all most ds)
+  made_none e = go (field_all most ds)
     where
-      go : (field_from most Empty ds ≡ number_or Wrong most ds) ⊎ ((field_from most Empty ds ≡ Empty) × (is_number most ds ≡ false)) → made.value ≡ number_in ds
-      go (inl q) = rw (q, sym made_legal ∙ l) refl
-      go (inr q) = let k : ◌≡◌ {A = Bool} false true = sym q.1 ∙ (sym made_legal ∙ l) in let z : ◌≡◌ {A = ℕ} 0 1 = cc in absurd (omega arith)
-
-  made_spaced : made.spaced ≡ spaced
-  unfolding field_of
-  made_spaced = go (field_from most Empty ds)
-    where
-      go : (d : Digits) → (field_of d spaced at).spaced ≡ spaced
-      go Empty = refl
-      go (Value v) = refl
-      go Wrong = refl
-
-  made_at : made.at ≡ at
-  unfolding field_of
-  made_at = go (field_from most Empty ds)
-    where
-      go : (d : Digits) → (field_of d spaced at).at ≡ at
-      go Empty = refl
-      go (Value v) = refl
-      go Wrong = refl
+      go : (field_from most Empty ds ≡ number_or Wrong most ds) ⊎ ((field_from most Empty ds ≡ Empty) × (is_number most ds ≡ false)) → made ≡ None
+      go (inl q) = rw (q, e) refl
+      go (inr q) = rw q.0 refl
 
 -- ---- a line up to a space
 
@@ -277,9 +245,6 @@ pub record Fielding (input : List ℕ) (from most : ℕ) (d : Digits) (i : ℕ) 
   pub spaces : has_space (first_line (drop i input)) ≡ has_space (first_line (drop from input))
   pub rest : text_after (drop i input) ≡ text_after (drop from input)
 
-pub fielding_first : (input : List ℕ) (from most : ℕ) → Fielding input from most Empty from
-fielding_first input from most = record { within = λ w. w; onward = omega arith; left = refl; after = refl; spaces = refl; rest = refl }
-
 field_next : (most : ℕ) (d : Digits) (b : ℕ) (bs : List ℕ) → field_from most d (b ∷ bs) ≡ field_from most (next_byte most d b) bs
 unfolding field_from
 field_next most d b bs = refl
@@ -308,47 +273,56 @@ module _ {input : List ℕ} {from most : ℕ} {d : Digits} {i : ℕ} (h : Fieldi
         rest = rw add-one (sym (ap text_after c ∙ rest_other b later n) ∙ h.rest);
       }
 
+  abbrev whole_field : List ℕ
+  whole_field = before_space (first_line (drop from input))
+
   -- what is left of the field being nothing
   whole : before_space (first_line (drop i input)) ≡ [] → d ≡ field_from most Empty (before_space (first_line (drop from input)))
   whole q = sym (field_end most d) ∙ (ap (field_from most d) (sym q) ∙ h.left)
 
-  ended : (r : Field) (spaced : Bool) (at : ℕ) → r ≡ field_of d spaced at → before_space (first_line (drop i input)) ≡ []
+  ended : (r : Option Field) (spaced : Bool) (at : ℕ) → r ≡ field_of d spaced at → before_space (first_line (drop i input)) ≡ []
       → spaced ≡ has_space (first_line (drop i input)) → first_line (drop at input) ≡ after_space (first_line (drop i input))
-      → text_after (drop at input) ≡ text_after (drop i input) → (from ≤ length input → at ≤ length input) → i ≤ at → FieldTaken input from most r
-  ended r spaced at e q s a t w o =
-      let ds = before_space (first_line (drop from input)) in
-      let m : r ≡ made most ds spaced at = e ∙ ap (λ (y : Digits). field_of y spaced at) (whole q) in
-      let p : r.at ≡ at = ap (λ (f : Field). f.at) m ∙ made_at most ds spaced at in
-      let l : r.legal ≡ (made most ds spaced at).legal = ap (λ (f : Field). f.legal) m in
-      record {
-        legal = l ∙ made_legal most ds spaced at;
-        value = λ z. ap (λ (f : Field). f.value) m ∙ made_value most ds spaced at (sym l ∙ z);
-        spaced = ap (λ (f : Field). f.spaced) m ∙ (made_spaced most ds spaced at ∙ (s ∙ h.spaces));
-        after = ap (λ (n : ℕ). first_line (drop n input)) p ∙ (a ∙ h.after);
-        rest = ap (λ (n : ℕ). text_after (drop n input)) p ∙ (t ∙ h.rest);
-        within = λ z. rw p (w z);
-        onward = omega (arith, p, o, h.onward);
-      }
+      → text_after (drop at input) ≡ text_after (drop i input) → (from ≤ length input → at ≤ length input) → from ≤ at → FieldRead input from most r
+  ended r spaced at e q s a t w o = go (is_number most whole_field) refl
+    where
+      same : r ≡ made most whole_field spaced at
+      same = e ∙ ap (λ (y : Digits). field_of y spaced at) (whole q)
 
-  pub fielding_break : (r : Field) → i < length input → get_or input i 0 ≡ 10 → r ≡ field_of d false i → FieldTaken input from most r
+      go : (x : Bool) → is_number most whole_field ≡ x → FieldRead input from most r
+      go false n = rw (same ∙ made_none most whole_field spaced at n) n
+      go true n = rw (same ∙ made_field most whole_field spaced at n) (record {
+        legal = n;
+        value = refl;
+        spaced = s ∙ h.spaces;
+        after = a ∙ h.after;
+        rest = t ∙ h.rest;
+        within = w;
+        onward = o;
+      })
+
+  pub fielding_break : (r : Option Field) → i < length input → get_or input i 0 ≡ 10 → r ≡ field_of d false i → FieldRead input from most r
   fielding_break r k n e =
       let later = drop (suc i) input in
       let q : first_line (drop i input) ≡ [] = ap first_line (drop-cons input i 0 k) ∙ at_break (get_or input i 0) later n in
-      ended r false i e (ap before_space q ∙ before_none) (sym (ap has_space q ∙ has_none)) (q ∙ sym (ap after_space q ∙ after_none)) refl h.within (omega arith)
+      ended r false i e (ap before_space q ∙ before_none) (sym (ap has_space q ∙ has_none)) (q ∙ sym (ap after_space q ∙ after_none)) refl h.within h.onward
 
-  pub fielding_space : (r : Field) → i < length input → (get_or input i 0 ≡ 10 → ⊥) → get_or input i 0 ≡ 32 → r ≡ field_of d true (i + 1) → FieldTaken input from most r
+  pub fielding_space : (r : Option Field) → i < length input → (get_or input i 0 ≡ 10 → ⊥) → get_or input i 0 ≡ 32 → r ≡ field_of d true (i + 1) → FieldRead input from most r
   fielding_space r k n s e =
       let b = get_or input i 0 in
       let later = drop (suc i) input in
       let c : drop i input ≡ b ∷ later = drop-cons input i 0 k in
       let q : first_line (drop i input) ≡ b ∷ first_line later = ap first_line c ∙ at_other b later n in
       ended r true (i + 1) e (ap before_space q ∙ before_space_lem b (first_line later) s) (sym (ap has_space q ∙ has_space_lem b (first_line later) s))
-      (rw add-one (sym (ap after_space q ∙ after_space_lem b (first_line later) s))) (rw add-one (sym (ap text_after c ∙ rest_other b later n))) (λ w. omega arith) (omega arith)
+      (rw add-one (sym (ap after_space q ∙ after_space_lem b (first_line later) s))) (rw add-one (sym (ap text_after c ∙ rest_other b later n))) (λ w. omega arith) (omega (arith, h.onward))
 
-  pub fielding_end : (r : Field) → length input ≤ i → r ≡ field_of d false i → FieldTaken input from most r
+  -- at the end of the input
+  pub fielding_end : (r : Option Field) → length input ≤ i → r ≡ field_of d false (max from (length input)) → FieldRead input from most r
   fielding_end r k e =
-      let q : first_line (drop i input) ≡ [] = ap first_line (drop_of_length-le input k) ∙ line_none_left in
-      ended r false i e (ap before_space q ∙ before_none) (sym (ap has_space q ∙ has_none)) (q ∙ sym (ap after_space q ∙ after_none)) refl h.within (omega arith)
+      let c : drop i input ≡ [] = drop_of_length-le input k in
+      let z : drop (max from (length input)) input ≡ [] = drop_of_length-le input (omega arith) in
+      let q : first_line (drop i input) ≡ [] = ap first_line c ∙ line_none_left in
+      ended r false (max from (length input)) e (ap before_space q ∙ before_none) (sym (ap has_space q ∙ has_none))
+      ((ap first_line z ∙ line_none_left) ∙ sym (ap after_space q ∙ after_none)) (ap text_after (z ∙ sym c)) (λ w. omega arith) (omega arith)
 
 -- ---- the end of a line
 

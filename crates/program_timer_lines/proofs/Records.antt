@@ -1,14 +1,14 @@
 -- Laws of the timer records that are held, line after line. Assumes nothing.
 use mathlib.Core.Path.{◌≡◌, refl, ap, sym, ◌∙◌}
-use mathlib.Core.Bool.{Bool, true, false, not}
+use mathlib.Core.Bool.{Bool, true, false}
 use mathlib.Core.Option.{Option, none, some}
 use mathlib.Core.List.{List, [], ◌∷◌, ◌++◌, append_assoc, append-nil, flat_map}
 use Prim.Native.Nat.{ℕ, zero, suc, ◌+◌, ◌-◌, ◌*◌, ◌≤◌, ◌<◌}
 use native.Mathlib.Omega.{arith}
 use native.Mathlib.Decide.{dec_le}
-use borrow.Author.Tests.{not-true, eqb-true, eqb-false}
+use borrow.Author.Tests.{eqb-true, eqb-false}
 use lib.Dec.{eqb}
-use lib.ListN.{length, take, drop, length-append, drop_of_length-le}
+use lib.ListN.{length, take, drop, length-append}
 use lib.Seq.{sets, sets-eq, length-sets, take_at, length-take-le}
 use Rattle.questions.specs.Bytes.{bytes, same_bytes}
 use Rattle.table.specs.Timer.{Timer}
@@ -20,15 +20,6 @@ use Rattle.program_timer_lines.specs.Timers.{timer_in, TimerRead, Held, TimersRe
 use Rattle.program_timer_lines.specs.declared.TimerLine.{TimerLine}
 
 -- ---- one record more
-
-module _ (t : List ℕ) (count : ℕ) (line : TimerLine) where
-  pub held_full : length t < count + 5 → Held t count line count t
-  held_full h = record { room = λ k. absurd (omega arith); full = λ k. (refl, refl) }
-
-  pub held_more : (u : List ℕ) → count + 5 ≤ length t → u ≡ sets t count (line.preset ∷ line.start ∷ line.variable ∷ line.running ∷ line.done ∷ [])
-      → Held t count line (count + 5) u
-  unfolding numbers_of
-  held_more u h e = record { room = λ k. (refl, e); full = λ k. absurd (omega arith) }
 
 written : (t : List ℕ) (at : ℕ) (vs : List ℕ) → at + length vs ≤ length t → take (at + length vs) (sets t at vs) ≡ take at t ++ vs
 written t at vs h =
@@ -135,12 +126,12 @@ unfolding numbers_of
 numbers_five t = refl
 
 module _ {input : List ℕ} {from : ℕ} {t u : List ℕ} {count i : ℕ} (h : Holding input from t u count i) where
-  module _ {line : TimerLine} (r : TimerRead input i line) (legal : line.legal ≡ true) where
+  module _ {line : TimerLine} (r : TimerRead input i line) where
     line_taken : timers_taken (drop i input)
         ≡ record { timers = timer_in line ∷ (timers_taken (drop line.at input)).timers; text = (timers_taken (drop line.at input)).text }
     line_taken =
-        taken_some (drop i input) (timer_in line) (r.is_timer legal)
-        ∙ ap (λ (l : List ℕ). record { timers = timer_in line ∷ (timers_taken l).timers; text = (timers_taken l).text }) (sym (r.rest legal))
+        taken_some (drop i input) (timer_in line) r.is_timer
+        ∙ ap (λ (l : List ℕ). record { timers = timer_in line ∷ (timers_taken l).timers; text = (timers_taken l).text }) (sym r.rest)
 
     text_same : (timers_taken (drop line.at input)).text ≡ (timers_taken (drop from input)).text
     text_same = sym (ap (λ (k : Taken). k.text) line_taken) ∙ h.text
@@ -148,12 +139,9 @@ module _ {input : List ℕ} {from : ℕ} {t u : List ℕ} {count i : ℕ} (h : H
     timers_same : (timers_taken (drop i input)).timers ≡ timer_in line ∷ (timers_taken (drop line.at input)).timers
     timers_same = ap (λ (k : Taken). k.timers) line_taken
 
-    within_same : i < length input → from ≤ length input → line.at ≤ length input
-    within_same k w = r.within (omega arith)
-
-    holding_room : i < length input → {n : ℕ} {v : List ℕ} → count + 5 ≤ length u → (n ≡ count + 5) × (v ≡ sets u count (numbers_of (timer_in line)))
+    holding_room : {n : ℕ} {v : List ℕ} → count + 5 ≤ length u → (n ≡ count + 5) × (v ≡ sets u count (numbers_of (timer_in line)))
         → Holding input from t v n line.at
-    holding_room k {n} {v} w e =
+    holding_room {n} {v} w e =
         let rec = timer_in line in
         let later = (timers_taken (drop line.at input)).timers in
         let five = numbers_five rec in
@@ -164,7 +152,7 @@ module _ {input : List ℕ} {from : ℕ} {t u : List ℕ} {count i : ℕ} (h : H
         record {
           records = suc h.records;
           counted = omega (arith, e.0);
-          within = within_same k;
+          within = λ w. r.within;
           room = omega (arith, e.0);
           long = ap length e.1 ∙ (length-sets u count (numbers_of rec) ∙ h.long);
           text = text_same;
@@ -177,8 +165,8 @@ module _ {input : List ℕ} {from : ℕ} {t u : List ℕ} {count i : ℕ} (h : H
               ∙ (ap (λ (l : List ℕ). take count u ++ l) (sym split) ∙ h.held q));
         }
 
-    holding_full : i < length input → {n : ℕ} {v : List ℕ} → length u < count + 5 → (n ≡ count) × (v ≡ u) → Holding input from t v n line.at
-    holding_full k {n} {v} w e =
+    holding_full : {n : ℕ} {v : List ℕ} → length u < count + 5 → (n ≡ count) × (v ≡ u) → Holding input from t v n line.at
+    holding_full {n} {v} w e =
         let later = (timers_taken (drop line.at input)).timers in
         let c = h.counted in
         let long = h.long in
@@ -186,7 +174,7 @@ module _ {input : List ℕ} {from : ℕ} {t u : List ℕ} {count i : ℕ} (h : H
         record {
           records = h.records;
           counted = omega (arith, e.0);
-          within = within_same k;
+          within = λ w. r.within;
           room = omega (arith, e.0);
           long = ap length e.1 ∙ h.long;
           text = text_same;
@@ -198,12 +186,12 @@ module _ {input : List ℕ} {from : ℕ} {t u : List ℕ} {count i : ℕ} (h : H
               (λ j. take (e.0 j) (e.1 j) ++ same j) ∙ h.held q;
         }
 
-    pub holding_more : (n : ℕ) (v : List ℕ) → i < length input → Held u count line n v → Holding input from t v n line.at
-    holding_more n v k held = go (dec_le (count + 5) (length u))
+    pub holding_more : (n : ℕ) (v : List ℕ) → Held u count line n v → Holding input from t v n line.at
+    holding_more n v held = go (dec_le (count + 5) (length u))
       where
         go : Dec (count + 5 ≤ length u) → Holding input from t v n line.at
-        go (yes w) = holding_room k w (held.room w)
-        go (no w) = holding_full k (omega arith) (held.full (omega arith))
+        go (yes w) = holding_room w (held.room w)
+        go (no w) = holding_full (omega arith) (held.full (omega arith))
 
   -- what is left being no line of a timer
   ended : timers_taken (drop i input) ≡ record { timers = []; text = drop i input } → TimersRead input from t (record { count = count; at = i }) u
@@ -222,10 +210,5 @@ module _ {input : List ℕ} {from : ℕ} {t u : List ℕ} {count i : ℕ} (h : H
       none_numbers zero = numbers_none
       none_numbers (suc n) = numbers_none
 
-  pub holding_stop : {line : TimerLine} → TimerRead input i line → not line.legal ≡ true → TimersRead input from t (record { count = count; at = i }) u
-  holding_stop {line} r e = ended (taken_none (drop i input) (r.no_timer (not-true line.legal e)))
-
-  pub holding_end : length input ≤ i → TimersRead input from t (record { count = count; at = i }) u
-  holding_end k =
-      let d : drop i input ≡ [] = drop_of_length-le input k in
-      ended (taken_none (drop i input) (ap (λ (l : List ℕ). timer_of (first_line l)) d ∙ no_line_lem))
+  pub holding_stop : timer_of (first_line (drop i input)) ≡ none → TimersRead input from t (record { count = count; at = i }) u
+  holding_stop e = ended (taken_none (drop i input) e)

@@ -5,7 +5,7 @@ use mathlib.Core.Option.{Option, none, some}
 use mathlib.Core.List.{List, [], ◌∷◌}
 use Prim.Native.Nat.{ℕ, ◌+◌, ◌≤◌}
 use native.Mathlib.Omega.{arith}
-use borrow.Author.Tests.{not-true, not-false, eqb-true}
+use borrow.Author.Tests.{eqb-true}
 use lib.Dec.{eqb, leb}
 use lib.ListN.{length, get_or, take, drop, length-drop}
 use lib.Seq.{drop-drop}
@@ -14,11 +14,10 @@ use Rattle.questions.specs.Tests.{all}
 use Rattle.table.specs.Timer.{Timer}
 use Rattle.program_definitions.specs.Lines.{first_line, text_after}
 use Rattle.program_definitions.specs.TimerLines.{before_space, after_space, is_digit, number_in, is_number, now_of, timer_of, now_taken}
-use Rattle.program_timer_lines.specs.Fields.{has_space, FieldTaken, BreakTaken}
+use Rattle.program_timer_lines.specs.Fields.{has_space, stands_at, FieldTaken, BreakTaken}
 use Rattle.program_timer_lines.specs.Timers.{NowRead, TimerRead}
 use Rattle.program_timer_lines.specs.declared.Field.{Field}
-use Rattle.program_timer_lines.specs.declared.TimerLine.{TimerLine}
-use Rattle.program_timer_lines.proofs.Words.{false_true, and_first, and_second, stands_at, in_line, Leads, leads}
+use Rattle.program_timer_lines.proofs.Words.{false_true, in_line, Leads, leads}
 
 -- ---- a line's last field is all that is left of the line
 
@@ -35,7 +34,7 @@ no_space (b ∷ bs) h = go (eqb b 32) refl h (no_space bs)
         (rw (e, before_space) (ap (λ (l : List ℕ). b ∷ l) k.0), rw (e, after_space) k.1)
 
 space_digits : (l : List ℕ) → has_space l ≡ true → all is_digit l ≡ false
-unfolding has_space all is_digit
+unfolding has_space is_digit
 space_digits [] h = false_true h
 space_digits (b ∷ bs) h = go (eqb b 32) refl h (space_digits bs)
   where
@@ -73,7 +72,7 @@ last_number most l = go (has_space l) refl
 -- ---- the tick
 
 now_in_line : in_line (bytes "now ") ≡ true
-unfolding bytes all
+unfolding bytes
 now_in_line = refl
 
 -- a line that is none, and one that is
@@ -118,31 +117,32 @@ module _ (input : List ℕ) (from : ℕ) where
     unfolding now_of bytes
     now_is q = rw (now_word.line ∙ h, q, now_of) refl
 
+    -- the number of the line, by the field after the word
+    abbrev after_now : List ℕ
+    after_now = first_line (drop (from + 4) input)
+
+    number_as : is_number 4294967295 (drop 4 whole_line) ≡ (is_number 4294967295 (before_space after_now) && not (has_space after_now))
+    number_as = ap (is_number 4294967295) now_later ∙ last_number 4294967295 after_now
+
+    pub now_illegal : is_number 4294967295 (before_space after_now) ≡ false → NowRead input from (record { tick = 0; at = from })
+    now_illegal e = now_not (number_as ∙ rw e refl)
+
     module _ {f : Field} (t : FieldTaken input (from + 4) 4294967295 f) where
-      number_as : is_number 4294967295 (drop 4 whole_line) ≡ (f.legal && not f.spaced)
-      number_as =
-          ap (is_number 4294967295) now_later
-          ∙ (last_number 4294967295 (first_line (drop (from + 4) input)) ∙ (λ i. sym t.legal i && not (sym t.spaced i)))
+      pub now_spaced : f.spaced ≡ true → NowRead input from (record { tick = 0; at = from })
+      now_spaced q = now_not (number_as ∙ rw (t.legal, sym t.spaced ∙ q) refl)
 
-      pub now_illegal : not f.legal ≡ true → NowRead input from (record { tick = 0; at = from })
-      now_illegal e = now_not (number_as ∙ rw (not-true f.legal e) refl)
-
-      pub now_spaced : not f.legal ≡ false → f.spaced ≡ true → NowRead input from (record { tick = 0; at = from })
-      now_spaced e q = now_not (number_as ∙ rw (not-false f.legal e, q) refl)
-
-      pub now_taken_lem : (at : ℕ) → not f.legal ≡ false → f.spaced ≡ false → BreakTaken input f.at at → NowRead input from (record { tick = f.value; at = at })
-      now_taken_lem at e q b =
-          let l = not-false f.legal e in
-          let s = no_space (first_line (drop (from + 4) input)) (sym t.spaced ∙ q) in
-          let n : f.value ≡ number_in (drop 4 whole_line) = t.value l ∙ (ap number_in s.0 ∙ ap number_in (sym now_later)) in
-          now_some f.value at (now_is (number_as ∙ rw (l, q) refl) ∙ ap some (sym n))
+      pub now_taken_lem : (at : ℕ) → f.spaced ≡ false → BreakTaken input f.at at → NowRead input from (record { tick = f.value; at = at })
+      now_taken_lem at q b =
+          let s = no_space after_now (sym t.spaced ∙ q) in
+          let n : f.value ≡ number_in (drop 4 whole_line) = t.value ∙ (ap number_in s.0 ∙ ap number_in (sym now_later)) in
+          now_some f.value at (now_is (number_as ∙ rw (t.legal, sym t.spaced ∙ q) refl) ∙ ap some (sym n))
           (b.rest (t.after ∙ s.1) ∙ (t.rest ∙ now_text))
           (λ w. b.within (t.within now_room))
 
 -- ---- the line of a timer
 
 timer_in_line : in_line (bytes "timer ") ≡ true
-unfolding bytes all
+unfolding bytes
 timer_in_line = refl
 
 -- by its word and its fields, each with what follows it
@@ -177,15 +177,9 @@ module _ (input : List ℕ) (from : ℕ) where
   timer_word : Leads (bytes "timer ") (drop from input)
   timer_word = leads (bytes "timer ") (drop from input) timer_in_line
 
-  pub timer_other : (r : TimerLine) → stands_at input from (bytes "timer ") ≡ false → r.legal ≡ false → r.at ≡ from → TimerRead input from r
+  pub timer_other : stands_at input from (bytes "timer ") ≡ false → timer_of timers_line ≡ none
   unfolding timer_of bytes
-  timer_other r h l a = record {
-    is_timer = λ e. false_true (sym l ∙ e);
-    no_timer = λ e. rw (timer_word.line ∙ h, timer_of) refl;
-    rest = λ e. false_true (sym l ∙ e);
-    within = λ w. rw a w;
-    onward = λ e. false_true (sym l ∙ e);
-  }
+  timer_other h = rw (timer_word.line ∙ h, timer_of) refl
 
   module _ (h : stands_at input from (bytes "timer ") ≡ true) where
     pub timer_room : from + 6 ≤ length input
@@ -204,90 +198,70 @@ module _ (input : List ℕ) (from : ℕ) where
     unfolding bytes
     timer_begins = timer_word.line ∙ h
 
-    module _ {p s v r d : Field} (tp : FieldTaken input (from + 6) 4294967295 p) (ts : FieldTaken input p.at 4294967295 s) (tv : FieldTaken input s.at 65535 v)
-        (tr : FieldTaken input v.at 1 r) (td : FieldTaken input r.at 1 d) where
-      abbrev field_line : ℕ → List ℕ
-      field_line at = first_line (drop at input)
+    abbrev field_line : ℕ → List ℕ
+    field_line at = first_line (drop at input)
 
-      after_p : after_space (drop 6 timers_line) ≡ field_line p.at
-      after_p = ap after_space timer_later ∙ sym tp.after
+    -- the line by its fields, of which some have been read, and the next is no number
+    by_word : timer_of timers_line ≡ timer_by true (field_line (from + 6)) (after_space (field_line (from + 6))) (after_space (after_space (field_line (from + 6))))
+        (after_space (after_space (after_space (field_line (from + 6))))) (after_space (after_space (after_space (after_space (field_line (from + 6))))))
+    by_word = timer_by_lem timers_line ∙ (λ i. let l = timer_later i in timer_by (timer_begins i) l (after_space l) (after_space (after_space l))
+        (after_space (after_space (after_space l))) (after_space (after_space (after_space (after_space l)))))
 
-      after_s : after_space (after_space (drop 6 timers_line)) ≡ field_line s.at
-      after_s = ap after_space after_p ∙ sym ts.after
+    pub no_preset : is_number 4294967295 (before_space (field_line (from + 6))) ≡ false → timer_of timers_line ≡ none
+    unfolding timer_by
+    no_preset e = by_word ∙ rw (e, timer_by) refl
 
-      after_v : after_space (after_space (after_space (drop 6 timers_line))) ≡ field_line v.at
-      after_v = ap after_space after_s ∙ sym tv.after
+    module _ {p : Field} (tp : FieldTaken input (from + 6) 4294967295 p) where
+      by_preset : timer_of timers_line ≡ timer_by true (field_line (from + 6)) (field_line p.at) (after_space (field_line p.at))
+          (after_space (after_space (field_line p.at))) (after_space (after_space (after_space (field_line p.at))))
+      by_preset = by_word ∙ (λ i. let l = sym tp.after i in timer_by true (field_line (from + 6)) l (after_space l) (after_space (after_space l)) (after_space (after_space (after_space l))))
 
-      after_r : after_space (after_space (after_space (after_space (drop 6 timers_line)))) ≡ field_line r.at
-      after_r = ap after_space after_v ∙ sym tr.after
-
-      by_fields : timer_of timers_line ≡ timer_by true (field_line (from + 6)) (field_line p.at) (field_line s.at) (field_line v.at) (field_line r.at)
-      by_fields = timer_by_lem timers_line ∙ (λ i. timer_by (timer_begins i) (timer_later i) (after_p i) (after_s i) (after_v i) (after_r i))
-
-      abbrev all_legal : Bool
-      all_legal = p.legal && (s.legal && (v.legal && (r.legal && (d.legal && not d.spaced))))
-
-      legal_tests : (is_number 4294967295 (before_space (field_line (from + 6)))
-          && (is_number 4294967295 (before_space (field_line p.at))
-          && (is_number 65535 (before_space (field_line s.at))
-          && (is_number 1 (before_space (field_line v.at)) && is_number 1 (field_line r.at))))) ≡ all_legal
-      legal_tests =
-          let last : is_number 1 (field_line r.at) ≡ (d.legal && not d.spaced) =
-          last_number 1 (field_line r.at) ∙ (λ i. sym td.legal i && not (sym td.spaced i)) in
-          λ i. sym tp.legal i && (sym ts.legal i && (sym tv.legal i && (sym tr.legal i && last i)))
-
-      fields_none : all_legal ≡ false → timer_of timers_line ≡ none
+      pub no_start : is_number 4294967295 (before_space (field_line p.at)) ≡ false → timer_of timers_line ≡ none
       unfolding timer_by
-      fields_none e = by_fields ∙ rw (legal_tests ∙ e, timer_by) refl
+      no_start e = by_preset ∙ rw (tp.legal, e, timer_by) refl
 
-      -- every field being a number, and the line ending after the last
-      module _ (e : all_legal ≡ true) where
-        legal_p : p.legal ≡ true
-        legal_p = and_first p.legal (s.legal && (v.legal && (r.legal && (d.legal && not d.spaced)))) e
+      module _ {s : Field} (ts : FieldTaken input p.at 4294967295 s) where
+        by_start : timer_of timers_line ≡ timer_by true (field_line (from + 6)) (field_line p.at) (field_line s.at) (after_space (field_line s.at)) (after_space (after_space (field_line s.at)))
+        by_start = by_preset ∙ (λ i. let l = sym ts.after i in timer_by true (field_line (from + 6)) (field_line p.at) l (after_space l) (after_space (after_space l)))
 
-        e_s : (s.legal && (v.legal && (r.legal && (d.legal && not d.spaced)))) ≡ true
-        e_s = and_second p.legal (s.legal && (v.legal && (r.legal && (d.legal && not d.spaced)))) e
-
-        e_v : (v.legal && (r.legal && (d.legal && not d.spaced))) ≡ true
-        e_v = and_second s.legal (v.legal && (r.legal && (d.legal && not d.spaced))) e_s
-
-        e_r : (r.legal && (d.legal && not d.spaced)) ≡ true
-        e_r = and_second v.legal (r.legal && (d.legal && not d.spaced)) e_v
-
-        e_d : (d.legal && not d.spaced) ≡ true
-        e_d = and_second r.legal (d.legal && not d.spaced) e_r
-
-        line_ends : (before_space (field_line r.at) ≡ field_line r.at) × (after_space (field_line r.at) ≡ [])
-        line_ends = no_space (field_line r.at) (sym td.spaced ∙ not-true d.spaced (and_second d.legal (not d.spaced) e_d))
-
-        fields_some : timer_of timers_line
-            ≡ some (record { preset = p.value; start = s.value; variable = v.value; running = r.value; done = d.value })
+        pub no_variable : is_number 65535 (before_space (field_line s.at)) ≡ false → timer_of timers_line ≡ none
         unfolding timer_by
-        fields_some =
-            let vp = tp.value legal_p in
-            let vs = ts.value (and_first s.legal (v.legal && (r.legal && (d.legal && not d.spaced))) e_s) in
-            let vv = tv.value (and_first v.legal (r.legal && (d.legal && not d.spaced)) e_v) in
-            let vr = tr.value (and_first r.legal (d.legal && not d.spaced) e_r) in
-            let vd = td.value (and_first d.legal (not d.spaced) e_d) ∙ ap number_in line_ends.0 in
-            by_fields ∙ (rw (legal_tests ∙ e, timer_by) refl
-            ∙ (λ i. some (record { preset = sym vp i; start = sym vs i; variable = sym vv i; running = sym vr i; done = sym vd i })))
+        no_variable e = by_start ∙ rw (tp.legal, ts.legal, e, timer_by) refl
 
-        fields_rest : {at : ℕ} → BreakTaken input d.at at → drop at input ≡ text_after (drop from input)
-        fields_rest b = b.rest (td.after ∙ line_ends.1) ∙ (td.rest ∙ (tr.rest ∙ (tv.rest ∙ (ts.rest ∙ (tp.rest ∙ timer_text_lem)))))
+        module _ {v : Field} (tv : FieldTaken input s.at 65535 v) where
+          by_variable : timer_of timers_line ≡ timer_by true (field_line (from + 6)) (field_line p.at) (field_line s.at) (field_line v.at) (after_space (field_line v.at))
+          by_variable = by_start ∙ (λ i. let l = sym tv.after i in timer_by true (field_line (from + 6)) (field_line p.at) (field_line s.at) l (after_space l))
 
-      pub timer_read : (at : ℕ) → BreakTaken input d.at at → TimerRead input from (record {
-        legal = all_legal;
-        preset = p.value;
-        start = s.value;
-        variable = v.value;
-        running = r.value;
-        done = d.value;
-        at = at;
-      })
-      timer_read at b = record {
-        is_timer = λ e. fields_some e;
-        no_timer = λ e. fields_none e;
-        rest = λ e. fields_rest e b;
-        within = λ w. b.within (td.within (tr.within (tv.within (ts.within (tp.within timer_room)))));
-        onward = λ e. omega (arith, tp.onward, ts.onward, tv.onward, tr.onward, td.onward, b.onward);
-      }
+          pub no_running : is_number 1 (before_space (field_line v.at)) ≡ false → timer_of timers_line ≡ none
+          unfolding timer_by
+          no_running e = by_variable ∙ rw (tp.legal, ts.legal, tv.legal, e, timer_by) refl
+
+          module _ {r : Field} (tr : FieldTaken input v.at 1 r) where
+            by_running : timer_of timers_line ≡ timer_by true (field_line (from + 6)) (field_line p.at) (field_line s.at) (field_line v.at) (field_line r.at)
+            by_running = by_variable ∙ (λ i. timer_by true (field_line (from + 6)) (field_line p.at) (field_line s.at) (field_line v.at) (sym tr.after i))
+
+            last_not : is_number 1 (field_line r.at) ≡ false → timer_of timers_line ≡ none
+            unfolding timer_by
+            last_not e = by_running ∙ rw (tp.legal, ts.legal, tv.legal, tr.legal, e, timer_by) refl
+
+            pub no_done : is_number 1 (before_space (field_line r.at)) ≡ false → timer_of timers_line ≡ none
+            no_done e = last_not (last_number 1 (field_line r.at) ∙ rw e refl)
+
+            module _ {d : Field} (td : FieldTaken input r.at 1 d) where
+              pub more_fields : d.spaced ≡ true → timer_of timers_line ≡ none
+              more_fields q = last_not (last_number 1 (field_line r.at) ∙ rw (td.legal, sym td.spaced ∙ q) refl)
+
+              pub timer_read : (at : ℕ) → d.spaced ≡ false → BreakTaken input d.at at
+                  → TimerRead input from (record { preset = p.value; start = s.value; variable = v.value; running = r.value; done = d.value; at = at })
+              unfolding timer_by
+              timer_read at q b =
+                  let l = no_space (field_line r.at) (sym td.spaced ∙ q) in
+                  let last : is_number 1 (field_line r.at) ≡ true = last_number 1 (field_line r.at) ∙ rw (td.legal, sym td.spaced ∙ q) refl in
+                  let vd : d.value ≡ number_in (field_line r.at) = td.value ∙ ap number_in l.0 in
+                  record {
+                    is_timer = by_running ∙ (rw (tp.legal, ts.legal, tv.legal, tr.legal, last, timer_by) refl
+                        ∙ (λ i. some (record { preset = sym tp.value i; start = sym ts.value i; variable = sym tv.value i; running = sym tr.value i; done = sym vd i })));
+                    rest = b.rest (td.after ∙ l.1) ∙ (td.rest ∙ (tr.rest ∙ (tv.rest ∙ (ts.rest ∙ (tp.rest ∙ timer_text_lem)))));
+                    within = b.within (td.within (tr.within (tv.within (ts.within (tp.within timer_room)))));
+                    onward = omega (arith, tp.onward, ts.onward, tv.onward, tr.onward, td.onward, b.onward);
+                  }

@@ -2,14 +2,21 @@
 use mathlib.Core.Path.{◌≡◌, refl, ap, sym, ◌∙◌}
 use mathlib.Core.Bool.{Bool, true, false, not, ◌&&◌}
 use mathlib.Core.List.{List, [], ◌∷◌}
-use Prim.Native.Nat.{ℕ, suc, ◌+◌, ◌≤◌, ◌<◌}
+use Prim.Native.Nat.{ℕ, ◌≤◌}
 use native.Mathlib.Omega.{arith}
 use borrow.Author.Tests.{eqb-true, eqb-false, eq-eqb, ne_eqb}
 use lib.Dec.{eqb}
-use lib.ListN.{length, get_or, take, drop, drop_of_length-le}
-use lib.Seq.{drop-cons}
+use lib.ListN.{length, take, drop, drop_of_length-le}
 use Rattle.questions.specs.Bytes.{same_bytes}
 use Rattle.questions.specs.Tests.{all}
+use Rattle.std.proofs.Common.{rules, Decides, min}
+use Rattle.std.specs.Cmp.Lexicographic.{pointwise}
+use Rattle.std.specs.List.{between}
+use Rattle.std.proofs.lemmas.Slice.{between_to_end}
+use Rattle.program_timer_lines.specs.Fields.{stands_at}
+use Rattle.std.proofs.lemmas.Slice.Eq.{slice_eq-Decides, compares_Decides}
+use Rattle.std.proofs.lemmas.Bool.Decides.{same_from_decides, Decides-eqb}
+use native.Mathlib.Decide.{dec_le}
 use Rattle.program_definitions.specs.Lines.{first_line, text_after}
 use Rattle.program_numbers.proofs.Lines.{at_break, at_other, rest_other, line_none_left}
 
@@ -24,18 +31,6 @@ pub and_second : (p q : Bool) → (p && q) ≡ true → q ≡ true
 and_second true q e = e
 and_second false q e = false_true e
 
--- ---- the loop that compares
-
-abbrev pub stands_at : List ℕ → ℕ → List ℕ → Bool
-stands_at input at word = same_bytes (take (length word) (drop at input)) word
-
--- what is left to compare decides as the whole does
-pub record Comparing (input : List ℕ) (from : ℕ) (word : List ℕ) (i k : ℕ) : Type 0 where
-  pub left : stands_at input i (drop k word) ≡ stands_at input from word
-
-pub comparing_first : (input : List ℕ) (from : ℕ) (word : List ℕ) → Comparing input from word from 0
-comparing_first input from word = record { left = refl }
-
 same_cons : (x y : ℕ) (xs ys : List ℕ) → same_bytes (x ∷ xs) (y ∷ ys) ≡ (eqb x y && same_bytes xs ys)
 unfolding same_bytes
 same_cons x y xs ys = refl
@@ -44,46 +39,33 @@ none_there : (y : ℕ) (ys : List ℕ) → same_bytes [] (y ∷ ys) ≡ false
 unfolding same_bytes
 none_there y ys = refl
 
-same_none : same_bytes [] [] ≡ true
+-- what `starts_with` says
+decides_back : (r : Bool) (xs ys : List ℕ) → Decides r (xs ≡ ys) → Decides r (ys ≡ xs)
+decides_back r xs ys d = (λ h. sym (d.0 h), λ e. d.1 (sym e))
+
+same_decides : (xs ys : List ℕ) → Decides (same_bytes xs ys) (xs ≡ ys)
 unfolding same_bytes
-same_none = refl
+same_decides = compares_Decides same_bytes (search rules)
 
-module _ {input : List ℕ} {from : ℕ} {word : List ℕ} {i k : ℕ} (h : Comparing input from word i k) where
-  module _ (w : k < length word) where
-    word_there : drop k word ≡ get_or word k 0 ∷ drop (suc k) word
-    word_there = drop-cons word k 0 w
+started : (word l : List ℕ) (r : Bool) → r ≡ pointwise eqb word (take (length word) l) → r ≡ same_bytes (take (length word) l) word
+started word l r e =
+    same_from_decides r (same_bytes (take (length word) l) word) (decides_back r word (take (length word) l) (slice_eq-Decides Decides-eqb _ _ _ e))
+    (same_decides (take (length word) l) word)
 
-    both_there : i < length input → stands_at input i (drop k word) ≡ (eqb (get_or input i 0) (get_or word k 0) && stands_at input (suc i) (drop (suc k) word))
-    both_there j =
-        rw word_there
-        (ap (λ (l : List ℕ). same_bytes (take (suc (length (drop (suc k) word))) l) (get_or word k 0 ∷ drop (suc k) word)) (drop-cons input i 0 j)
-        ∙ same_cons (get_or input i 0) (get_or word k 0) (take (length (drop (suc k) word)) (drop (suc i) input)) (drop (suc k) word))
+from_least : (from : ℕ) (input : List ℕ) → drop (min from (length input)) input ≡ drop from input
+from_least from input = go (dec_le from (length input))
+  where
+    go : Dec (from ≤ length input) → drop (min from (length input)) input ≡ drop from input
+    go (yes h) = let e : min from (length input) ≡ from = omega arith in rw e refl
+    go (no h) =
+        let e : min from (length input) ≡ length input = omega arith in
+        rw e (drop_of_length-le input (omega arith) ∙ sym (drop_of_length-le input (omega arith)))
 
-    pub comparing_short : length input ≤ i → false ≡ stands_at input from word
-    comparing_short j =
-        sym (rw word_there
-        (ap (λ (l : List ℕ). same_bytes (take (suc (length (drop (suc k) word))) l) (get_or word k 0 ∷ drop (suc k) word)) (drop_of_length-le input j)
-        ∙ none_there (get_or word k 0) (drop (suc k) word))) ∙ h.left
-
-    pub comparing_other : i < length input → (get_or input i 0 ≡ get_or word k 0 → ⊥) → false ≡ stands_at input from word
-    comparing_other j n = sym (both_there j ∙ rw (ne_eqb _ _ n) refl) ∙ h.left
-
-    pub comparing_more : i < length input → get_or input i 0 ≡ get_or word k 0 → Comparing input from word (i + 1) (k + 1)
-    comparing_more j e =
-        let a : i + 1 ≡ suc i = omega arith in
-        let b : k + 1 ≡ suc k = omega arith in
-        record { left = rw (a, b) (sym (both_there j ∙ rw (eq-eqb _ _ e) refl) ∙ h.left) }
-
-  pub comparing_end : length word ≤ k → true ≡ stands_at input from word
-  comparing_end w =
-      sym (ap (λ (l : List ℕ). stands_at input i l) (drop_of_length-le word w) ∙ same_none) ∙ h.left
-
--- by the answer that is given
-pub stands : {b c : Bool} → b ≡ c → b ≡ true → c ≡ true
-stands {b} e h = sym e ∙ h
-
-pub stands_not : {b c : Bool} → b ≡ c → b ≡ false → c ≡ false
-stands_not {b} e h = sym e ∙ h
+pub begun : (input : List ℕ) (from : ℕ) (word : List ℕ) (n : ℕ) {r : Bool} → n ≡ min from (length input)
+    → r ≡ pointwise eqb word (take (length word) (between n (length input) input)) → stands_at input from word ≡ r
+begun input from word n {r} m e =
+    let rest : between n (length input) input ≡ drop from input = between_to_end input n (length input) (omega arith) ∙ (ap (λ k. drop k input) m ∙ from_least from input) in
+    sym (started word _ r e ∙ ap (λ l. same_bytes (take (length word) l) word) rest)
 
 -- ---- a word in a line
 
@@ -126,7 +108,6 @@ leads_break w ws b bs h n =
     }
 
 pub leads : (word bytes : List ℕ) → in_line word ≡ true → Leads word bytes
-unfolding all
 leads [] bytes h = record { line = refl; later = λ e. refl; rest = λ e. refl; room = λ e. omega arith }
 leads (w ∷ ws) [] h = record {
   line = ap (λ (x : List ℕ). same_bytes (take (length (w ∷ ws)) x) (w ∷ ws)) line_none_left;

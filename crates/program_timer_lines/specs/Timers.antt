@@ -1,5 +1,5 @@
 -- What the functions over ladder-scan's lines of ticks and timers promise. Assumes nothing.
-use Rattle.std.specs.Prelude.{ℕ, ◌+◌, ◌*◌, ◌≤◌, ◌<◌, ◌≡◌, true, false, List, length, take, drop}
+use Rattle.std.specs.Prelude.{ℕ, ◌+◌, ◌*◌, ◌≤◌, ◌<◌, ◌≡◌, List, length, take, drop, Option, MatchOption}
 use Rattle.std.proofs.Math.Option.{none, some}
 use Rattle.std.proofs.lemmas.List.Edits.{sets}
 use Rattle.table.specs.Timer.{Timer}
@@ -21,11 +21,13 @@ abbrev pub timer_in : TimerLine → Timer
 timer_in l = record { preset = l.preset; start = l.start; variable = l.variable; running = l.running; done = l.done }
 
 pub record TimerRead (input : List ℕ) (from : ℕ) (r : TimerLine) : Type 0 where
-  pub is_timer : r.legal ≡ true → timer_of (first_line (drop from input)) ≡ some (timer_in r)
-  pub no_timer : r.legal ≡ false → timer_of (first_line (drop from input)) ≡ none
-  pub rest : r.legal ≡ true → drop r.at input ≡ text_after (drop from input)
-  pub within : from ≤ length input → r.at ≤ length input
-  pub onward : r.legal ≡ true → from < r.at
+  pub is_timer : timer_of (first_line (drop from input)) ≡ some (timer_in r)
+  pub rest : drop r.at input ≡ text_after (drop from input)
+  pub within : r.at ≤ length input
+  pub onward : from < r.at
+
+abbrev pub LineRead : List ℕ → ℕ → Option TimerLine → Type 0
+LineRead input from r = MatchOption r (timer_of (first_line (drop from input)) ≡ none) (TimerRead input from)
 
 -- numbers t, count of them held, become u, r of them held
 pub record Held (t : List ℕ) (count : ℕ) (line : TimerLine) (r : ℕ) (u : List ℕ) : Type 0 where

@@ -1,7 +1,6 @@
 -- Worked questions 1, 2, 12 and 13, and their order. Assumes nothing.
 use Rattle.std.specs.Prelude.{◌≡◌, refl, List, [], ◌∷◌, ℕ}
 use Rattle.std.proofs.Math.Option.{some}
-use Rattle.questions.specs.Tests.{all}
 use Rattle.questions.specs.Questions.{Answer, yes, ask, first_no, vars_in_range, question1, question2, question12, most_rung_watchdog, most_instruction_watchdog, Buffer, long_enough, question13}
 
 refused : ℕ → Answer
@@ -30,5 +29,5 @@ answers =
 
 answers_worked : answers ≡
     refused 1 ∷ yes ∷ yes ∷ refused 1 ∷ refused 2 ∷ yes ∷ refused 2 ∷ yes ∷ refused 12 ∷ refused 12 ∷ yes ∷ refused 13 ∷ refused 2 ∷ yes ∷ []
-unfolding answers refused buffer question1 vars_in_range question2 question12 question13 long_enough ask first_no all
+unfolding answers refused buffer question1 vars_in_range question2 question12 question13 long_enough ask first_no
 answers_worked = refl

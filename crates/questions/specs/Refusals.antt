@@ -1,11 +1,9 @@
--- The number and place of each case of the enums Refusal and Verdict. Document 01, "Questions before work"; 14 and 15: 02, Req 05; 16 and 17: Req 06. Assumes nothing.
-use Rattle.std.specs.Prelude.{ℕ}
+-- The number and place of each case of the enum Refusal, and what a Result of questions says. Document 01, "Questions before work"; 14 and 15: 02, Req 05; 16 and 17: Req 06. Assumes nothing.
+use Rattle.std.specs.Prelude.{ℕ, Result, Ok, Err}
 use Rattle.std.proofs.Math.Option.{some}
 use Rattle.questions.specs.Questions.{Refusal, Answer, yes}
 use Rattle.questions.specs.declared.Refusal.{Refusal as RefusalCase}
 use Rattle.questions.specs.declared.Refusal.TheVariants.{Variables, TextLength, Text, Kept, Sizes, Variable, Label, Jump, Scratch, List as ListCase, Table, Watchdog, Buffer as BufferCase, NameTable, ListText, Timers, TimerNumber}
-use Rattle.questions.specs.declared.Verdict.{Verdict}
-use Rattle.questions.specs.declared.Verdict.TheVariants.{Accepted, Refused}
 
 abbrev pub numbered : ℕ → ℕ → Refusal
 numbered number place = record { number = number; place = place }
@@ -29,6 +27,7 @@ refusal_of ListText = numbered 15 0
 refusal_of Timers = numbered 16 0
 refusal_of TimerNumber = numbered 17 0
 
-unfoldable pub verdict_answer : Verdict → Answer
-verdict_answer Accepted = yes
-verdict_answer (Refused refusal) = some (refusal_of refusal)
+-- questions in order: Ok where each got a "yes", and else the refusal of the first "no"
+unfoldable pub verdict_answer : Result (Unit {0}) RefusalCase → Answer
+verdict_answer (Ok done) = yes
+verdict_answer (Err refusal) = some (refusal_of refusal)

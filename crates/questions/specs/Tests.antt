@@ -1,11 +1,11 @@
 -- Tests over rows, from which the questions are made. Assumes nothing.
 use Rattle.std.specs.Prelude.{ℕ, suc, Bool, true, false, not, ◌&&◌, List, [], ◌∷◌, eqb}
+use Rattle.std.specs.List.{list_all}
 use Rattle.std.proofs.Math.Option.{Option, none, some, map}
 
 -- whether every entry of a row passes a test
-unfoldable pub all : {A : Type 0} → (A → Bool) → List A → Bool
-all test [] = true
-all test (x ∷ xs) = test x && all test xs
+abbrev pub all : {A : Type 0} → (A → Bool) → List A → Bool
+all test xs = list_all test xs
 
 -- whether no two entries of a row are the same, by a comparison
 unfoldable pub different : {A : Type 0} → (A → A → Bool) → List A → Bool

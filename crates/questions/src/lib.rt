@@ -13,8 +13,9 @@ pub const MOST_RUNG_WATCHDOG: u32 = 65535;
 
 pub const MOST_INSTRUCTION_WATCHDOG: u32 = 16777215;
 
-// One case for each question: specs/Refusals.antt gives its number and place.
-#[derive(Clone, Copy)]
+// The first "no" to some questions in order, which answer Result<(), Refusal>. One case for each question: specs/Refusals.antt gives
+// its number and place.
+#[derive(Clone, Copy, PartialEq, Eq)]
 pub enum Refusal {
     Variables,
     TextLength,
@@ -35,58 +36,51 @@ pub enum Refusal {
     TimerNumber,
 }
 
-// The answer to some questions in order: accepted, or the first "no".
-#[derive(Clone, Copy)]
-pub enum Verdict {
-    Accepted,
-    Refused(Refusal),
-}
+impl Refusal {
+    // Its number in the table of questions.
+    #[tactic(auto, unfolding(crate::specs::Refusals::refusal_of))]
+    pub fn number(self) -> usize
+        ensures { result ≡ (refusal_of self).number }
+    {
+        match self {
+            Refusal::Variables => 1,
+            Refusal::TextLength => 2,
+            Refusal::Text { .. } => 3,
+            Refusal::Kept => 4,
+            Refusal::Sizes => 5,
+            Refusal::Variable { .. } => 6,
+            Refusal::Label { .. } => 7,
+            Refusal::Jump { .. } => 8,
+            Refusal::Scratch => 9,
+            Refusal::List => 10,
+            Refusal::Table => 11,
+            Refusal::Watchdog => 12,
+            Refusal::Buffer => 13,
+            Refusal::NameTable => 14,
+            Refusal::ListText => 15,
+            Refusal::Timers => 16,
+            Refusal::TimerNumber => 17,
+        }
+    }
 
-// The number of a refusal.
-pub fn refusal_number(refusal: Refusal) -> usize
-    ensures { result ≡ (refusal_of refusal).number }
-{
-    match refusal {
-        Refusal::Variables => 1,
-        Refusal::TextLength => 2,
-        Refusal::Text { place: _ } => 3,
-        Refusal::Kept => 4,
-        Refusal::Sizes => 5,
-        Refusal::Variable { rung: _ } => 6,
-        Refusal::Label { rung: _ } => 7,
-        Refusal::Jump { rung: _ } => 8,
-        Refusal::Scratch => 9,
-        Refusal::List => 10,
-        Refusal::Table => 11,
-        Refusal::Watchdog => 12,
-        Refusal::Buffer => 13,
-        Refusal::NameTable => 14,
-        Refusal::ListText => 15,
-        Refusal::Timers => 16,
-        Refusal::TimerNumber => 17,
+    // Its place, 0 where it has none.
+    #[tactic(auto, unfolding(crate::specs::Refusals::refusal_of))]
+    pub fn place(self) -> usize
+        ensures { result ≡ (refusal_of self).place }
+    {
+        match self {
+            Refusal::Text { place } => place,
+            Refusal::Variable { rung } | Refusal::Label { rung } | Refusal::Jump { rung } => rung,
+            _ => 0,
+        }
     }
 }
 
-// The place of a refusal, 0 where it has none.
-pub fn refusal_place(refusal: Refusal) -> usize
-    ensures { result ≡ (refusal_of refusal).place }
-{
-    match refusal {
-        Refusal::Text { place } => place,
-        Refusal::Variable { rung } => rung,
-        Refusal::Label { rung } => rung,
-        Refusal::Jump { rung } => rung,
-        _ => 0,
-    }
-}
-
+#[tactic(auto, unfolding(crate::specs::Questions::vars_in_range))]
 pub fn vars_in_range(vars: u32) -> bool
     ensures { result ≡ vars_in_range vars }
 {
-    if vars < 1 {
-        return false;
-    }
-    vars <= MOST_VARIABLES
+    (1..=MOST_VARIABLES).contains(&vars)
 }
 
 pub fn watchdog_in_range(most: u32, watchdog: u32) -> bool

@@ -3,12 +3,13 @@ use Prim.Native.Nat.{ℕ, ◌≤◌, ◌<◌}
 use native.Mathlib.Omega.{arith}
 use mathlib.Core.Path.{◌≡◌, refl, sym, ap, subst, ◌∙◌}
 use mathlib.Core.Bool.{true, false, ◌&&◌, and-false}
+use mathlib.Core.Logic.{◌⊎◌, inl, inr}
 use mathlib.Core.Option.{none, some}
 use mathlib.Core.List.{List, [], ◌∷◌, map}
 use borrow.Author.Tests.{lt-leb}
 use mir.Facts.{and_yes}
 use lib.Dec.{leb, leb→le}
-use lib.ListN.{length, take, replicate, length-map, length-replicate}
+use lib.ListN.{length, take, length-map, length-replicate}
 use lib.Seq.{sets}
 use Rattle.questions.specs.Tests.{all}
 use Rattle.questions.specs.Questions.{Answer, ask, first_no, long_enough, most_variables, vars_in_range, question1, question13}
@@ -16,25 +17,22 @@ use Rattle.questions.specs.Refusals.{refusal_of}
 use Rattle.questions.specs.declared.Refusal.{Refusal as RefusalCase}
 use Rattle.questions.specs.declared.Refusal.TheVariants.{Variables, List as ListCase, Buffer as BufferCase, NameTable, ListText}
 use Rattle.rungs.specs.Records.{RungRecord, none_entered, row_of, most_records}
-use Rattle.rungs.specs.Buffers.{Buffers, Columns, as_buffers, needs, written, written_over}
-use Rattle.rungs.specs.Parts.{put_all}
+use Rattle.rungs.specs.Buffers.{Buffers, Columns, as_buffers, needs, written_over, has_room}
+use Rattle.rungs.specs.Parts.{put_all, put_over}
 use Rattle.rungs.proofs.Laws.Layout.{lay_length}
-use Rattle.rungs.proofs.Laws.Filling.{written_sets, taken_out, row_of_buffers, labels_count, offsets_count, lengths_count, short_times, enough}
+use Rattle.rungs.proofs.Laws.Filling.{taken_out, row_of_buffers, labels_count, offsets_count, lengths_count, room_needs, over_written}
 use Rattle.text_grammar.specs.Reader.{Parse, read, stuck}
 use Rattle.list_definitions.specs.Instruction.{instr_word}
 use Rattle.list_definitions.specs.Names.{names_in, is_name_table, question14}
 use Rattle.list_definitions.specs.Questions.{most_instructions, list_in_range, question10, list_answer}
-use Rattle.translation_definitions.specs.TranslateKept.{list_buffers, counts_of, translated, refused, TranslateCall, translated_answer, TranslateDone}
-use Rattle.translation_definitions.specs.declared.Translated.{Translated}
-use Rattle.translation_definitions.specs.declared.Translated.TheVariants.{Written as WrittenCase, Refused as RefusedCase}
+use Rattle.std.specs.Prelude.{Some, None, Ok, Err}
+use Rattle.translation_definitions.specs.TranslateKept.{list_buffers, counts_of, translated, refused, TranslateCall, Translated, translated_answer, TranslateDone}
 use Rattle.reader_definitions.specs.Form.{ListRung, list_of_rungs}
 use Rattle.reader_definitions.specs.Reader.{list_text_of}
 use Rattle.reader_definitions.specs.ReadList.{question15, words_of, read_questions, read_list}
 use Rattle.reader_definitions.proofs.Laws.Calls.{read_no, read_yes, form_read}
 use Rattle.reader.specs.Parts.{sizes_of, list_columns, rungs_case, RungsAreKept, unentered, hand_over}
 use Rattle.reader.specs.declared.reading.Sizes.{Sizes}
-use Rattle.reader.specs.declared.reading.RungsAt.{RungsAt}
-use Rattle.reader.specs.declared.reading.RungsAt.TheVariants.{Read as RungsRead, Stuck as RungsStuck}
 
 -- ---- the lent buffers
 
@@ -43,44 +41,34 @@ module _ (vars longest : ℕ) (new : Columns) (lent : Buffers) where
   answer = list_answer vars new.words (row_of new.labels new.offsets new.lengths new.lengths)
 
   refuses : (refusal : RefusalCase) → first_no (answer ∷ question13 (needs (unentered new) lent) ∷ []) ≡ some (refusal_of refusal)
-      → TranslateDone (hand_over vars longest new lent) (RefusedCase refusal) lent
+      → TranslateDone (hand_over vars longest new lent) (Err refusal) lent
   unfolding hand_over translated_answer
   refuses refusal e = record { answer = rw (e, hand_over); same_buffers = rw (e, hand_over) }
 
-  pub over_refused : (refusal : RefusalCase) → answer ≡ some (refusal_of refusal) → TranslateDone (hand_over vars longest new lent) (RefusedCase refusal) lent
+  pub over_refused : (refusal : RefusalCase) → answer ≡ some (refusal_of refusal) → TranslateDone (hand_over vars longest new lent) (Err refusal) lent
   unfolding first_no
   over_refused refusal e = refuses refusal (rw e)
 
-  module _ (ok : answer ≡ none) where
-    pub over_short : all long_enough (needs (unentered new) lent) ≡ false → TranslateDone (hand_over vars longest new lent) (RefusedCase BufferCase) lent
+  module _ (ok : answer ≡ none) (o : length new.offsets ≡ length new.labels) (n : length new.lengths ≡ length new.labels) where
+    as_many : length (none_entered (length new.labels)) ≡ length new.labels
+    as_many = length-replicate (length new.labels) 0
+
+    needs_room : all long_enough (needs (unentered new) lent) ≡ has_room lent (length new.words) (length new.labels)
+    needs_room = room_needs (unentered new) lent _ _ refl refl o n as_many
+
+    pub over_short : has_room lent (length new.words) (length new.labels) ≡ false → TranslateDone (hand_over vars longest new lent) (Err BufferCase) lent
     unfolding first_no question13 ask refusal_of
-    over_short e = refuses BufferCase (rw (ok, e))
+    over_short e = refuses BufferCase (rw (ok, needs_room, e))
 
-    asked : all long_enough (needs (unentered new) lent) ≡ true → first_no (answer ∷ question13 (needs (unentered new) lent) ∷ []) ≡ none
-    unfolding first_no question13 ask
-    asked e = rw (ok, e) refl
-
-    module _ (w : length new.words ≤ length lent.words) (l : length new.labels ≤ length lent.labels)
-        (o : length new.offsets ≤ length lent.offsets) (n : length new.lengths ≤ length lent.lengths) where
-      as_many : length (none_entered (length new.labels)) ≡ length new.labels
-      as_many = length-replicate (length new.labels) 0
-
-      pub over_times : length lent.times < length new.labels → TranslateDone (hand_over vars longest new lent) (RefusedCase BufferCase) lent
-      over_times t = over_short (short_times (unentered new) lent w l o n (omega (arith, as_many)))
-
-      pub over_written : length new.labels ≤ length lent.times → (after : Buffers) → after.words ≡ written new.words lent.words
-          → after.labels ≡ written new.labels lent.labels → after.offsets ≡ written new.offsets lent.offsets
-          → after.lengths ≡ written new.lengths lent.lengths → after.times ≡ sets lent.times 0 (replicate (length new.labels) 0)
-          → TranslateDone (hand_over vars longest new lent) (WrittenCase (record { instructions = length new.words; rungs = length new.labels; longest = longest })) after
-      unfolding hand_over translated_answer written_over
-      over_written t after ew el eo en et =
-          let room : length (none_entered (length new.labels)) ≤ length lent.times = omega (arith, as_many) in
-          let e = asked (enough (unentered new) lent w l o n room) in
-          let times = et ∙ written_sets (none_entered (length new.labels)) lent.times room in
-          record {
-            answer = rw (e, hand_over);
-            same_buffers = rw (e, hand_over) (λ i. record { words = ew i; labels = el i; offsets = eo i; lengths = en i; times = times i });
-          }
+    pub over_put : has_room lent (length new.words) (length new.labels) ≡ true → (after : Buffers) → after ≡ put_over new lent
+        → TranslateDone (hand_over vars longest new lent) (Ok (record { instructions = length new.words; rungs = length new.labels; longest = longest })) after
+    unfolding hand_over translated_answer first_no question13 ask
+    over_put room after put =
+        let asked : first_no (answer ∷ question13 (needs (unentered new) lent) ∷ []) ≡ none = rw (ok, needs_room, room) refl in
+        record {
+          answer = rw (asked, hand_over);
+          same_buffers = rw (asked, hand_over) (over_written (unentered new) lent _ _ refl refl o n as_many room refl after put);
+        }
 
 -- ---- the columns of a list that was read
 
@@ -125,28 +113,28 @@ unfolding question15 refusal_of
 no_form table vars text p e = rw (e, question15)
 
 module _ (table : List ℕ) (vars : ℕ) (text : List ℕ) (lent : Buffers) where
-  read_refuses : (refusal : RefusalCase) → read_questions table vars text lent ≡ some (refusal_of refusal) → TranslateDone (read_list table vars text lent) (RefusedCase refusal) lent
+  read_refuses : (refusal : RefusalCase) → read_questions table vars text lent ≡ some (refusal_of refusal) → TranslateDone (read_list table vars text lent) (Err refusal) lent
   unfolding translated_answer
   read_refuses refusal e =
       let c = read_no table vars text lent (refusal_of refusal) e in
       record { answer = sym (ap (λ t. t.answer) c); same_buffers = sym (ap (λ t. t.buffers) c) }
 
-  pub refused_14 : is_name_table table ≡ false → TranslateDone (read_list table vars text lent) (RefusedCase NameTable) lent
+  pub refused_14 : is_name_table table ≡ false → TranslateDone (read_list table vars text lent) (Err NameTable) lent
   unfolding read_questions first_no question14 ask refusal_of
   refused_14 e = read_refuses NameTable (rw e)
 
   module _ (yes14 : is_name_table table ≡ true) where
-    pub refused_1 : vars_in_range vars ≡ false → TranslateDone (read_list table vars text lent) (RefusedCase Variables) lent
+    pub refused_1 : vars_in_range vars ≡ false → TranslateDone (read_list table vars text lent) (Err Variables) lent
     unfolding read_questions first_no question14 question1 ask refusal_of
     refused_1 e = read_refuses Variables (rw (yes14, e))
 
     module _ (yes1 : vars_in_range vars ≡ true) where
-      refused_15 : (p : ℕ) → list_text_of (names_in table) vars text ≡ stuck p → TranslateDone (read_list table vars text lent) (RefusedCase ListText) lent
+      refused_15 : (p : ℕ) → list_text_of (names_in table) vars text ≡ stuck p → TranslateDone (read_list table vars text lent) (Err ListText) lent
       unfolding read_questions first_no question14 question1 ask refusal_of
       refused_15 p e = let no = no_form table vars text p e in read_refuses ListText (rw (yes14, yes1, no))
 
       module _ (n : ℕ) (gs : List ListRung) (e : list_text_of (names_in table) vars text ≡ read n gs) where
-        refused_10 : list_in_range vars (ws gs) (rs gs) ≡ false → TranslateDone (read_list table vars text lent) (RefusedCase ListCase) lent
+        refused_10 : list_in_range vars (ws gs) (rs gs) ≡ false → TranslateDone (read_list table vars text lent) (Err ListCase) lent
         unfolding read_questions first_no question14 question1 question10 ask refusal_of
         refused_10 q = let f = form_read table vars text n gs e in read_refuses ListCase (rw (yes14, yes1, f.0, f.1, q))
 
@@ -199,20 +187,19 @@ module _ (table : List ℕ) (vars : ℕ) (text : List ℕ) (lent : Buffers) wher
 
 -- ---- from the rungs to the questions
 
-module _ (p : Parse (List ListRung)) (r : RungsAt) (b a : Columns) (k : RungsAreKept p r b a) where
-  rungs_lost : r ≡ RungsStuck → (x : ℕ) × (p ≡ stuck x)
-  rungs_lost e = go p (sym e ∙ k.same)
-    where
-      go : (q : Parse (List ListRung)) → RungsStuck ≡ rungs_case q → (x : ℕ) × (q ≡ stuck x)
-      go (read n gs) h = let z : ◌≡◌ {A = ℕ} 0 1 = cc in absurd (omega arith)
-      go (stuck y) h = (y, refl)
+rungs_lost : (p : Parse (List ListRung)) (b a : Columns) → RungsAreKept p None b a → (x : ℕ) × (p ≡ stuck x)
+rungs_lost p b a k = go p k.same
+  where
+    go : (q : Parse (List ListRung)) → None ≡ rungs_case q → (x : ℕ) × (q ≡ stuck x)
+    go (read n gs) h = let z : ◌≡◌ {A = ℕ} 0 1 = cc in absurd (omega arith)
+    go (stuck y) h = (y, refl)
 
-  rungs_got : (z : Sizes) → r ≡ RungsRead z → (n : ℕ) × (gs : List ListRung) × (p ≡ read n gs) × (z ≡ sizes_of gs)
-  rungs_got z e = go p (sym e ∙ k.same)
-    where
-      go : (q : Parse (List ListRung)) → RungsRead z ≡ rungs_case q → (n : ℕ) × (gs : List ListRung) × (q ≡ read n gs) × (z ≡ sizes_of gs)
-      go (read n gs) h = (n, gs, refl, cc)
-      go (stuck y) h = let z : ◌≡◌ {A = ℕ} 0 1 = cc in absurd (omega arith)
+rungs_got : (p : Parse (List ListRung)) (b a : Columns) (z : Sizes) → RungsAreKept p (Some z) b a → (n : ℕ) × (gs : List ListRung) × (p ≡ read n gs) × (z ≡ sizes_of gs)
+rungs_got p b a z k = go p k.same
+  where
+    go : (q : Parse (List ListRung)) → Some z ≡ rungs_case q → (n : ℕ) × (gs : List ListRung) × (q ≡ read n gs) × (z ≡ sizes_of gs)
+    go (read n gs) h = (n, gs, refl, cc)
+    go (stuck y) h = let z : ◌≡◌ {A = ℕ} 0 1 = cc in absurd (omega arith)
 
 -- columns of the largest size
 pub record Zeroed (b : Columns) : Type 0 where
@@ -252,39 +239,38 @@ unfolding list_in_range
 many_records vars words records h = rw (lt-leb (length records) most_records h, and-false (leb 1 (length records))) (and-false (leb 1 (length words) && leb (length words) most_instructions))
 
 module _ (table : List ℕ) (vars : ℕ) (text : List ℕ) (lent : Buffers) (yes14 : is_name_table table ≡ true) (yes1 : vars_in_range vars ≡ true)
-    (r : RungsAt) (b a : Columns) (k : RungsAreKept (list_text_of (names_in table) vars text) r b a) where
-  pub read_stuck : r ≡ RungsStuck → TranslateDone (read_list table vars text lent) (RefusedCase ListText) lent
-  read_stuck e = let x = rungs_lost (list_text_of (names_in table) vars text) r b a k e in refused_15 table vars text lent yes14 yes1 x.0 x.1
+    (b a : Columns) where
+  pub read_stuck : RungsAreKept (list_text_of (names_in table) vars text) None b a → TranslateDone (read_list table vars text lent) (Err ListText) lent
+  read_stuck k = let x = rungs_lost (list_text_of (names_in table) vars text) b a k in refused_15 table vars text lent yes14 yes1 x.0 x.1
 
-  module _ (z : Sizes) (e : r ≡ RungsRead z) where
-    pub read_too_long : most_instructions < z.instructions → TranslateDone (read_list table vars text lent) (RefusedCase ListCase) lent
-    unfolding sizes_of
-    read_too_long l =
-        let h = rungs_got (list_text_of (names_in table) vars text) r b a k z e in
-        let gs = h.1 in
-        let m : z.instructions ≡ length (ws gs) = ap (λ (y : Sizes). y.instructions) h.3 in
-        refused_10 table vars text lent yes14 yes1 h.0 gs h.2 (many_instructions vars (ws gs) (rs gs) (omega arith))
-
-    pub read_too_many : most_records < z.rungs → TranslateDone (read_list table vars text lent) (RefusedCase ListCase) lent
+  module _ (z : Sizes) (k : RungsAreKept (list_text_of (names_in table) vars text) (Some z) b a) where
+    -- too many instructions or records
+    pub read_too_many : (most_instructions < z.instructions) ⊎ ((z.instructions ≤ most_instructions) × (most_records < z.rungs))
+        → TranslateDone (read_list table vars text lent) (Err ListCase) lent
     unfolding sizes_of
     read_too_many l =
-        let h = rungs_got (list_text_of (names_in table) vars text) r b a k z e in
+        let h = rungs_got (list_text_of (names_in table) vars text) b a z k in
         let gs = h.1 in
-        let m : z.rungs ≡ length gs = ap (λ (y : Sizes). y.rungs) h.3 in
+        let m : z.instructions ≡ length (ws gs) = ap (λ (y : Sizes). y.instructions) h.3 in
+        let o : z.rungs ≡ length gs = ap (λ (y : Sizes). y.rungs) h.3 in
         let n = records_many gs in
-        refused_10 table vars text lent yes14 yes1 h.0 gs h.2 (many_records vars (ws gs) (rs gs) (omega arith))
+        refused_10 table vars text lent yes14 yes1 h.0 gs h.2 (elim l [
+          | inl i ↦ many_instructions vars (ws gs) (rs gs) (omega arith)
+          | inr j ↦ let few = j.1 in many_records vars (ws gs) (rs gs) (omega arith)
+        ])
 
     pub read_done : z.instructions ≤ most_instructions → z.rungs ≤ most_records → Zeroed b → (x : Translated) (after : Buffers)
-        → TranslateDone (hand_over vars z.longest (first_of z a) lent) x after → TranslateDone (read_list table vars text lent) x after
-    read_done few fewer zeroed x after d =
-        let h = rungs_got (list_text_of (names_in table) vars text) r b a k z e in
+        → (new : Columns) → TranslateDone (hand_over vars z.longest new lent) x after → new ≡ first_of z a → TranslateDone (read_list table vars text lent) x after
+    read_done few fewer zeroed x after new d first =
+        let h = rungs_got (list_text_of (names_in table) vars text) b a z k in
         let gs = h.1 in
         let s = h.3 in
         let fw : (sizes_of gs).instructions ≤ most_instructions = subst (λ (y : Sizes). y.instructions ≤ most_instructions) s few in
         let fr : (sizes_of gs).rungs ≤ most_records = subst (λ (y : Sizes). y.rungs ≤ most_records) s fewer in
         let kept = k.out h.0 gs h.2 (omega arith) in
-        let same : hand_over vars z.longest (first_of z a) lent ≡ read_list table vars text lent =
-        ap (λ (y : Sizes). hand_over vars y.longest (first_of y a) lent) s
+        let same : hand_over vars z.longest new lent ≡ read_list table vars text lent =
+        ap (λ y. hand_over vars z.longest y lent) first
+        ∙ ap (λ (y : Sizes). hand_over vars y.longest (first_of y a) lent) s
         ∙ (ap (λ y. hand_over vars (sizes_of gs).longest y lent) (first_kept gs b a fw fr zeroed kept) ∙ same_call table vars text lent yes14 yes1 h.0 gs h.2) in
         subst (λ c. TranslateDone c x after) same d
 

@@ -1,7 +1,7 @@
 -- Laws of instruction lines that are kept as words one after the other. Assumes nothing.
-use Prim.Native.Nat.{ℕ, zero, suc, ◌+◌, ◌≤◌, ◌<◌}
+use Prim.Native.Nat.{ℕ, zero, suc, ◌+◌, ◌≤◌}
 use native.Mathlib.Omega.{arith}
-use mathlib.Core.Path.{◌≡◌, refl, sym, ap, subst, ◌∙◌}
+use mathlib.Core.Path.{◌≡◌, refl, sym, ap, ◌∙◌}
 use mathlib.Core.Bool.{Bool, true, false}
 use mathlib.Core.List.{List, [], ◌∷◌, ◌++◌, map, map-append, append-nil}
 use borrow.Author.Tests.{eq-eqb, ne_eqb}
@@ -13,19 +13,18 @@ use Rattle.text_grammar.proofs.Laws.Parses.{same_tree, not_both, map_none, map_m
 use Rattle.list_definitions.specs.Instruction.{Instr, instr_word}
 use Rattle.list_definitions.specs.Names.{Names}
 use Rattle.reader_definitions.specs.Reader.{instruction_from, opens_label, code_from}
-use Rattle.reader_lines.specs.Parts.{line_case, LineWithin, LineParsed}
+use Rattle.std.specs.Prelude.{Some, None}
+use Rattle.reader_lines.specs.Parts.{line_case, LineParsed}
 use Rattle.reader_lines.specs.declared.LineAt.{LineAt}
-use Rattle.reader_lines.specs.declared.LineAt.TheVariants.{Read as LineRead, Stuck as LineStuck}
 use Rattle.reader.specs.Parts.{CodeParsed}
-use Rattle.reader.specs.declared.reading.CodeAt.TheVariants.{Read as CodeRead, Stuck as CodeStuck}
 
 -- ---- what an answer tells of the reader
 
-line_got : (p : Parse Instr) (w n : ℕ) → LineRead w n ≡ line_case p → (i : Instr) × (p ≡ read n i) × (instr_word i ≡ w)
-line_got (read m i) w n e = (i, cc, cc)
-line_got (stuck m) w n e = let z : ◌≡◌ {A = ℕ} 0 1 = cc in absurd (omega arith)
+line_got : (p : Parse Instr) (l : LineAt) → Some l ≡ line_case p → (i : Instr) × (p ≡ read l.next i) × (instr_word i ≡ l.word)
+line_got (read m i) l e = let q : l ≡ record { word = instr_word i; next = m } = cc in (i, rw q refl, rw q refl)
+line_got (stuck m) l e = let z : ◌≡◌ {A = ℕ} 0 1 = cc in absurd (omega arith)
 
-line_lost : (p : Parse Instr) → LineStuck ≡ line_case p → (m : ℕ) × (p ≡ stuck m)
+line_lost : (p : Parse Instr) → None ≡ line_case p → (m : ℕ) × (p ≡ stuck m)
 line_lost (read m i) e = let z : ◌≡◌ {A = ℕ} 0 1 = cc in absurd (omega arith)
 line_lost (stuck m) e = (m, refl)
 
@@ -64,7 +63,7 @@ coding_start names vars s at put e h =
     }
 
 module _ (names : Names) (vars : ℕ) (s : List ℕ) (at put : ℕ) (e x : List ℕ) (next count : ℕ) (h : Coding names vars s at put e x next count) where
-  ended : code_from names vars s (suc h.left) next ≡ read next [] → CodeParsed (code_from names vars s (suc (length s)) at) s at (CodeRead next count) put e x
+  ended : code_from names vars s (suc h.left) next ≡ read next [] → CodeParsed (code_from names vars s (suc (length s)) at) s at (Some (record { next = next; count = count })) put e x
   unfolding map_p
   ended q =
       let whole : code_from names vars s (suc (length s)) at ≡ read next h.done = sym h.same ∙ rw q (ap (read next) (append-nil h.done)) in
@@ -74,60 +73,57 @@ module _ (names : Names) (vars : ℕ) (s : List ℕ) (at put : ℕ) (e x : List 
         out = λ n is b. let k : h.done ≡ is = same_tree (sym whole ∙ b) in h.out ∙ ap (λ d. sets e put (map instr_word d)) k;
       }
 
-  module _ (o : Bool) (p : o ≡ opens_label s next) where
-    pub code_at_label : o ≡ true → CodeParsed (code_from names vars s (suc (length s)) at) s at (CodeRead next count) put e x
+  pub code_at_label : (o : Bool) → o ≡ opens_label s next → o ≡ true
+      → CodeParsed (code_from names vars s (suc (length s)) at) s at (Some (record { next = next; count = count })) put e x
+  unfolding code_from
+  code_at_label o p q = ended (rw (← p, q) refl)
+
+  pub code_at_end : (o : Bool) → o ≡ opens_label s next → o ≡ false → next ≡ length s
+      → CodeParsed (code_from names vars s (suc (length s)) at) s at (Some (record { next = next; count = count })) put e x
+  unfolding code_from
+  code_at_end o p q z = ended (rw (← p, q, eq-eqb next (length s) z) refl)
+
+  module _ (o : Bool) (p : o ≡ opens_label s next) (q : o ≡ false) (z : next ≡ length s → ⊥) where
+    code_next : code_from names vars s (suc h.left) next ≡ bind (instruction_from names vars s next) (λ n i. map_p (λ is. i ∷ is) (code_from names vars s h.left n))
     unfolding code_from
-    code_at_label q = ended (rw (← p, q) refl)
+    code_next = rw (← p, q, ne_eqb next (length s) z) refl
 
-    module _ (q : o ≡ false) where
-      pub code_at_end : next ≡ length s → CodeParsed (code_from names vars s (suc (length s)) at) s at (CodeRead next count) put e x
-      unfolding code_from
-      code_at_end z = ended (rw (← p, q, eq-eqb next (length s) z) refl)
+    pub code_stuck : LineParsed (instruction_from names vars s next) s next None → (last : List ℕ)
+        → CodeParsed (code_from names vars s (suc (length s)) at) s at None put e last
+    unfolding map_p bind
+    code_stuck f last =
+        let m = line_lost (instruction_from names vars s next) f.same in
+        let a : code_from names vars s (suc h.left) next ≡ stuck m.0 = code_next ∙ bind_stuck (instruction_from names vars s next) _ m.0 m.1 in
+        let whole : code_from names vars s (suc (length s)) at ≡ stuck m.0 = sym h.same ∙ map_stuck (λ is. h.done ++ is) _ m.0 a in
+        record { same = rw whole refl; within = tt; out = λ n is b. absurd (not_both _ _ _ _ whole b) }
 
-      module _ (z : next ≡ length s → ⊥) {r : LineAt} (f : LineParsed (instruction_from names vars s next) s next r) where
-        code_next : code_from names vars s (suc h.left) next ≡ bind (instruction_from names vars s next) (λ n i. map_p (λ is. i ∷ is) (code_from names vars s h.left n))
-        unfolding code_from
-        code_next = rw (← p, q, ne_eqb next (length s) z) refl
-
-        pub code_stuck : r ≡ LineStuck → (last : List ℕ) → CodeParsed (code_from names vars s (suc (length s)) at) s at CodeStuck put e last
-        unfolding map_p bind
-        code_stuck w last =
-            let m = line_lost (instruction_from names vars s next) (sym w ∙ f.same) in
-            let a : code_from names vars s (suc h.left) next ≡ stuck m.0 = code_next ∙ bind_stuck (instruction_from names vars s next) _ m.0 m.1 in
-            let whole : code_from names vars s (suc (length s)) at ≡ stuck m.0 = sym h.same ∙ map_stuck (λ is. h.done ++ is) _ m.0 a in
-            record { same = rw whole refl; within = tt; out = λ n is b. absurd (not_both _ _ _ _ whole b) }
-
-        module _ (word n : ℕ) (w : r ≡ LineRead word n) where
-          pub line_bounds : (next < n) × (n ≤ length s)
-          line_bounds = subst (LineWithin s next) w f.within
-
-          pub code_more : (y : List ℕ) → y ≡ set x (put + count) word → Coding names vars s at put e y n (count + 1)
-          unfolding bind map_p
-          code_more y stored =
-              let b = line_bounds in
-              let b0 = b.0 in
-              let b1 = b.1 in
-              let g = line_got (instruction_from names vars s next) word n (sym w ∙ f.same) in
-              let i = g.0 in
-              let done = h.done in
-              let en = h.enough in
-              let ah = h.ahead in
-              let c = h.counted in
-              let less = pred_left h.left (omega arith) in
-              let step : code_from names vars s (suc h.left) next ≡ map_p (λ is. i ∷ is) (code_from names vars s h.left n) = code_next ∙ bind_read (instruction_from names vars s next) _ n i g.1 in
-              let l1 = length-append done (i ∷ []) in
-              record {
-                left = less.0;
-                done = done ++ i ∷ [];
-                same = rw (← less.1) (sym (map_more done i (code_from names vars s h.left n)) ∙ (ap (map_p (λ is. done ++ is)) (sym step) ∙ h.same));
-                enough = let u = less.1 in omega arith;
-                within = b1;
-                counted = omega arith;
-                ahead = omega arith;
-                out = store_more e put done i x y count word h.out c g.2 stored;
-                long = ap length stored ∙ (length-set x (put + count) word ∙ h.long);
-              }
-            where
-              pred_left : (k : ℕ) → 1 ≤ k → (j : ℕ) × (k ≡ suc j)
-              pred_left zero h = absurd (omega arith)
-              pred_left (suc j) h = (j, refl)
+    pub code_more : (l : LineAt) → LineParsed (instruction_from names vars s next) s next (Some l) → (y : List ℕ) → y ≡ set x (put + count) l.word
+        → Coding names vars s at put e y l.next (count + 1)
+    unfolding bind map_p
+    code_more l f y stored =
+        let b0 = f.within.0 in
+        let b1 = f.within.1 in
+        let g = line_got (instruction_from names vars s next) l f.same in
+        let i = g.0 in
+        let done = h.done in
+        let en = h.enough in
+        let ah = h.ahead in
+        let c = h.counted in
+        let less = pred_left h.left (omega arith) in
+        let step : code_from names vars s (suc h.left) next ≡ map_p (λ is. i ∷ is) (code_from names vars s h.left l.next) = code_next ∙ bind_read (instruction_from names vars s next) _ l.next i g.1 in
+        let l1 = length-append done (i ∷ []) in
+        record {
+          left = less.0;
+          done = done ++ i ∷ [];
+          same = rw (← less.1) (sym (map_more done i (code_from names vars s h.left l.next)) ∙ (ap (map_p (λ is. done ++ is)) (sym step) ∙ h.same));
+          enough = let u = less.1 in omega arith;
+          within = b1;
+          counted = omega arith;
+          ahead = omega arith;
+          out = store_more e put done i x y count l.word h.out c g.2 stored;
+          long = ap length stored ∙ (length-set x (put + count) l.word ∙ h.long);
+        }
+      where
+        pred_left : (k : ℕ) → 1 ≤ k → (j : ℕ) × (k ≡ suc j)
+        pred_left zero h = absurd (omega arith)
+        pred_left (suc j) h = (j, refl)

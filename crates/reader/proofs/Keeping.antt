@@ -1,8 +1,8 @@
 -- Laws of rungs that are kept as words and records one after the other. Assumes nothing.
-use Prim.Native.Nat.{ℕ, zero, suc, ◌+◌, ◌≤◌, ◌<◌, max}
+use Prim.Native.Nat.{ℕ, zero, suc, ◌+◌, ◌≤◌, ◌<◌}
 use native.Mathlib.Omega.{arith}
 use native.Mathlib.Nat.{zero-add}
-use mathlib.Core.Path.{◌≡◌, refl, sym, ap, subst, ◌∙◌}
+use mathlib.Core.Path.{◌≡◌, refl, sym, ap, ◌∙◌}
 use mathlib.Core.List.{List, [], ◌∷◌, ◌++◌, map, flat_map, map-append}
 use borrow.Author.Tests.{eq-eqb, ne_eqb}
 use lib.ListN.{length, set, length-append, length-map}
@@ -20,102 +20,85 @@ use Rattle.list_definitions.specs.Names.{Names}
 use Rattle.reader_definitions.specs.Form.{ListRung, list_of_rungs}
 use Rattle.reader_definitions.specs.ReadList.{words_of}
 use Rattle.reader_definitions.specs.Reader.{label_from, code_from, list_rung, rung_from, rungs_from, list_text_of}
-use Rattle.reader_lines.specs.Parts.{label_case, LabelWithin, LabelParsed}
+use Rattle.std.specs.Prelude.{Some, None}
+use Rattle.reader_lines.specs.Parts.{label_case, LabelParsed}
 use Rattle.reader_lines.specs.declared.LabelAt.{LabelAt}
-use Rattle.reader_lines.specs.declared.LabelAt.TheVariants.{Read as LabelRead, Stuck as LabelStuck}
-use Rattle.reader.specs.Parts.{code_case, CodeWithin, CodeParsed, RecordKept, with_rung, put_rung, rung_case, RungIsKept, sizes_of, list_columns, RungsAreKept}
+use Rattle.reader.specs.Parts.{code_case, CodeParsed, with_rung, put_rung, rung_case, RungIsKept, sizes_of, list_columns, RungsAreKept}
 use Rattle.reader.specs.declared.reading.CodeAt.{CodeAt}
-use Rattle.reader.specs.declared.reading.CodeAt.TheVariants.{Read as CodeRead, Stuck as CodeStuck}
 use Rattle.reader.specs.declared.reading.RungAt.{RungAt}
-use Rattle.reader.specs.declared.reading.RungAt.TheVariants.{Read as RungRead, Stuck as RungStuck}
-use Rattle.reader.specs.declared.reading.RungsAt.TheVariants.{Read as RungsRead, Stuck as RungsStuck}
 use Rattle.reader.specs.declared.reading.Sizes.{Sizes}
 
 -- ---- what an answer tells of the reader
 
-label_got : (p : Parse ℕ) (l n : ℕ) → LabelRead l n ≡ label_case p → p ≡ read n l
-label_got (read m i) l n e = cc
-label_got (stuck m) l n e = let z : ◌≡◌ {A = ℕ} 0 1 = cc in absurd (omega arith)
+label_got : (p : Parse ℕ) (l : LabelAt) → Some l ≡ label_case p → p ≡ read l.next l.label
+label_got (read m i) l e = let q : l ≡ record { label = i; next = m } = cc in rw q refl
+label_got (stuck m) l e = let z : ◌≡◌ {A = ℕ} 0 1 = cc in absurd (omega arith)
 
-label_lost : (p : Parse ℕ) → LabelStuck ≡ label_case p → (m : ℕ) × (p ≡ stuck m)
+label_lost : (p : Parse ℕ) → None ≡ label_case p → (m : ℕ) × (p ≡ stuck m)
 label_lost (read m i) e = let z : ◌≡◌ {A = ℕ} 0 1 = cc in absurd (omega arith)
 label_lost (stuck m) e = (m, refl)
 
-code_got : (p : Parse (List Instr)) (n c : ℕ) → CodeRead n c ≡ code_case p → (is : List Instr) × (p ≡ read n is) × (length is ≡ c)
-code_got (read m is) n c e = (is, cc, cc)
-code_got (stuck m) n c e = let z : ◌≡◌ {A = ℕ} 0 1 = cc in absurd (omega arith)
+code_got : (p : Parse (List Instr)) (c : CodeAt) → Some c ≡ code_case p → (is : List Instr) × (p ≡ read c.next is) × (length is ≡ c.count)
+code_got (read m is) c e = let q : c ≡ record { next = m; count = length is } = cc in (is, rw q refl, rw q refl)
+code_got (stuck m) c e = let z : ◌≡◌ {A = ℕ} 0 1 = cc in absurd (omega arith)
 
-code_lost : (p : Parse (List Instr)) → CodeStuck ≡ code_case p → (m : ℕ) × (p ≡ stuck m)
+code_lost : (p : Parse (List Instr)) → None ≡ code_case p → (m : ℕ) × (p ≡ stuck m)
 code_lost (read m i) e = let z : ◌≡◌ {A = ℕ} 0 1 = cc in absurd (omega arith)
 code_lost (stuck m) e = (m, refl)
 
 -- ---- a rung
 
-pub grown_by : (z : Sizes) (count m : ℕ) → m ≡ max z.longest count → record { instructions = z.instructions + count; rungs = z.rungs + 1; longest = m } ≡ with_rung z count
-unfolding with_rung
-grown_by z count m e = rw e refl
-
-pub record_kept : (label from count at : ℕ) (ls os ns ls' os' ns' : List ℕ) (o n : ℕ) → (from ≤ most_number → o ≡ from) → (count ≤ most_number → n ≡ count)
-    → ls' ≡ set ls at label → os' ≡ set os at o → ns' ≡ set ns at n → RecordKept label from count at ls os ns ls' os' ns'
-record_kept label from count at ls os ns ls' os' ns' o n fo fn a b c =
-    record { labels = a; offsets = λ h. b ∙ ap (set os at) (fo h); lengths = λ h. c ∙ ap (set ns at) (fn h) }
-
-module _ (names : Names) (vars : ℕ) (s : List ℕ) (at : ℕ) {r : LabelAt} (f : LabelParsed (label_from s at) s at r) (z : Sizes) where
-  pub rung_no_label : r ≡ LabelStuck → (before after : Columns) → RungIsKept (rung_from names vars s at) s at z RungStuck before after
+module _ (names : Names) (vars : ℕ) (s : List ℕ) (at : ℕ) (z : Sizes) where
+  pub rung_no_label : LabelParsed (label_from s at) s at None → (before after : Columns) → RungIsKept (rung_from names vars s at) s at z None before after
   unfolding rung_from
-  rung_no_label e before after =
-      let m = label_lost (label_from s at) (sym e ∙ f.same) in
+  rung_no_label f before after =
+      let m = label_lost (label_from s at) f.same in
       let whole : rung_from names vars s at ≡ stuck m.0 = bind_stuck (label_from s at) _ m.0 m.1 in
       record { same = rw whole refl; within = tt; out = λ n g b. absurd (not_both _ _ _ _ whole b) }
 
-  module _ (l n : ℕ) (v : r ≡ LabelRead l n) where
-    pub label_bounds : (at < n) × (n ≤ length s) × (l ≤ most_number)
-    label_bounds = subst (LabelWithin s at) v f.within
-
-    rung_rest : rung_from names vars s at ≡ map_p (list_rung l) (code_from names vars s (suc (length s)) n)
+  module _ (l : LabelAt) (f : LabelParsed (label_from s at) s at (Some l)) (e x : List ℕ) where
+    rung_rest : rung_from names vars s at ≡ map_p (list_rung l.label) (code_from names vars s (suc (length s)) l.next)
     unfolding rung_from
-    rung_rest = bind_read (label_from s at) _ n l (label_got (label_from s at) l n (sym v ∙ f.same))
+    rung_rest = bind_read (label_from s at) _ l.next l.label (label_got (label_from s at) l f.same)
 
-    module _ {c : CodeAt} (e x : List ℕ) (g : CodeParsed (code_from names vars s (suc (length s)) n) s n c z.instructions e x) where
-      pub rung_stuck : c ≡ CodeStuck → (before after : Columns) → RungIsKept (rung_from names vars s at) s at z RungStuck before after
-      rung_stuck q before after =
-          let m = code_lost _ (sym q ∙ g.same) in
-          let whole : rung_from names vars s at ≡ stuck m.0 = rung_rest ∙ map_stuck (list_rung l) _ m.0 m.1 in
-          record { same = rw whole refl; within = tt; out = λ n g b. absurd (not_both _ _ _ _ whole b) }
+    pub rung_stuck : CodeParsed (code_from names vars s (suc (length s)) l.next) s l.next None z.instructions e x → (before after : Columns)
+        → RungIsKept (rung_from names vars s at) s at z None before after
+    rung_stuck g before after =
+        let m = code_lost _ g.same in
+        let whole : rung_from names vars s at ≡ stuck m.0 = rung_rest ∙ map_stuck (list_rung l.label) _ m.0 m.1 in
+        record { same = rw whole refl; within = tt; out = λ n g b. absurd (not_both _ _ _ _ whole b) }
 
-      module _ (k count : ℕ) (w : c ≡ CodeRead k count) where
-        pub code_bounds : (n + count ≤ k) × (k ≤ length s)
-        code_bounds = subst (CodeWithin s n) w g.within
-
-        pub rung_kept : z.instructions ≤ at → z.rungs ≤ at → (ls os ns ls' os' ns' : List ℕ) → RecordKept l z.instructions count z.rungs ls os ns ls' os' ns'
-            → (y : Sizes) → y ≡ with_rung z count
-            → RungIsKept (rung_from names vars s at) s at z (RungRead k y) (record { words = e; labels = ls; offsets = os; lengths = ns }) (record { words = x; labels = ls'; offsets = os'; lengths = ns' })
-        unfolding with_rung put_rung
-        rung_kept few fewer ls os ns ls' os' ns' kept y grown =
-            let p = code_got _ k count (sym w ∙ g.same) in
-            let is = p.0 in
-            let whole : rung_from names vars s at ≡ read k (list_rung l is) = rung_rest ∙ map_read (list_rung l) _ k is p.1 in
-            let lb = label_bounds in
-            let lb0 = lb.0 in
-            let cb = code_bounds in
-            let cb0 = cb.0 in
-            let yi : y.instructions ≡ z.instructions + count = ap (λ (y : Sizes). y.instructions) grown in
-            let yr : y.rungs ≡ z.rungs + 1 = ap (λ (y : Sizes). y.rungs) grown in
-            record {
-              same = rw (whole, p.2) (ap (RungRead k) grown);
-              within = (omega arith, cb.1, omega arith, omega arith);
-              out = λ m h b room.
-                  let u : list_rung l is ≡ h = same_tree (sym whole ∙ b) in
-                  let ul : l ≡ h.label = ap (λ (q : ListRung). q.label) u in
-                  let uc : is ≡ h.code = ap (λ (q : ListRung). q.code) u in
-                  let un : count ≡ length h.code = sym p.2 ∙ ap length uc in
-                  four (g.out k is p.1 ∙ ap (λ d. sets e z.instructions (map instr_word d)) uc) (kept.labels ∙ ap (set ls z.rungs) ul) (kept.offsets (omega arith))
-                  (kept.lengths (omega arith) ∙ ap (set ns z.rungs) un);
-            }
-          where
-            four : {ws ws' ds ds' bs bs' cs cs' : List ℕ} → ws ≡ ws' → ds ≡ ds' → bs ≡ bs' → cs ≡ cs'
-                → ◌≡◌ {A = Columns} (record { words = ws; labels = ds; offsets = bs; lengths = cs }) (record { words = ws'; labels = ds'; offsets = bs'; lengths = cs' })
-            four a b c d = λ i. record { words = a i; labels = b i; offsets = c i; lengths = d i }
+    module _ (c : CodeAt) (g : CodeParsed (code_from names vars s (suc (length s)) l.next) s l.next (Some c) z.instructions e x) where
+      pub rung_kept : z.instructions ≤ at → z.rungs ≤ at → (ls os ns ls' os' ns' : List ℕ) (o n : ℕ)
+          → (z.instructions ≤ most_number → o ≡ z.instructions) → (c.count ≤ most_number → n ≡ c.count)
+          → ls' ≡ set ls z.rungs l.label → os' ≡ set os z.rungs o → ns' ≡ set ns z.rungs n
+          → (y : Sizes) → y ≡ with_rung z c.count
+          → RungIsKept (rung_from names vars s at) s at z (Some (record { next = c.next; sizes = y }))
+          (record { words = e; labels = ls; offsets = os; lengths = ns }) (record { words = x; labels = ls'; offsets = os'; lengths = ns' })
+      unfolding with_rung put_rung
+      rung_kept few fewer ls os ns ls' os' ns' o n same_o same_n kl ko kn y grown =
+          let p = code_got _ c g.same in
+          let is = p.0 in
+          let whole : rung_from names vars s at ≡ read c.next (list_rung l.label is) = rung_rest ∙ map_read (list_rung l.label) _ c.next is p.1 in
+          let lb0 = f.within.0 in
+          let cb0 = g.within.0 in
+          let yi : y.instructions ≡ z.instructions + c.count = ap (λ (y : Sizes). y.instructions) grown in
+          let yr : y.rungs ≡ z.rungs + 1 = ap (λ (y : Sizes). y.rungs) grown in
+          record {
+            same = rw (whole, p.2) (ap (λ (k : Sizes). Some (record { next = c.next; sizes = k })) grown);
+            within = (omega arith, g.within.1, omega arith, omega arith);
+            out = λ m h b room.
+                let u : list_rung l.label is ≡ h = same_tree (sym whole ∙ b) in
+                let ul : l.label ≡ h.label = ap (λ (q : ListRung). q.label) u in
+                let uc : is ≡ h.code = ap (λ (q : ListRung). q.code) u in
+                let un : c.count ≡ length h.code = sym p.2 ∙ ap length uc in
+                four (g.out c.next is p.1 ∙ ap (λ d. sets e z.instructions (map instr_word d)) uc) (kl ∙ ap (set ls z.rungs) ul)
+                (ko ∙ ap (set os z.rungs) (same_o (omega arith))) (kn ∙ ap (set ns z.rungs) (same_n (omega arith) ∙ un));
+          }
+        where
+          four : {ws ws' ds ds' bs bs' cs cs' : List ℕ} → ws ≡ ws' → ds ≡ ds' → bs ≡ bs' → cs ≡ cs'
+              → ◌≡◌ {A = Columns} (record { words = ws; labels = ds; offsets = bs; lengths = cs }) (record { words = ws'; labels = ds'; offsets = bs'; lengths = cs' })
+          four a b c d = λ i. record { words = a i; labels = b i; offsets = c i; lengths = d i }
 
 -- ---- words and records of some rungs with one rung more
 
@@ -166,15 +149,6 @@ module _ (done : List ListRung) (g : ListRung) where
 
 -- ---- the loop over rungs: the rungs before what the lines that follow give are the text, and they are kept
 
-pub record AsLong (a b : Columns) : Type 0 where
-  pub words : length b.words ≡ length a.words
-  pub labels : length b.labels ≡ length a.labels
-  pub offsets : length b.offsets ≡ length a.offsets
-  pub lengths : length b.lengths ≡ length a.lengths
-
-as_long : (a b c : Columns) → AsLong a b → AsLong b c → AsLong a c
-as_long a b c f g = record { words = g.words ∙ f.words; labels = g.labels ∙ f.labels; offsets = g.offsets ∙ f.offsets; lengths = g.lengths ∙ f.lengths }
-
 pub record Keeping (names : Names) (vars : ℕ) (s : List ℕ) (before now : Columns) (next : ℕ) (z : Sizes) : Type 0 where
   pub left : ℕ
   pub done : List ListRung
@@ -184,7 +158,6 @@ pub record Keeping (names : Names) (vars : ℕ) (s : List ℕ) (before now : Col
   pub within : next ≤ length s
   pub few : z.instructions ≤ next
   pub fewer : z.rungs ≤ next
-  pub long : AsLong before now
   pub out : z.instructions ≤ most_number → now ≡ put_all before (list_columns done)
 
 no_rungs : sizes_of [] ≡ record { instructions = 0; rungs = 0; longest = 0 }
@@ -207,15 +180,14 @@ keeping_start names vars s b =
       within = omega arith;
       few = omega arith;
       fewer = omega arith;
-      long = record { words = refl; labels = refl; offsets = refl; lengths = refl };
       out = λ h. sym (nothing_put b);
     }
 
-rung_got : (z : Sizes) (p : Parse ListRung) (n : ℕ) (y : Sizes) → RungRead n y ≡ rung_case z p → (g : ListRung) × (p ≡ read n g) × (y ≡ with_rung z (length g.code))
-rung_got z (read m g) n y e = (g, cc, cc)
-rung_got z (stuck p) n y e = let k : ◌≡◌ {A = ℕ} 0 1 = cc in absurd (omega arith)
+rung_got : (z : Sizes) (p : Parse ListRung) (r : RungAt) → Some r ≡ rung_case z p → (g : ListRung) × (p ≡ read r.next g) × (r.sizes ≡ with_rung z (length g.code))
+rung_got z (read m g) r e = let q : r ≡ record { next = m; sizes = with_rung z (length g.code) } = cc in (g, rw q refl, rw q refl)
+rung_got z (stuck p) r e = let k : ◌≡◌ {A = ℕ} 0 1 = cc in absurd (omega arith)
 
-rung_lost : (z : Sizes) (p : Parse ListRung) → RungStuck ≡ rung_case z p → (m : ℕ) × (p ≡ stuck m)
+rung_lost : (z : Sizes) (p : Parse ListRung) → None ≡ rung_case z p → (m : ℕ) × (p ≡ stuck m)
 rung_lost z (read m g) e = let k : ◌≡◌ {A = ℕ} 0 1 = cc in absurd (omega arith)
 rung_lost z (stuck m) e = (m, refl)
 
@@ -237,73 +209,67 @@ unfolding rungs_from bind
 rungs_lost names vars s l next x e = rw e refl
 
 module _ (names : Names) (vars : ℕ) (s : List ℕ) (before now : Columns) (next : ℕ) (z : Sizes) (h : Keeping names vars s before now next z)
-    (r : RungAt) (after : Columns) (f : RungIsKept (rung_from names vars s next) s next z r now after) where
-  pub rungs_stuck : r ≡ RungStuck → (last : Columns) → RungsAreKept (list_text_of names vars s) RungsStuck before last
-  rungs_stuck e last =
-      let m = rung_lost z (rung_from names vars s next) (sym e ∙ f.same) in
+    (after : Columns) where
+  pub rungs_stuck : RungIsKept (rung_from names vars s next) s next z None now after → (last : Columns)
+      → RungsAreKept (list_text_of names vars s) None before last
+  rungs_stuck f last =
+      let m = rung_lost z (rung_from names vars s next) f.same in
       let k : list_text_of names vars s ≡ stuck m.0 = sym h.same ∙ map_stuck (λ gs. h.done ++ gs) _ m.0 (rungs_lost names vars s h.left next m.0 m.1) in
       record { same = rw k refl; out = λ n gs b i. absurd (not_both _ _ _ _ k b) }
 
-  module _ (n : ℕ) (y : Sizes) (e : r ≡ RungRead n y) where
-    got_rung : RungIsKept (rung_from names vars s next) s next z (RungRead n y) now after
-    got_rung = subst (λ (a : RungAt). RungIsKept (rung_from names vars s next) s next z a now after) e f
-
-    pub rung_bounds : (next < n) × (n ≤ length s) × (y.instructions ≤ n) × (y.rungs ≤ n)
-    rung_bounds = got_rung.within
-
-    module _ (g : ListRung) (p : rung_from names vars s next ≡ read n g) (grown : y ≡ with_rung z (length g.code)) where
-      takes_more : y ≡ sizes_of (h.done ++ g ∷ [])
+  module _ (r : RungAt) (f : RungIsKept (rung_from names vars s next) s next z (Some r) now after) where
+    module _ (g : ListRung) (p : rung_from names vars s next ≡ read r.next g) (grown : r.sizes ≡ with_rung z (length g.code)) where
+      takes_more : r.sizes ≡ sizes_of (h.done ++ g ∷ [])
       takes_more = grown ∙ ap (λ (k : Sizes). with_rung k (length g.code)) h.takes ∙ sym (sizes_more h.done g)
 
-      put_rung_lem : y.instructions ≤ most_number → after ≡ put_all before (list_columns (h.done ++ g ∷ []))
+      put_rung_lem : r.sizes.instructions ≤ most_number → after ≡ put_all before (list_columns (h.done ++ g ∷ []))
       unfolding with_rung
       put_rung_lem m =
-          let k : y.instructions ≡ z.instructions + length g.code = ap (λ (k : Sizes). k.instructions) grown in
-          got_rung.out n g p (omega arith)
+          let k : r.sizes.instructions ≡ z.instructions + length g.code = ap (λ (k : Sizes). k.instructions) grown in
+          f.out r.next g p (omega arith)
           ∙ ap (λ (b : Columns). put_rung b z g.label (length g.code) (map instr_word g.code)) (h.out (omega arith))
           ∙ ap (λ (k : Sizes). put_rung (put_all before (list_columns h.done)) k g.label (length g.code) (map instr_word g.code)) h.takes
           ∙ put_more h.done g before
 
-      end_with : n ≡ length s → RungsAreKept (list_text_of names vars s) (RungsRead y) before after
+      end_with : r.next ≡ length s → RungsAreKept (list_text_of names vars s) (Some r.sizes) before after
       end_with q =
-          let whole : list_text_of names vars s ≡ read n (h.done ++ g ∷ []) =
-          sym h.same ∙ map_read (λ gs. h.done ++ gs) _ n (g ∷ []) (rung_last names vars s h.left next n g p q) in
+          let whole : list_text_of names vars s ≡ read r.next (h.done ++ g ∷ []) =
+          sym h.same ∙ map_read (λ gs. h.done ++ gs) _ r.next (g ∷ []) (rung_last names vars s h.left next r.next g p q) in
           record {
-            same = rw whole (ap RungsRead takes_more);
+            same = rw whole (ap Some takes_more);
             out = λ k gs b m.
                 let u : h.done ++ g ∷ [] ≡ gs = same_tree (sym whole ∙ b) in
-                let v : y ≡ sizes_of gs = takes_more ∙ ap sizes_of u in
-                let w : y.instructions ≡ (sizes_of gs).instructions = ap (λ (k : Sizes). k.instructions) v in
+                let v : r.sizes ≡ sizes_of gs = takes_more ∙ ap sizes_of u in
+                let w : r.sizes.instructions ≡ (sizes_of gs).instructions = ap (λ (k : Sizes). k.instructions) v in
                 put_rung_lem (omega arith) ∙ ap (λ hs. put_all before (list_columns hs)) u;
           }
 
-      more_with : (n ≡ length s → ⊥) → AsLong now after → Keeping names vars s before after n y
-      more_with q long =
-          let b = rung_bounds in
+      more_with : (r.next ≡ length s → ⊥) → Keeping names vars s before after r.next r.sizes
+      more_with q =
+          let b = f.within in
           let b0 = b.0 in
           let en = h.enough in
           let b1 = b.1 in
-          let less = pred_of h.left (bigger (n ≡ length s → ⊥) q b1 b0 en) in
-          let step = rung_then names vars s h.left next n g p q in
+          let less = pred_of h.left (bigger (r.next ≡ length s → ⊥) q b1 b0 en) in
+          let step = rung_then names vars s h.left next r.next g p q in
           let u = less.1 in
           record {
             left = less.0;
             done = h.done ++ g ∷ [];
             takes = takes_more;
-            same = rw (← u) (sym (map_more h.done g (rungs_from names vars s h.left n)) ∙ (ap (map_p (λ gs. h.done ++ gs)) (sym step) ∙ h.same));
+            same = rw (← u) (sym (map_more h.done g (rungs_from names vars s h.left r.next)) ∙ (ap (map_p (λ gs. h.done ++ gs)) (sym step) ∙ h.same));
             enough = omega arith;
             within = b1;
             few = b.2;
             fewer = b.3;
-            long = as_long before now after h.long long;
             out = put_rung_lem;
           }
         where
-          bigger : (Q : Type 0) → Q → n ≤ length s → next < n → length s ≤ next + h.left → 1 ≤ h.left
+          bigger : (Q : Type 0) → Q → r.next ≤ length s → next < r.next → length s ≤ next + h.left → 1 ≤ h.left
           bigger Q q a b c = omega arith
 
-    pub rungs_end : n ≡ length s → RungsAreKept (list_text_of names vars s) (RungsRead y) before after
-    rungs_end q = let t = rung_got z (rung_from names vars s next) n y (sym e ∙ f.same) in end_with t.0 t.1 t.2 q
+    pub rungs_end : r.next ≡ length s → RungsAreKept (list_text_of names vars s) (Some r.sizes) before after
+    rungs_end q = let t = rung_got z (rung_from names vars s next) r f.same in end_with t.0 t.1 t.2 q
 
-    pub rungs_more : (n ≡ length s → ⊥) → AsLong now after → Keeping names vars s before after n y
-    rungs_more q long = let t = rung_got z (rung_from names vars s next) n y (sym e ∙ f.same) in more_with t.0 t.1 t.2 q long
+    pub rungs_more : (r.next ≡ length s → ⊥) → Keeping names vars s before after r.next r.sizes
+    rungs_more q = let t = rung_got z (rung_from names vars s next) r f.same in more_with t.0 t.1 t.2 q

@@ -1,5 +1,5 @@
 -- What the functions of this crate promise to each other. Nothing here is a sentence of the documents. Assumes nothing.
-use Rattle.std.specs.Prelude.{ℕ, ◌+◌, ◌≤◌, ◌<◌, max, ◌≡◌, List, [], ◌∷◌, map, length, set}
+use Rattle.std.specs.Prelude.{ℕ, ◌+◌, ◌≤◌, ◌<◌, max, ◌≡◌, List, [], ◌∷◌, map, length, set, Option, Some, None}
 use Rattle.std.proofs.Math.Option.{none, some}
 use Rattle.std.proofs.lemmas.List.Edits.{sets}
 use Rattle.questions.specs.Questions.{first_no, question13}
@@ -14,33 +14,23 @@ use Rattle.translation_definitions.specs.TranslateKept.{list_buffers, translated
 use Rattle.reader_definitions.specs.Form.{ListRung, list_of_rungs}
 use Rattle.reader_definitions.specs.ReadList.{words_of}
 use Rattle.reader.specs.declared.reading.CodeAt.{CodeAt}
-use Rattle.reader.specs.declared.reading.CodeAt.TheVariants.{Read as CodeRead, Stuck as CodeStuck}
 use Rattle.reader.specs.declared.reading.RungAt.{RungAt}
-use Rattle.reader.specs.declared.reading.RungAt.TheVariants.{Read as RungRead, Stuck as RungStuck}
-use Rattle.reader.specs.declared.reading.RungsAt.{RungsAt}
-use Rattle.reader.specs.declared.reading.RungsAt.TheVariants.{Read as RungsRead, Stuck as RungsStuck}
 use Rattle.reader.specs.declared.reading.Sizes.{Sizes}
 
 -- ---- lines, kept as words and records
 
-abbrev pub code_case : Parse (List Instr) → CodeAt
-code_case (read n is) = CodeRead n (length is)
-code_case (stuck p) = CodeStuck
+abbrev pub code_case : Parse (List Instr) → Option CodeAt
+code_case (read n is) = Some (record { next = n; count = length is })
+code_case (stuck p) = None
 
-abbrev pub CodeWithin : List ℕ → ℕ → CodeAt → Type 0
-CodeWithin s at (CodeRead n c) = (at + c ≤ n) × (n ≤ length s)
-CodeWithin s at CodeStuck = Unit {0}
+abbrev pub CodeWithin : List ℕ → ℕ → Option CodeAt → Type 0
+CodeWithin s at (Some c) = (at + c.count ≤ c.next) × (c.next ≤ length s)
+CodeWithin s at None = Unit {0}
 
-pub record CodeParsed (p : Parse (List Instr)) (s : List ℕ) (at : ℕ) (r : CodeAt) (put : ℕ) (e x : List ℕ) : Type 0 where
+pub record CodeParsed (p : Parse (List Instr)) (s : List ℕ) (at : ℕ) (r : Option CodeAt) (put : ℕ) (e x : List ℕ) : Type 0 where
   pub same : r ≡ code_case p
   pub within : CodeWithin s at r
   pub out : (n : ℕ) (is : List Instr) → p ≡ read n is → x ≡ sets e put (map instr_word is)
-
--- a record's three numbers, where they have 16 bits
-pub record RecordKept (label from count at : ℕ) (ls os ns ls' os' ns' : List ℕ) : Type 0 where
-  pub labels : ls' ≡ set ls at label
-  pub offsets : from ≤ most_number → os' ≡ set os at from
-  pub lengths : count ≤ most_number → ns' ≡ set ns at count
 
 -- what rungs take, with one rung of so many instructions more
 unfoldable pub with_rung : Sizes → ℕ → Sizes
@@ -56,16 +46,16 @@ put_rung b z label count ws =
       lengths = set b.lengths z.rungs count;
     }
 
-abbrev pub rung_case : Sizes → Parse ListRung → RungAt
-rung_case z (read n g) = RungRead n (with_rung z (length g.code))
-rung_case z (stuck p) = RungStuck
+abbrev pub rung_case : Sizes → Parse ListRung → Option RungAt
+rung_case z (read n g) = Some (record { next = n; sizes = with_rung z (length g.code) })
+rung_case z (stuck p) = None
 
-abbrev pub RungWithin : List ℕ → ℕ → RungAt → Type 0
-RungWithin s at (RungRead n y) = (at < n) × (n ≤ length s) × (y.instructions ≤ n) × (y.rungs ≤ n)
-RungWithin s at RungStuck = Unit {0}
+abbrev pub RungWithin : List ℕ → ℕ → Option RungAt → Type 0
+RungWithin s at (Some r) = (at < r.next) × (r.next ≤ length s) × (r.sizes.instructions ≤ r.next) × (r.sizes.rungs ≤ r.next)
+RungWithin s at None = Unit {0}
 
 -- a rung is read, and kept where its numbers have 16 bits
-pub record RungIsKept (p : Parse ListRung) (s : List ℕ) (at : ℕ) (z : Sizes) (r : RungAt) (before after : Columns) : Type 0 where
+pub record RungIsKept (p : Parse ListRung) (s : List ℕ) (at : ℕ) (z : Sizes) (r : Option RungAt) (before after : Columns) : Type 0 where
   pub same : r ≡ rung_case z p
   pub within : RungWithin s at r
   pub out : (n : ℕ) (g : ListRung) → p ≡ read n g → z.instructions + length g.code ≤ most_number
@@ -79,12 +69,12 @@ sizes_of gs = record { instructions = length (words_of (list_of_rungs gs)); rung
 abbrev pub list_columns : List ListRung → Columns
 list_columns gs = columns_of (list_buffers (list_of_rungs gs))
 
-abbrev pub rungs_case : Parse (List ListRung) → RungsAt
-rungs_case (read n gs) = RungsRead (sizes_of gs)
-rungs_case (stuck p) = RungsStuck
+abbrev pub rungs_case : Parse (List ListRung) → Option Sizes
+rungs_case (read n gs) = Some (sizes_of gs)
+rungs_case (stuck p) = None
 
 -- a text is read, and where its numbers have 16 bits all rungs are kept, as far as there is room
-pub record RungsAreKept (p : Parse (List ListRung)) (r : RungsAt) (before after : Columns) : Type 0 where
+pub record RungsAreKept (p : Parse (List ListRung)) (r : Option Sizes) (before after : Columns) : Type 0 where
   pub same : r ≡ rungs_case p
   pub out : (n : ℕ) (gs : List ListRung) → p ≡ read n gs → (sizes_of gs).instructions ≤ most_number → after ≡ put_all before (list_columns gs)
 

@@ -1,20 +1,20 @@
 // The lines of a list's text, kept as words and records. Document 02, Req 05.
 ghost use Rattle.std.specs.Prelude.{suc, ◌+◌, ◌<◌, ◌≤◌, ◌^◌, ◌≡◌, length};
 ghost use Rattle.questions.specs.Questions.{most_variables};
-ghost use Rattle.rungs.specs.Buffers.{columns};
+ghost use Rattle.rungs.specs.Buffers.{columns_of, buffers_in, SameLoans};
 ghost use Rattle.text_grammar.specs.Grammar.{most_number};
 ghost use Rattle.list_definitions.specs.Names.{names_in};
 ghost use Rattle.reader_definitions.specs.Reader.{code_from, rung_from, list_text_of};
-ghost use Rattle.reader.specs.Parts.{CodeParsed, RecordKept, with_rung, RungIsKept, RungsAreKept};
+ghost use Rattle.reader.specs.Parts.{CodeParsed, with_rung, RungIsKept, RungsAreKept};
 
-use reader_lines::{LabelAt, LineAt};
+use rungs::Buffers;
 use text_grammar::MOST_NUMBER;
 
 // The position after some instruction lines, and how many they are.
 #[derive(Clone, Copy)]
-pub enum CodeAt {
-    Read { next: usize, count: usize },
-    Stuck,
+struct CodeAt {
+    next: usize,
+    count: usize,
 }
 
 // What the rungs that were read take: instructions, records, and instructions of the longest.
@@ -27,90 +27,56 @@ pub struct Sizes {
 
 // The position after a rung that was kept, and what all rungs so far take.
 #[derive(Clone, Copy)]
-pub enum RungAt {
-    Read { next: usize, sizes: Sizes },
-    Stuck,
+struct RungAt {
+    next: usize,
+    sizes: Sizes,
 }
 
-// What all rungs take.
-#[derive(Clone, Copy)]
-pub enum RungsAt {
-    Read(Sizes),
-    Stuck,
+impl Sizes {
+    // With one rung more, of so many instructions.
+    #[tactic(auto, unfolding(crate::specs::Parts::with_rung))]
+    fn with_rung(self, count: usize) -> Sizes
+        requires { (self.instructions + count < 2 ^ 64) × (self.rungs + 1 < 2 ^ 64) }
+        ensures { result ≡ with_rung self count }
+    {
+        Sizes {
+            instructions: self.instructions + count,
+            rungs: self.rungs + 1,
+            longest: self.longest.max(count),
+        }
+    }
 }
 
 // Instruction lines up to a label line or the text's end; their words from `put` on, as far as there is room.
-fn code(table: &[u8], text: &[u8], at: usize, vars: u32, words: &mut [u32], put: usize) -> CodeAt
+fn code(
+    table: &[u8],
+    text: &[u8],
+    at: usize,
+    vars: u32,
+    words: &mut [u32],
+    put: usize,
+) -> Option<CodeAt>
     requires { (vars ≤ most_variables) × (at ≤ length text.now) × (put ≤ at) }
     ensures { CodeParsed (code_from (names_in table.now) vars text.now (suc (length text.now)) at)
         text.now at result put words.old words.new }
 {
     let mut next = at;
-    let mut count: usize = 0;
-    loop {
-        if reader_lines::opens_label(text, next) {
-            return CodeAt::Read { next, count };
-        }
-        if next == text.len() {
-            return CodeAt::Read { next, count };
-        }
-        match reader_lines::instruction(table, text, next, vars) {
-            LineAt::Read { word, next: n } => {
-                rungs::put_word(words, put + count, word);
-                count += 1;
-                next = n;
-            }
-            LineAt::Stuck => {
-                return CodeAt::Stuck;
-            }
-        }
+    let mut count = 0;
+    // Up to a line of another form, so no count by a `for`.
+    while !reader_lines::opens_label(text, next) && next != text.len() {
+        let line = reader_lines::instruction(table, text, next, vars)?;
+        rungs::put(words, put + count, line.word);
+        count += 1;
+        next = line.next;
     }
+    Some(CodeAt { next, count })
 }
 
 // A number of 16 bits as it is; no list that is accepted has a larger one.
 fn narrow(n: usize) -> u32
     ensures { n ≤ most_number → result ≡ n }
 {
-    if n <= MOST_NUMBER as usize {
-        n as u32
-    } else {
-        MOST_NUMBER
-    }
-}
-
-// A rung's record at a place.
-fn keep_record(
-    label: u32,
-    from: usize,
-    count: usize,
-    at: usize,
-    labels: &mut [u16],
-    offsets: &mut [u32],
-    lengths: &mut [u32],
-)
-    requires { label ≤ most_number }
-    ensures { RecordKept label from count at labels.old offsets.old lengths.old
-        labels.new offsets.new lengths.new }
-{
-    let small = label as u16;
-    let offset = narrow(from);
-    let long = narrow(count);
-    rungs::put_label(labels, at, small);
-    rungs::put_word(offsets, at, offset);
-    rungs::put_word(lengths, at, long);
-}
-
-// One rung more.
-fn grown(sizes: Sizes, count: usize) -> Sizes
-    requires { (sizes.instructions + count < 2 ^ 64) × (sizes.rungs + 1 < 2 ^ 64) }
-    ensures { result ≡ with_rung sizes count }
-{
-    let longest = rungs::larger(sizes.longest, count);
-    Sizes {
-        instructions: sizes.instructions + count,
-        rungs: sizes.rungs + 1,
-        longest,
-    }
+    u32::try_from(n).unwrap_or(MOST_NUMBER)
 }
 
 // A label line and its instruction lines, kept after the rungs before.
@@ -120,69 +86,45 @@ fn rung(
     at: usize,
     vars: u32,
     sizes: Sizes,
-    words: &mut [u32],
-    labels: &mut [u16],
-    offsets: &mut [u32],
-    lengths: &mut [u32],
-) -> RungAt
+    buffers: &mut Buffers,
+) -> Option<RungAt>
     requires { (vars ≤ most_variables) × (sizes.instructions ≤ at) × (sizes.rungs ≤ at) }
-    ensures { RungIsKept (rung_from (names_in table.now) vars text.now at) text.now at sizes result
-        (columns words.old labels.old offsets.old lengths.old)
-        (columns words.new labels.new offsets.new lengths.new) }
+    ensures kept { RungIsKept (rung_from (names_in table.now) vars text.now at) text.now at sizes result
+        (columns_of (buffers_in buffers.old)) (columns_of (buffers_in buffers.new)) }
+    ensures same { SameLoans buffers.old buffers.new }
 {
-    match reader_lines::label(text, at) {
-        LabelAt::Read { label, next } => {
-            let from = sizes.instructions;
-            match code(table, text, next, vars, words, from) {
-                CodeAt::Read { next: n, count } => {
-                    keep_record(label, from, count, sizes.rungs, labels, offsets, lengths);
-                    RungAt::Read {
-                        next: n,
-                        sizes: grown(sizes, count),
-                    }
-                }
-                CodeAt::Stuck => RungAt::Stuck,
-            }
-        }
-        LabelAt::Stuck => RungAt::Stuck,
-    }
+    let label = reader_lines::label(text, at)?;
+    let from = sizes.instructions;
+    let code = code(table, text, label.next, vars, buffers.words, from)?;
+    rungs::put(buffers.labels, sizes.rungs, label.label as u16);
+    rungs::put(buffers.offsets, sizes.rungs, narrow(from));
+    rungs::put(buffers.lengths, sizes.rungs, narrow(code.count));
+    Some(RungAt {
+        next: code.next,
+        sizes: sizes.with_rung(code.count),
+    })
 }
 
 // All rungs, kept as far as there is room; what they take is counted all the same.
-pub fn rungs_of(
-    table: &[u8],
-    text: &[u8],
-    vars: u32,
-    words: &mut [u32],
-    labels: &mut [u16],
-    offsets: &mut [u32],
-    lengths: &mut [u32],
-) -> RungsAt
+pub fn rungs_of(table: &[u8], text: &[u8], vars: u32, buffers: &mut Buffers) -> Option<Sizes>
     requires { vars ≤ most_variables }
-    ensures { RungsAreKept (list_text_of (names_in table.now) vars text.now) result
-        (columns words.old labels.old offsets.old lengths.old)
-        (columns words.new labels.new offsets.new lengths.new) }
+    ensures kept { RungsAreKept (list_text_of (names_in table.now) vars text.now) result
+        (columns_of (buffers_in buffers.old)) (columns_of (buffers_in buffers.new)) }
+    ensures same { SameLoans buffers.old buffers.new }
 {
-    let mut next: usize = 0;
+    let mut next = 0;
     let mut sizes = Sizes {
         instructions: 0,
         rungs: 0,
         longest: 0,
     };
+    // Up to the text's end, so no count by a `for`.
     loop {
-        match rung(
-            table, text, next, vars, sizes, words, labels, offsets, lengths,
-        ) {
-            RungAt::Read { next: n, sizes: z } => {
-                if n == text.len() {
-                    return RungsAt::Read(z);
-                }
-                next = n;
-                sizes = z;
-            }
-            RungAt::Stuck => {
-                return RungsAt::Stuck;
-            }
+        let kept = rung(table, text, next, vars, sizes, buffers)?;
+        if kept.next == text.len() {
+            return Some(kept.sizes);
         }
+        next = kept.next;
+        sizes = kept.sizes;
     }
 }

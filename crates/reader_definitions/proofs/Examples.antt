@@ -65,7 +65,7 @@ answers =
 answers_worked : answers ≡
     counts 12 2 10 ∷ counts 4 2 3 ∷ no_with 15 ∷ no_with 15 ∷ no_with 1 ∷ no_with 14 ∷ no_with 15 ∷ no_with 15 ∷ no_with 15 ∷ no_with 15 ∷ no_with 15 ∷ no_with 15 ∷ no_with 15
     ∷ no_with 15 ∷ no_with 15 ∷ no_with 15 ∷ counts 1 1 1 ∷ no_with 15 ∷ no_with 15 ∷ no_with 15 ∷ no_with 10 ∷ no_with 10 ∷ no_with 10 ∷ no_with 13 ∷ []
-unfolding answers answer counts no_with case_a room fixed_table park_table zeros bytes fixed_names trimmed flat_map all ask first_no vars_in_range question1 long_enough question13
+unfolding answers answer counts no_with case_a room fixed_table park_table zeros bytes fixed_names trimmed flat_map ask first_no vars_in_range question1 long_enough question13
     lay laid longest as_buffers needs written written_over map_p bind followed digit_of digits_from numeral_of operand op_of operand_number instr_word decode_instr ops only_not
     sort_of operand_sort sort_number same_sort operand_in_range word_in_range records_laid list_in_range question10 names_from is_capital is_name same_bytes different is_name_table question14
     list_of_rungs letters_from op_named given lettered operand_from instr_with instr_named instruction_from opens_label label_from code_from rung_from rungs_from list_text_of question15 rungs_of

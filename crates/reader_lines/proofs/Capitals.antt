@@ -1,5 +1,5 @@
 -- Laws of capital letters read one after the other. Assumes nothing.
-use Prim.Native.Nat.{ℕ, zero, suc, ◌+◌, ◌-◌, ◌≤◌, ◌<◌}
+use Prim.Native.Nat.{ℕ, zero, suc, ◌+◌, ◌≤◌, ◌<◌}
 use native.Mathlib.Omega.{arith}
 use mathlib.Core.Path.{◌≡◌, refl, sym, ◌∙◌}
 use mathlib.Core.Bool.{Bool, true, false, ◌&&◌}
@@ -36,16 +36,15 @@ module _ (s : List ℕ) (at next left : ℕ) (i : Lettering s at next left) wher
   pub letters_inside : (b : ℕ) → b ≡ get_or s next 0 → (t : Bool) → t ≡ is_capital b → t ≡ true → next < length s
   letters_inside b q t e f = let p = capital_some b (sym e ∙ f) in inside s next (rw (← q) p)
 
-  pub letters_more : (b : ℕ) → b ≡ get_or s next 0 → (t : Bool) → t ≡ is_capital b → t ≡ true → 0 < left → Lettering s at (next + 1) (left - 1)
+  pub letters_more : (b : ℕ) → b ≡ get_or s next 0 → (t : Bool) → t ≡ is_capital b → t ≡ true → (j : ℕ) → left ≡ suc j → Lettering s at (next + 1) j
   unfolding letters_from
-  letters_more b q t e f h =
+  letters_more b q t e f j h =
       let l = letters_inside b q t e f in
       let g = i.from in
-      record { same = step left h ∙ i.same; from = omega arith; within = λ w. omega arith }
+      record { same = step ∙ i.same; from = omega arith; within = λ w. omega arith }
     where
-      step : (left : ℕ) → 0 < left → letters_from s (left - 1) (next + 1) ≡ letters_from s left next
-      step zero h = absurd (omega arith)
-      step (suc k) h = let z : suc k - 1 ≡ k = omega arith in rw (z, ← q, ← e, f) refl
+      step : letters_from s j (next + 1) ≡ letters_from s left next
+      step = rw (h, ← q, ← e, f) refl
 
   pub letters_end : left ≤ 0 → LettersRead s at next
   unfolding letters_from

@@ -8,7 +8,8 @@ use lib.ListN.{length, get_or, set, take, drop, replicate, length-take, length-r
 use Rattle.rungs.specs.Records.{RungRecord, most_records}
 use Rattle.rows.specs.declared.Rung.{Rung}
 use Rattle.rows.specs.Rows.{record_of, records_of, no_record, rung_at}
-use Rattle.rows.specs.Parts.{over_zeros, gathered, rows_of}
+use Rattle.rows.specs.declared.Rows.{Rows}
+use Rattle.rows.specs.Parts.{over_zeros, gathered}
 use Rattle.rows.proofs.Laws.Records.{records_length, records_at}
 
 abbrev pub zeros : List ℕ
@@ -69,6 +70,9 @@ offset_of r = r.offset
 abbrev pub length_of : RungRecord → ℕ
 length_of r = r.length
 
-pub gathered_all : (row : List Rung) (i : ℕ) → i ≡ min most_records (length row) → rows_of (fields_to label_of i row) (fields_to offset_of i row) (fields_to length_of i row) (length row) (min most_records (length row)) ≡ gathered (records_of row)
+abbrev rows_of : List ℕ → List ℕ → List ℕ → ℕ → Rows
+rows_of ls os ns n = record { labels = ls; offsets = os; lengths = ns; n = n }
+
+pub gathered_all : (row : List Rung) (i : ℕ) → i ≡ min most_records (length row) → rows_of (fields_to label_of i row) (fields_to offset_of i row) (fields_to length_of i row) (length row) ≡ gathered (records_of row)
 unfolding gathered
-gathered_all row i e = λ j. rows_of (fields_all label_of row i e j) (fields_all offset_of row i e j) (fields_all length_of row i e j) (sym (records_length row) j) (min most_records (sym (records_length row) j))
+gathered_all row i e = λ j. rows_of (fields_all label_of row i e j) (fields_all offset_of row i e j) (fields_all length_of row i e j) (sym (records_length row) j)

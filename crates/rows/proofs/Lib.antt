@@ -2,6 +2,5 @@
 pub mod Searches
 pub mod Gathers
 pub mod Scatters
-pub mod Fields
 pub mod Times
 pub mod Laws

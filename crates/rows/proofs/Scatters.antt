@@ -12,12 +12,16 @@ use Rattle.rungs.proofs.Laws.Rows.{Even, row_length, row_at}
 use Rattle.rows.specs.declared.Rung.{Rung}
 use Rattle.rows.specs.declared.Rows.{Rows}
 use Rattle.rows.specs.Rows.{records_of, times_of, no_record, no_rung}
-use Rattle.rows.specs.Parts.{scattered, rung_in}
+use Rattle.rows.specs.Parts.{scattered}
 use Rattle.rows.proofs.Gathers.{laid_more}
 
 -- the struct of a record, never entered
 abbrev rung_of : RungRecord → Rung
 rung_of r = record { label = r.label; offset = r.offset; length = r.length; times = 0 }
+
+-- the struct made of the arrays at a place
+abbrev rung_in : List ℕ → List ℕ → List ℕ → ℕ → Rung
+rung_in labels offsets lengths i = record { label = get_or labels i 0; offset = get_or offsets i 0; length = get_or lengths i 0; times = 0 }
 
 -- arrays as long as their type says
 pub record Full (rows : Rows) : Type 0 where

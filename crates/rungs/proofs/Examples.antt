@@ -4,7 +4,7 @@ use mathlib.Core.List.{List, [], ◌∷◌, zip_with}
 use Rattle.rungs.specs.Records.{RungRecord, search, present, looked_at, look_up, enter, sum, fields_of, row_of}
 use Rattle.rungs.specs.Buffers.{as_buffers, new_buffers}
 use Rattle.rungs.specs.declared.Search.{Search}
-use Rattle.rungs.specs.declared.Search.TheVariants.{Found, Missing}
+use Rattle.rungs.specs.Records.{found, missing}
 
 -- no record; label 0 and no record; the only record; the first, a middle and the last of some; a label that repeats; none has it
 searches : List Search
@@ -19,7 +19,7 @@ searches =
     ∷ look_up 6 (10 ∷ 20 ∷ 5 ∷ [])
     ∷ []
 
-searches_worked : searches ≡ Missing 0 ∷ Missing 0 ∷ Found 0 1 ∷ Found 0 1 ∷ Found 1 2 ∷ Found 2 3 ∷ Found 1 2 ∷ Missing 3 ∷ []
+searches_worked : searches ≡ missing 0 ∷ missing 0 ∷ found 0 1 ∷ found 0 1 ∷ found 1 2 ∷ found 2 3 ∷ found 1 2 ∷ missing 3 ∷ []
 unfolding searches search present looked_at look_up
 searches_worked = refl
 

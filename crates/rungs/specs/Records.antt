@@ -1,9 +1,8 @@
 -- Rung records. Document 01, "The kept ladder": "A list has the same records, counting instructions." Assumes nothing.
-use Rattle.std.specs.Prelude.{ℕ, suc, ◌+◌, max, Bool, true, false, ◌&&◌, ◌||◌, eqb, ltb, length, get_or, replicate}
+use Rattle.std.specs.Prelude.{ℕ, suc, ◌+◌, max, Bool, true, false, ◌&&◌, ◌||◌, eqb, ltb, length, get_or, replicate, Some, None}
 use mathlib.Core.List.{List, [], ◌∷◌, map, zip_with}
 use Rattle.questions.specs.Tests.{bit}
 use Rattle.rungs.specs.declared.Search.{Search}
-use Rattle.rungs.specs.declared.Search.TheVariants.{Found, Missing}
 
 -- "Rung records lie side by side in one lent row: label (16 bits), offset and length (32 bits each)." 02, Req 04: "The rung record gets a fourth field of
 -- 32 bits, the times entered. Any value is taken": the fourth fields stand in a row of numbers of their own, beside the records; no question looks at them.
@@ -46,11 +45,18 @@ unfoldable pub looked_at : ℕ → List ℕ → List ℕ
 looked_at l [] = []
 looked_at l (m ∷ ms) = m ∷ elim (eqb m l) [ true ↦ [] | false ↦ looked_at l ms ]
 
+-- the place of the match, and no place, with how many records were looked at
+abbrev pub found : ℕ → ℕ → Search
+found place looked = record { place = Some place; looked = looked }
+
+abbrev pub missing : ℕ → Search
+missing looked = record { place = None; looked = looked }
+
 -- "and tells how many records it looked at": what the search tells, with the place of the first of some labels that is l, if one is
 unfoldable pub look_up : ℕ → List ℕ → Search
 look_up l ms = elim (present l ms) [
-  | true ↦ Found (search l ms) (length (looked_at l ms))
-  | false ↦ Missing (length (looked_at l ms))
+  | true ↦ found (search l ms) (length (looked_at l ms))
+  | false ↦ missing (length (looked_at l ms))
 ]
 
 -- where the rung with label l begins

@@ -2,7 +2,7 @@
 use Rattle.std.specs.Prelude.{◌≡◌, refl, true, false, List, [], ◌∷◌, ℕ}
 use Rattle.std.proofs.Math.Bool.{xor}
 use Rattle.std.proofs.Math.Option.{some}
-use Rattle.questions.specs.Tests.{all, different}
+use Rattle.questions.specs.Tests.{different}
 use Rattle.questions.specs.Questions.{Answer, yes, ask}
 use Rattle.table.specs.Timer.{Timer, elapsed, started, tested, powered}
 use Rattle.table.specs.State.{State, state_of, value_at, written_at, turns, write, set_timer, run_timer}
@@ -77,5 +77,5 @@ on v = record { preset = 1; start = 0; variable = v; running = 0; done = 0 }
 
 timers_asked : question16 2 (on 1 ∷ []) ∷ question16 2 [] ∷ question16 2 (on 2 ∷ []) ∷ question16 2 (on 1 ∷ on 0 ∷ []) ∷ question16 2 (on 1 ∷ on 0 ∷ on 1 ∷ []) ∷ []
     ≡ yes ∷ yes ∷ no_timers ∷ yes ∷ no_timers ∷ []
-unfolding question16 timers_in_range ask all different on no_timers
+unfolding question16 timers_in_range ask different on no_timers
 timers_asked = refl

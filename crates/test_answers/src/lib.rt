@@ -2,8 +2,9 @@
 // number of times, on a fresh copy of what it changes. A malformed or oversized request ends the answers with a line that says so.
 #![tactic(auto)]
 
-use std::io::{Stdin, Stdout};
-use test_requests::{State, input};
+use test_requests::input::{Bad, Input};
+use test_requests::output::Output;
+use test_scan_answers::Kind;
 
 mod lists;
 mod readings;
@@ -11,69 +12,89 @@ mod searches;
 mod texts;
 mod translations;
 
-// One request: `turns` times its call, and the last answer.
-fn request(
-    stdin: Stdin,
-    chunk: &mut [u8],
-    stdout: Stdout,
-    room: &mut [u8],
-    state: State,
-    turns: u32,
-) -> State {
-    let placed = state.placed;
-    let kind = input::number(stdin, chunk, state.input);
-    if kind.stop == input::NONE {
-        return State {
-            input: kind,
-            placed,
-        };
-    }
-    let number = kind.value;
-    match number {
-        1 => texts::read_request(stdin, chunk, stdout, room, kind, placed, turns),
-        2 => translations::translate_request(stdin, chunk, stdout, room, kind, placed, turns),
-        3 => test_scan_answers::scan_request(stdin, chunk, stdout, room, kind, placed, turns),
-        4 => test_scan_answers::scan_request(stdin, chunk, stdout, room, kind, placed, turns),
-        5 => lists::listing_request(stdin, chunk, stdout, room, kind, placed, turns),
-        6 => searches::search_request(stdin, chunk, stdout, room, kind, placed, turns),
-        7 => readings::read_request(stdin, chunk, stdout, room, kind, placed, turns),
-        _ => test_requests::refuse(placed),
+// As many as no run uses up.
+const MOST_REQUESTS: u64 = 4000000000;
+
+const MOST_TEXT_BYTES: usize = 70000;
+
+const MOST_NAME_BYTES: usize = 120;
+
+#[derive(Clone, Copy)]
+enum Request {
+    Read,
+    Translate,
+    Scan(Kind),
+    Listing,
+    Search,
+    ReadList,
+}
+
+// By its number, as docs/FORMAT.md gives it.
+impl TryFrom<u32> for Request {
+    type Error = Bad;
+
+    fn try_from(number: u32) -> Result<Request, Bad> {
+        match number {
+            1 => Ok(Request::Read),
+            2 => Ok(Request::Translate),
+            3 => Ok(Request::Scan(Kind::Ladder)),
+            4 => Ok(Request::Scan(Kind::List)),
+            5 => Ok(Request::Listing),
+            6 => Ok(Request::Search),
+            7 => Ok(Request::ReadList),
+            _ => Err(Bad),
+        }
     }
 }
 
-// All requests, up to the first bad one, in as many turns as no run uses up. Gives how many bytes of the room wait to be written.
-pub fn answer_all(stdin: Stdin, chunk: &mut [u8], stdout: Stdout, room: &mut [u8]) -> usize {
-    let mut state = test_requests::begin();
-    let mut left: u64 = 4000000000;
-    while 0 < left {
-        state = request(stdin, chunk, stdout, room, state, 1);
-        let input = state.input;
-        if input.stop == input::NONE {
-            return state.placed;
-        }
-        if input.stop == input::BAD {
-            return test_requests::put_bad(stdout, room, state.placed);
-        }
-        left -= 1;
+// The next request, if the input is not at its end: `turns` times its call, and the last answer. Tells whether there was one.
+fn answer_next(input: &mut Input, output: &mut Output, turns: u32) -> Result<bool, Bad> {
+    let Some(number) = input.first()? else {
+        return Ok(false);
+    };
+    match Request::try_from(number)? {
+        Request::Read => texts::answer(input, output, turns)?,
+        Request::Translate => translations::answer(input, output, turns)?,
+        Request::Scan(kind) => test_scan_answers::answer(kind, input, output, turns)?,
+        Request::Listing => lists::answer(input, output, turns)?,
+        Request::Search => searches::answer(input, output, turns)?,
+        Request::ReadList => readings::answer(input, output, turns)?,
     }
-    state.placed
+    Ok(true)
+}
+
+fn answer_each(input: &mut Input, output: &mut Output) -> Result<(), Bad> {
+    for _ in 0..MOST_REQUESTS {
+        if !answer_next(input, output, 1)? {
+            break;
+        }
+    }
+    Ok(())
+}
+
+fn answer_repeated(input: &mut Input, output: &mut Output) -> Result<(), Bad> {
+    let turns = input.first()?.ok_or(Bad)?;
+    input.line_end()?;
+    answer_next(input, output, turns)?;
+    Ok(())
+}
+
+// Says of a bad request that it was one.
+fn conclude(output: &mut Output, answered: Result<(), Bad>) {
+    if let Err(Bad) = answered {
+        output.bytes(b"bad request\n");
+    }
+    output.flush();
+}
+
+// All requests, up to the first bad one.
+pub fn answer_all(input: &mut Input, output: &mut Output) {
+    let answered = answer_each(input, output);
+    conclude(output, answered);
 }
 
 // The number of turns, and one request.
-pub fn answer_turns(stdin: Stdin, chunk: &mut [u8], stdout: Stdout, room: &mut [u8]) -> usize {
-    let begun = test_requests::begin();
-    let turns = input::number(stdin, chunk, begun.input);
-    if !input::is_line_end(turns) {
-        return test_requests::put_bad(stdout, room, 0);
-    }
-    let state = State {
-        input: turns,
-        placed: 0,
-    };
-    let answered = request(stdin, chunk, stdout, room, state, turns.value);
-    let input = answered.input;
-    if input.stop == input::BAD {
-        return test_requests::put_bad(stdout, room, answered.placed);
-    }
-    answered.placed
+pub fn answer_turns(input: &mut Input, output: &mut Output) {
+    let answered = answer_repeated(input, output);
+    conclude(output, answered);
 }

@@ -1,143 +1,52 @@
-// Listing (kind 5).
-ghost use Rattle.std.specs.Prelude.{◌≡◌, length};
+// Listing (request 5).
+use crate::MOST_NAME_BYTES;
+use questions::Refusal;
+use rungs::Slices;
+use test_requests::input::{Bad, Input};
+use test_requests::output::Output;
+use test_requests::parts::MOST_WORDS;
 
-use list_definitions::Listed;
-use std::io::{Stdin, Stdout};
-use test_requests::input::{Input, Lent};
-use test_requests::{State, input, output};
+const MOST_LISTING_BYTES: usize = 70000;
 
-fn put_listed(stdout: Stdout, room: &mut [u8], placed: usize, answer: Listed) -> usize {
+fn put_listed(output: &mut Output, answer: Result<usize, Refusal>) {
     match answer {
-        Listed::Written(bytes) => {
-            let ended = output::put_number(stdout, room, placed, 1);
-            output::put_next(stdout, room, ended, bytes as u64)
-        }
-        Listed::Refused(refusal) => output::put_head(
-            stdout,
-            room,
-            placed,
-            output::refused_head(refusal),
-        ),
+        Ok(bytes) => output.put(format_args!("1 {bytes}")),
+        Err(refusal) => output.refusal(refusal),
     }
 }
 
-// Calls Listing on what was read, and puts the answer.
+// Calls Listing on what was read, and puts the last answer.
 fn answer_listing(
-    stdout: Stdout,
-    room: &mut [u8],
-    placed: usize,
+    output: &mut Output,
     vars: u32,
-    code: &[u32],
-    labels: &[u16],
-    offsets: &[u32],
-    lengths: &[u32],
+    list: Slices,
     times: &[u32],
     names: &[u8],
-    out: &mut [u8],
+    lines: &mut [u8],
     turns: u32,
-) -> usize {
-    let mut answer = Listed::Written(0);
-    let mut left = turns;
-    while 0 < left {
-        answer = list::listing(vars, code, labels, offsets, lengths, times, names, out);
-        left -= 1;
+) {
+    let mut answer = Ok(0);
+    for _ in 0..turns {
+        answer = list::listing(vars, list, times, names, lines);
     }
-    let ended = put_listed(stdout, room, placed, answer);
-    let shown = output::put_buffer(stdout, room, ended, out);
-    output::put_byte(stdout, room, shown, b'\n')
+    put_listed(output, answer);
+    output.buffer(lines, u8::MAX);
+    output.byte(b'\n');
 }
 
-// The filling of a listing buffer.
-fn blank_listing() -> [u8; 70000]
-    ensures { 70000 ≡ length result }
-{
-    [255u8; 70000]
-}
-
-// Listing of a list that was read, from the room for it on, with the name table that follows.
-fn listing_lent(
-    stdin: Stdin,
-    chunk: &mut [u8],
-    stdout: Stdout,
-    room: &mut [u8],
-    placed: usize,
-    lent: Lent,
-    code: &[u32],
-    labels: &[u16],
-    offsets: &[u32],
-    lengths: &[u32],
-    times: &[u32],
-    turns: u32,
-) -> State {
-    let mut out = blank_listing();
-    let mut names = [0u8; 120];
-    let room_for_bytes = input::limited(stdin, chunk, lent.input, 70000);
-    let filled = input::read_names(stdin, chunk, room_for_bytes, &mut names);
-    let input = filled.input;
-    if !input::is_line_end(input) {
-        return test_requests::refuse(placed);
-    }
-    let bytes = room_for_bytes.value as usize;
-    let t = filled.count;
-    let answered = answer_listing(
-        stdout,
-        room,
-        placed,
-        lent.vars,
-        code,
-        labels,
-        offsets,
-        lengths,
-        times,
-        &names[..t],
-        &mut out[..bytes],
-        turns,
-    );
-    State {
-        input,
-        placed: answered,
-    }
-}
-
-// Listing, from the number after its kind on.
-pub fn listing_request(
-    stdin: Stdin,
-    chunk: &mut [u8],
-    stdout: Stdout,
-    room: &mut [u8],
-    begun: Input,
-    placed: usize,
-    turns: u32,
-) -> State {
-    let mut code = [0u32; 20000];
-    let mut labels = [0u16; 400];
-    let mut offsets = [0u32; 400];
-    let mut lengths = [0u32; 400];
-    let mut times = [0u32; 400];
-    let lent = input::read_lent(
-        stdin,
-        chunk,
-        begun,
-        &mut code,
-        &mut labels,
-        &mut offsets,
-        &mut lengths,
-        &mut times,
-    );
-    let n = lent.words;
-    let m = lent.records;
-    listing_lent(
-        stdin,
-        chunk,
-        stdout,
-        room,
-        placed,
-        lent,
-        &code[..n],
-        &labels[..m],
-        &offsets[..m],
-        &lengths[..m],
-        &times[..m],
-        turns,
-    )
+// Listing, from the number after the request's on.
+pub fn answer(input: &mut Input, output: &mut Output, turns: u32) -> Result<(), Bad> {
+    let mut code = [0; MOST_WORDS];
+    let mut names = [0; MOST_NAME_BYTES];
+    let mut lines = [u8::MAX; MOST_LISTING_BYTES];
+    let vars = input.next()?;
+    let code = input.items(&mut code)?;
+    let mut records = input.records()?;
+    let bytes = input.count(MOST_LISTING_BYTES)?;
+    let names = input.items(&mut names)?;
+    input.line_end()?;
+    let (list, times) = records.lend(code);
+    let lines = &mut lines[..bytes];
+    answer_listing(output, vars, list, times, names, lines, turns);
+    Ok(())
 }

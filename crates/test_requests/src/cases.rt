@@ -1,103 +1,95 @@
 // Whole inputs of a program as test cases: a line that names the case, a line with the number of bytes, these bytes, and a line feed.
-ghost use Rattle.std.specs.Prelude.{◌≤◌, length};
+ghost use Rattle.std.specs.Prelude.{◌≤◌, length, IfSome};
 
-use crate::input;
-use crate::input::{Counted, Input};
-use program_chunks::{END, LF, Reading};
-use std::io::Stdin;
+use crate::input::Input;
+use crate::output::Output;
 
-// The input after a case, how many bytes its name line has (0 where there is no case), and how many its own input.
+// As many as no run uses up.
+const MOST_CASES: u64 = 4000000000;
+
+const NAME_BYTES: usize = 80;
+
+// A case's name line, with the line feed, and its own input.
 #[derive(Clone, Copy)]
-pub struct Case {
-    pub input: Input,
-    pub name: usize,
-    pub bytes: usize,
+pub struct Case<'a> {
+    pub name: &'a [u8],
+    pub bytes: &'a [u8],
 }
 
-fn at_byte(reading: Reading) -> Input {
-    Input {
-        at: reading.at,
-        end: reading.end,
-        value: 0,
-        stop: input::LINE,
-    }
-}
-
-// The bytes that follow, up to `most` of them, the input's end, or a last byte, which is taken too.
-fn take_bytes(
-    stdin: Stdin,
-    chunk: &mut [u8],
-    from: Input,
-    room: &mut [u8],
-    most: usize,
-    last: u32,
-) -> Counted
-    requires { most ≤ length room.old }
-    ensures { result.count ≤ most }
-{
-    let mut reading = input::reading_of(from);
-    let mut count: usize = 0;
-    while count < most {
-        let taken = program_chunks::next_byte(stdin, chunk, reading);
-        reading = taken.reading;
-        let byte = taken.byte;
-        if 255 < byte {
-            return Counted {
-                input: at_byte(reading),
-                count,
+impl Input {
+    // The bytes that follow, as far as there is room, up to the input's end or a last byte, which is taken too: how many these are.
+    fn take(&mut self, room: &mut [u8], last: Option<u8>) -> usize
+        ensures { result ≤ length room.old }
+    {
+        for at in 0..room.len() {
+            let Ok(Some(byte)) = self.byte() else {
+                return at;
             };
+            room[at] = byte;
+            if last == Some(byte) {
+                return at + 1;
+            }
         }
-        room[count] = byte as u8;
-        count += 1;
-        if byte == last {
-            return Counted {
-                input: at_byte(reading),
-                count,
-            };
+        room.len()
+    }
+
+    // How many bytes a case has. With a number too large it has none, and what the chunk still holds is given up.
+    fn case_length(&mut self) -> usize {
+        let Some(length) = self.number() else {
+            self.give_up();
+            return 0;
+        };
+        length as usize
+    }
+
+    // The next case, each part as far as there is room; none where the input is at its end.
+    pub fn case<'a>(&mut self, name: &'a mut [u8], bytes: &'a mut [u8]) -> Option<Case<'a>>
+        ensures { IfSome result (λ case. length case.bytes.now ≤ length bytes.old) }
+    {
+        let named = self.take(name, Some(b'\n'));
+        if named == 0 {
+            return None;
         }
-    }
-    Counted {
-        input: at_byte(reading),
-        count,
+        let most = self.case_length().min(bytes.len());
+        let filled = self.take(&mut bytes[..most], None);
+        let _line_feed = self.byte();
+        Some(Case {
+            name: &name[..named],
+            bytes: &bytes[..filled],
+        })
     }
 }
 
-// The count, or the limit where the count is past it.
-fn at_most(count: usize, most: usize) -> usize
-    ensures { result ≤ most }
-{
-    if most < count {
-        return most;
-    }
-    count
-}
-
-// A line with a number, and so many bytes, as far as there is room.
-fn take_counted(stdin: Stdin, chunk: &mut [u8], from: Input, room: &mut [u8]) -> Counted
-    ensures { result.count ≤ length room.old }
-{
-    let counted = input::number(stdin, chunk, from);
-    let most = at_most(counted.value as usize, room.len());
-    take_bytes(stdin, chunk, counted, room, most, END)
-}
-
-// The next case: its name line, with the line feed, and its own input, each as far as there is room.
-pub fn read_case(
-    stdin: Stdin,
-    chunk: &mut [u8],
-    from: Input,
-    name: &mut [u8],
+// Puts the next case's name line, and what `put` puts for its input. Tells whether there was one.
+fn run<P: Fn(&mut Output, &[u8])>(
+    input: &mut Input,
+    output: &mut Output,
     bytes: &mut [u8],
-) -> Case
-    ensures { result.bytes ≤ length bytes.old }
+    put: &P,
+) -> bool
+    requires { P.IsAlwaysCallable put.now }
 {
-    let named = take_bytes(stdin, chunk, from, name, name.len(), LF);
-    let filled = take_counted(stdin, chunk, named.input, bytes);
-    let rest = filled.input;
-    let after = program_chunks::next_byte(stdin, chunk, input::reading_of(rest));
-    Case {
-        input: at_byte(after.reading),
-        name: named.count,
-        bytes: filled.count,
+    let mut name = [0; NAME_BYTES];
+    let Some(case) = input.case(&mut name, bytes) else {
+        return false;
+    };
+    output.bytes(case.name);
+    put(output, case.bytes);
+    true
+}
+
+// All cases.
+pub fn run_all<P: Fn(&mut Output, &[u8])>(
+    input: &mut Input,
+    output: &mut Output,
+    bytes: &mut [u8],
+    put: P,
+)
+    requires { P.IsAlwaysCallable put }
+{
+    for _ in 0..MOST_CASES {
+        if !run(input, output, bytes, &put) {
+            return;
+        }
     }
 }

@@ -1,231 +1,124 @@
 // What test_case_a_rows prints: what the calls over rows answered and left, and what a search told.
 #![tactic(auto)]
 
-use ladder_definitions::LadderScanned;
-use list_definitions::{ListScanned, Listed};
 use questions::Refusal;
 use rungs::Search;
-use std::io::Stdout;
-use test_requests::output;
-use text_definitions::TextRead;
-use translation_definitions::Translated;
+use table::Halt;
+use test_requests::output::Output;
 
 // V of each of the program's ladders.
 pub const VARS: u32 = 5;
 
-// The times entered of a row's first and last record.
-#[derive(Clone, Copy)]
-pub struct Times {
-    pub first: u32,
-    pub last: u32,
+fn put_refusal(output: &mut Output, refusal: Refusal) {
+    output.put(format_args!(" refused {} place {}", refusal.number(), refusal.place()));
 }
 
-// A text and a number after it.
-pub fn put_count(stdout: Stdout, room: &mut [u8], placed: usize, text: &[u8], value: u64) -> usize {
-    let end = output::put_text(stdout, room, placed, text);
-    output::put_next(stdout, room, end, value)
-}
-
-fn put_refusal(stdout: Stdout, room: &mut [u8], placed: usize, refusal: Refusal) -> usize {
-    let head = output::refused_head(refusal);
-    let number = put_count(stdout, room, placed, b" refused", head.first);
-    put_count(stdout, room, number, b" place", head.second)
-}
-
-fn put_read(stdout: Stdout, room: &mut [u8], placed: usize, answer: TextRead) -> usize {
-    let name = output::put_text(stdout, room, placed, b"read");
+// What Read answered.
+pub fn put_read(output: &mut Output, answer: Result<text_definitions::Counts, Refusal>) {
+    output.put("read");
     match answer {
-        TextRead::Kept(counts) => {
-            let words = put_count(stdout, room, name, b" words", counts.words as u64);
-            put_count(stdout, room, words, b" rungs", counts.rungs as u64)
-        }
-        TextRead::Refused(refusal) => put_refusal(stdout, room, name, refusal),
+        Ok(counts) => output.put(format_args!(" words {} rungs {}", counts.words, counts.rungs)),
+        Err(refusal) => put_refusal(output, refusal),
     }
 }
 
-pub fn put_translated(stdout: Stdout, room: &mut [u8], placed: usize, answer: Translated) -> usize {
-    let name = output::put_text(stdout, room, placed, b"\ntranslate");
+// What Translate answered.
+pub fn put_translated(
+    output: &mut Output,
+    answer: Result<translation_definitions::Counts, Refusal>,
+) {
+    output.put("\ntranslate");
     match answer {
-        Translated::Written(counts) => {
-            let instructions = put_count(
-                stdout,
-                room,
-                name,
-                b" instructions",
-                counts.instructions as u64,
-            );
-            let rungs = put_count(stdout, room, instructions, b" rungs", counts.rungs as u64);
-            put_count(stdout, room, rungs, b" longest", counts.longest as u64)
-        }
-        Translated::Refused(refusal) => put_refusal(stdout, room, name, refusal),
+        Ok(counts) => output.put(format_args!(
+            " instructions {} rungs {} longest {}",
+            counts.instructions, counts.rungs, counts.longest
+        )),
+        Err(refusal) => put_refusal(output, refusal),
     }
 }
 
-// The counts that both scans answer.
-fn put_counts(stdout: Stdout, room: &mut [u8], placed: usize, rungs: u32, moved: u32) -> usize {
-    let after_rungs = put_count(stdout, room, placed, b" rungs", rungs as u64);
-    put_count(stdout, room, after_rungs, b" moved", moved as u64)
-}
-
-fn put_ladder(stdout: Stdout, room: &mut [u8], placed: usize, answer: LadderScanned) -> usize {
-    let name = output::put_text(stdout, room, placed, b"\nladder scan");
-    match answer {
-        LadderScanned::Ended(counts) => {
-            let ended = output::put_text(stdout, room, name, b" ended,");
-            put_counts(stdout, room, ended, counts.rungs, counts.moved)
-        }
-        LadderScanned::Stopped(counts) => {
-            let stopped = output::put_text(stdout, room, name, b" stopped,");
-            put_counts(stdout, room, stopped, counts.rungs, counts.moved)
-        }
-        LadderScanned::Refused(refusal) => put_refusal(stdout, room, name, refusal),
+// How a scan halted, and its counts.
+fn halted<C>(halt: Halt<C>) -> (&'static str, C) {
+    match halt {
+        Halt::Ended(counts) => ("ended", counts),
+        Halt::Stopped(counts) => ("stopped", counts),
     }
 }
 
-fn put_list_counts(
-    stdout: Stdout,
-    room: &mut [u8],
-    placed: usize,
-    counts: list_definitions::Counts,
-) -> usize {
-    let shared = put_counts(stdout, room, placed, counts.rungs, counts.moved);
-    put_count(
-        stdout,
-        room,
-        shared,
-        b" instructions",
-        counts.instructions as u64,
-    )
+fn put_ladder_halt(output: &mut Output, halt: Halt<ladder_definitions::Counts>) {
+    let (how, counts) = halted(halt);
+    output.put(format_args!(" {how}, rungs {} moved {}", counts.rungs, counts.moved));
 }
 
-fn put_list(stdout: Stdout, room: &mut [u8], placed: usize, answer: ListScanned) -> usize {
-    let name = output::put_text(stdout, room, placed, b"\nlist scan");
-    match answer {
-        ListScanned::Ended(counts) => {
-            let ended = output::put_text(stdout, room, name, b" ended,");
-            put_list_counts(stdout, room, ended, counts)
-        }
-        ListScanned::Stopped(counts) => {
-            let stopped = output::put_text(stdout, room, name, b" stopped,");
-            put_list_counts(stdout, room, stopped, counts)
-        }
-        ListScanned::Refused(refusal) => put_refusal(stdout, room, name, refusal),
+fn put_list_halt(output: &mut Output, halt: Halt<list_definitions::Counts>) {
+    let (how, counts) = halted(halt);
+    output.put(format_args!(
+        " {how}, rungs {} moved {} instructions {}",
+        counts.rungs, counts.moved, counts.instructions
+    ));
+}
+
+fn put_variables(output: &mut Output, table: &[u8]) {
+    output.put("\nvariables");
+    for value in table.iter().take(VARS as usize) {
+        output.next(*value);
     }
 }
 
-// The variables of a table.
-fn put_variables(stdout: Stdout, room: &mut [u8], placed: usize, table: &[u8]) -> usize {
-    let name = output::put_text(stdout, room, placed, b"\nvariables");
-    output::put_bytes(stdout, room, name, table, VARS as usize)
+// What Ladder scan answered, and the variables that it left.
+pub fn put_ladder_scan(
+    output: &mut Output,
+    answer: Result<Halt<ladder_definitions::Counts>, Refusal>,
+    table: &[u8],
+) {
+    output.put("\nladder scan");
+    match answer {
+        Ok(halt) => put_ladder_halt(output, halt),
+        Err(refusal) => put_refusal(output, refusal),
+    }
+    put_variables(output, table);
 }
 
-pub fn put_times(stdout: Stdout, room: &mut [u8], placed: usize, times: Times) -> usize {
-    let first = put_count(stdout, room, placed, b"\ntimes", times.first as u64);
-    output::put_next(stdout, room, first, times.last as u64)
+// What List scan answered, and the variables that it left.
+pub fn put_list_scan(
+    output: &mut Output,
+    answer: Result<Halt<list_definitions::Counts>, Refusal>,
+    table: &[u8],
+) {
+    output.put("\nlist scan");
+    match answer {
+        Ok(halt) => put_list_halt(output, halt),
+        Err(refusal) => put_refusal(output, refusal),
+    }
+    put_variables(output, table);
 }
 
 // The numbers of timer records.
-fn put_timers(stdout: Stdout, room: &mut [u8], placed: usize, timers: &[u32]) -> usize {
-    let name = output::put_text(stdout, room, placed, b"\ntimers");
-    output::put_items(stdout, room, name, timers, timers.len())
+pub fn put_timers(output: &mut Output, timers: &[u32]) {
+    output.put("\ntimers");
+    output.items(timers);
 }
 
-// The first `bytes` bytes of the listing.
-fn put_lines(
-    stdout: Stdout,
-    room: &mut [u8],
-    placed: usize,
-    listing: &[u8],
-    bytes: usize,
-) -> usize {
-    if bytes <= listing.len() {
-        return output::put_text(stdout, room, placed, &listing[..bytes]);
-    }
-    placed
-}
-
-pub fn put_listed(
-    stdout: Stdout,
-    room: &mut [u8],
-    placed: usize,
-    answer: Listed,
-    listing: &[u8],
-) -> usize {
-    let name = output::put_text(stdout, room, placed, b"\nlisting");
+// What Listing answered, and the bytes that it wrote.
+pub fn put_listed(output: &mut Output, answer: Result<usize, Refusal>, listing: &[u8]) {
+    output.put("\nlisting");
     match answer {
-        Listed::Written(bytes) => {
-            let counted = put_count(stdout, room, name, b" bytes", bytes as u64);
-            let line = output::put_byte(stdout, room, counted, b'\n');
-            put_lines(stdout, room, line, listing, bytes)
+        Ok(bytes) => {
+            output.put(format_args!(" bytes {bytes}\n"));
+            output.bytes(listing.get(..bytes).unwrap_or(&[]));
         }
-        Listed::Refused(refusal) => {
-            let refused = put_refusal(stdout, room, name, refusal);
-            output::put_byte(stdout, room, refused, b'\n')
+        Err(refusal) => {
+            put_refusal(output, refusal);
+            output.byte(b'\n');
         }
     }
 }
 
-// What Ladder scan answered and left.
-pub fn put_ladder_scan(
-    stdout: Stdout,
-    room: &mut [u8],
-    placed: usize,
-    answer: LadderScanned,
-    table: &[u8],
-) -> usize {
-    let answered = put_ladder(stdout, room, placed, answer);
-    put_variables(stdout, room, answered, table)
-}
-
-// What List scan answered and left.
-pub fn put_list_scan(
-    stdout: Stdout,
-    room: &mut [u8],
-    placed: usize,
-    answer: ListScanned,
-    table: &[u8],
-) -> usize {
-    let answered = put_list(stdout, room, placed, answer);
-    put_variables(stdout, room, answered, table)
-}
-
-// What Read and Translate answered.
-pub fn put_made(
-    stdout: Stdout,
-    room: &mut [u8],
-    placed: usize,
-    read: TextRead,
-    translated: Translated,
-) -> usize {
-    let after_read = put_read(stdout, room, placed, read);
-    put_translated(stdout, room, after_read, translated)
-}
-
-// The times entered of a row and the numbers of timer records that a scan left.
-pub fn put_left(
-    stdout: Stdout,
-    room: &mut [u8],
-    placed: usize,
-    times: Times,
-    timers: &[u32],
-) -> usize {
-    let after_times = put_times(stdout, room, placed, times);
-    put_timers(stdout, room, after_times, timers)
-}
-
-pub fn put_search(
-    stdout: Stdout,
-    room: &mut [u8],
-    placed: usize,
-    label: u32,
-    answer: Search,
-) -> usize {
-    let name = put_count(stdout, room, placed, b"search", label as u64);
-    match answer {
-        Search::Found { place, looked } => {
-            let found = put_count(stdout, room, name, b" place", place as u64);
-            put_count(stdout, room, found, b" looked", looked as u64)
-        }
-        Search::Missing { looked } => put_count(stdout, room, name, b" none looked", looked as u64),
+// What the search for a label told.
+pub fn put_search(output: &mut Output, label: u32, answer: Search) {
+    output.put(format_args!("search {label}"));
+    match answer.place {
+        Some(place) => output.put(format_args!(" place {place} looked {}", answer.looked)),
+        None => output.put(format_args!(" none looked {}", answer.looked)),
     }
 }

@@ -1,11 +1,11 @@
 // Makes one request's call a given number of times, and prints the last answer: the speed of the calls, side by side with C (bench/run).
 #![tactic(auto)]
 
-use test_requests::output;
+use test_requests::input::Input;
+use test_requests::output::Output;
 
 fn main(rt: HostRuntime) {
-    let mut chunk = [0u8; 65536];
-    let mut room = [0u8; 65536];
-    let placed = test_answers::answer_turns(rt.stdin(), &mut chunk, rt.stdout(), &mut room);
-    output::write(rt.stdout(), &room, placed);
+    let mut input = Input::new(rt.stdin());
+    let mut output = Output::new(rt.stdout());
+    test_answers::answer_turns(&mut input, &mut output);
 }

@@ -1,11 +1,11 @@
 // Answers test requests for the six calls and for the search for a label, one a line, until the input ends or a request is bad.
 #![tactic(auto)]
 
-use test_requests::output;
+use test_requests::input::Input;
+use test_requests::output::Output;
 
 fn main(rt: HostRuntime) {
-    let mut chunk = [0u8; 65536];
-    let mut room = [0u8; 65536];
-    let placed = test_answers::answer_all(rt.stdin(), &mut chunk, rt.stdout(), &mut room);
-    output::write(rt.stdout(), &room, placed);
+    let mut input = Input::new(rt.stdin());
+    let mut output = Output::new(rt.stdout());
+    test_answers::answer_all(&mut input, &mut output);
 }

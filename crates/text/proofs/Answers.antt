@@ -6,11 +6,12 @@ use mathlib.Core.Path.{◌≡◌, refl, sym, ap, subst, ◌∙◌}
 use mathlib.Core.Bool.{true, false, ◌&&◌}
 use mathlib.Core.Option.{none, some}
 use mathlib.Core.List.{List, [], ◌∷◌}
+use Rattle.std.specs.Prelude.{Result, Ok, Err}
 use borrow.Author.Tests.{le-leb, lt-leb}
 use lib.Dec.{leb, leb→le}
 use mir.Facts.{and_yes}
-use lib.ListN.{length, take, replicate}
-use lib.Seq.{sets}
+use lib.ListN.{length, take, replicate, length-replicate}
+use lib.Seq.{sets, length-take-le}
 use Rattle.questions.specs.Tests.{all}
 use Rattle.questions.specs.Questions.{Answer, ask, first_no, long_enough, vars_in_range, question1, question2, question13}
 use Rattle.questions.specs.Refusals.{refusal_of}
@@ -20,22 +21,22 @@ use Rattle.rungs.specs.Records.{row_of, most_records, none_entered, lay, longest
 use Rattle.rungs.proofs.Laws.Layout.{lay_length}
 use Rattle.ladder_definitions.specs.Tree.{Ladder}
 use Rattle.ladder_definitions.specs.Kept.{Kept, rung_words, encode, decode}
-use Rattle.ladder_definitions.specs.Questions.{question4, sizes_in_range, question5, question6, question7, question8, question9, ladder_answer, ladder_questions, form_questions}
-use Rattle.ladder_definitions.proofs.Laws.Accepting.{ladder_is}
+use Rattle.ladder_definitions.specs.Questions.{ladder_of, question4, sizes_in_range, question5, question6, question7, question8, question9, ladder_answer, ladder_questions, form_questions}
+use Rattle.ladder_definitions.proofs.Laws.Accepting.{ladder_is, accepted}
+use Rattle.ladder_definitions.proofs.Laws.Held.{even}
+use Rattle.rungs.proofs.Laws.Rows.{Even}
 use Rattle.text_grammar.specs.Reader.{Parse, read, stuck, text_of}
 use Rattle.text_grammar.specs.Questions.{question3}
 use Rattle.text_grammar.proofs.Theorems.{read_exactly, read_whole, scratch_always, decoded_always, kept_always}
-use Rattle.rungs.specs.Buffers.{Buffers, Columns, as_buffers, needs, written, written_over}
-use Rattle.rungs.specs.Parts.{put_all}
-use Rattle.rungs.proofs.Laws.Filling.{taken_out, row_of_new, labels_count, offsets_count, lengths_count}
-use Rattle.text_definitions.specs.Read.{text_ladder, kept_buffers, ReadCall, kept, refused, read_text, ReadDone, text_read_answer}
+use Rattle.rungs.specs.Buffers.{Buffers, buffers, Columns, columns_in, first_columns, as_buffers, columns_of, needs, has_room, written_over}
+use Rattle.rungs.specs.Parts.{put_all, put_over}
+use Rattle.rungs.proofs.Laws.Filling.{taken_out, row_of_new, labels_count, offsets_count, lengths_count, room_needs, over_written}
+use Rattle.text_definitions.specs.Read.{text_ladder, kept_buffers, ReadCall, kept, refused, read_text, TextRead, ReadDone, text_read_answer}
 use Rattle.text_lines.specs.Parts.{sizes_of, lines_parsed, kept_columns, LinesAreKept}
-use Rattle.text.specs.Parts.{fits, hand_over}
-use Rattle.text_definitions.specs.declared.TextRead.{TextRead}
-use Rattle.text_definitions.specs.declared.TextRead.TheVariants.{Kept as KeptCase, Refused as RefusedCase}
+use Rattle.text.specs.Parts.{fits, read_in, hand_over}
+use Rattle.rungs.specs.declared.Slices.{Slices}
 use Rattle.text_lines.specs.declared.Sizes.{Sizes}
-use Rattle.text_lines.specs.declared.LinesParsed.{LinesParsed}
-use Rattle.text_lines.specs.declared.LinesParsed.TheVariants.{Read as LinesReadCase, Stuck as LinesStuckCase}
+use Rattle.text_fronts.specs.declared.part.Stuck.{Stuck}
 
 -- ---- the lent buffers
 
@@ -44,32 +45,37 @@ module _ (vars : ℕ) (new lent : Buffers) where
   kept_of = record { words = new.words; records = row_of new.labels new.offsets new.lengths new.times }
 
   refuses : (refusal : RefusalCase) → first_no (ladder_answer vars kept_of ∷ question13 (needs new lent) ∷ []) ≡ some (refusal_of refusal)
-      → ReadDone (hand_over vars new lent) (RefusedCase refusal) lent
+      → ReadDone (hand_over vars new lent) (Err refusal) lent
   unfolding hand_over text_read_answer
   refuses refusal e = record { answer = rw (e, hand_over); same_buffers = rw (e, hand_over) }
 
-  pub over_refused : (refusal : RefusalCase) → ladder_answer vars kept_of ≡ some (refusal_of refusal) → ReadDone (hand_over vars new lent) (RefusedCase refusal) lent
+  pub over_refused : (refusal : RefusalCase) → ladder_answer vars kept_of ≡ some (refusal_of refusal) → ReadDone (hand_over vars new lent) (Err refusal) lent
   unfolding first_no
   over_refused refusal e = refuses refusal (rw e)
 
-  module _ (ok : ladder_answer vars kept_of ≡ none) where
-    pub over_short : all long_enough (needs new lent) ≡ false → ReadDone (hand_over vars new lent) (RefusedCase BufferCase) lent
+  module _ (ok : ladder_answer vars kept_of ≡ none) (zeros : new.times ≡ replicate (length new.labels) 0) where
+    even_new : Even new.labels new.offsets new.lengths
+    even_new = let a = accepted vars kept_of ok in even new.words new.labels new.offsets new.lengths new.times (ladder_of kept_of) a.0 a.1.some_rung
+
+    needs_room : all long_enough (needs new lent) ≡ has_room lent (length new.words) (length new.labels)
+    needs_room =
+        let e = even_new in
+        room_needs new lent _ _ refl refl (sym e.first) (sym (e.first ∙ e.second)) (ap length zeros ∙ length-replicate (length new.labels) 0)
+
+    pub over_short : has_room lent (length new.words) (length new.labels) ≡ false → ReadDone (hand_over vars new lent) (Err BufferCase) lent
     unfolding first_no question13 ask refusal_of
-    over_short e = refuses BufferCase (rw (ok, e))
+    over_short e = refuses BufferCase (rw (ok, needs_room, e))
 
-    asked : all long_enough (needs new lent) ≡ true → first_no (ladder_answer vars kept_of ∷ question13 (needs new lent) ∷ []) ≡ none
-    unfolding first_no question13 ask
-    asked e = rw (ok, e) refl
-
-    pub over_kept : all long_enough (needs new lent) ≡ true → (after : Buffers) → after.words ≡ written new.words lent.words
-        → after.labels ≡ written new.labels lent.labels → after.offsets ≡ written new.offsets lent.offsets
-        → after.lengths ≡ written new.lengths lent.lengths → after.times ≡ written new.times lent.times
-        → ReadDone (hand_over vars new lent) (KeptCase (record { words = length new.words; rungs = length new.labels })) after
-    unfolding hand_over text_read_answer written_over
-    over_kept e after ew el eo en et =
+    pub over_kept : has_room lent (length new.words) (length new.labels) ≡ true → (after : Buffers) → after ≡ put_over (columns_of new) lent
+        → ReadDone (hand_over vars new lent) (Ok (record { words = length new.words; rungs = length new.labels })) after
+    unfolding hand_over text_read_answer first_no question13 ask
+    over_kept room after put =
+        let e = even_new in
+        let asked : first_no (ladder_answer vars kept_of ∷ question13 (needs new lent) ∷ []) ≡ none = rw (ok, needs_room, room) refl in
         record {
-          answer = rw (asked e, hand_over);
-          same_buffers = rw (asked e, hand_over) (λ i. record { words = ew i; labels = el i; offsets = eo i; lengths = en i; times = et i });
+          answer = rw (asked, hand_over);
+          same_buffers = rw (asked, hand_over)
+              (over_written new lent _ _ refl refl (sym e.first) (sym (e.first ∙ e.second)) (ap length zeros ∙ length-replicate (length new.labels) 0) room zeros after put);
         }
 
 -- ---- question 5
@@ -84,26 +90,13 @@ both_within a b most = go (dec_le a most) (dec_le b most)
     go (no p) d = rw (lt-leb a most (omega arith)) (lt-leb (max a b) most (omega arith))
 
 longest_within : (most start : ℕ) (gs : Ladder) → leb (longest (lay (λ g. g.label) (λ g. length (rung_words g)) start gs)) most ≡ all (λ g. leb (length (rung_words g)) most) gs
-unfolding longest lay all
+unfolding longest lay
 longest_within most start [] = le-leb 0 most (omega arith)
 longest_within most start (g ∷ gs) = both_within (length (rung_words g)) _ most ∙ rw (longest_within most (start + length (rung_words g)) gs) refl
 
 pub fits_sizes : (gs : Ladder) → fits (sizes_of gs) ≡ sizes_in_range gs
 unfolding fits sizes_of sizes_in_range encode
 fits_sizes gs = rw (longest_within 128 0 gs) refl
-
-module _ (z : Sizes) where
-  pub many_rungs : 256 < z.rungs → false ≡ fits z
-  unfolding fits
-  many_rungs h = rw (lt-leb _ _ h) refl
-
-  pub long_rung : z.rungs ≤ 256 → 128 < z.longest → false ≡ fits z
-  unfolding fits
-  long_rung r h = rw (le-leb _ _ r, lt-leb _ _ h) refl
-
-  pub by_words : z.rungs ≤ 256 → z.longest ≤ 128 → leb z.words 8192 ≡ fits z
-  unfolding fits
-  by_words r h = rw (le-leb _ _ r, le-leb _ _ h) refl
 
 -- ---- the questions in order
 
@@ -121,16 +114,16 @@ module _ (vars : ℕ) (text : List ℕ) (lent : Buffers) where
       question1 vars ∷ question2 (length text) ∷ question3 text ∷ question5 gs ∷ question6 vars gs ∷ question7 gs ∷ question8 gs
       ∷ question13 (needs (kept_buffers gs) lent) ∷ []
 
-  read_refuses : (refusal : RefusalCase) → first_no (questions (text_ladder text)) ≡ some (refusal_of refusal) → ReadDone (read_text vars text lent) (RefusedCase refusal) lent
+  read_refuses : (refusal : RefusalCase) → first_no (questions (text_ladder text)) ≡ some (refusal_of refusal) → ReadDone (read_text vars text lent) (Err refusal) lent
   unfolding read_text text_read_answer
   read_refuses refusal e = record { answer = rw (e, read_text); same_buffers = rw (e, read_text) }
 
-  pub read_refused_1 : vars_in_range vars ≡ false → ReadDone (read_text vars text lent) (RefusedCase Variables) lent
+  pub read_refused_1 : vars_in_range vars ≡ false → ReadDone (read_text vars text lent) (Err Variables) lent
   unfolding first_no question1 ask refusal_of
   read_refused_1 e = read_refuses Variables (rw e)
 
   module _ (yes1 : vars_in_range vars ≡ true) where
-    pub read_refused_2 : (leb 1 (length text) && leb (length text) 65535) ≡ false → ReadDone (read_text vars text lent) (RefusedCase TextLength) lent
+    pub read_refused_2 : (leb 1 (length text) && leb (length text) 65535) ≡ false → ReadDone (read_text vars text lent) (Err TextLength) lent
     unfolding first_no question1 question2 ask refusal_of
     read_refused_2 e = read_refuses TextLength (rw (yes1, e))
 
@@ -139,7 +132,7 @@ module _ (vars : ℕ) (text : List ℕ) (lent : Buffers) where
       unfolding question3 refusal_of
       no3 p e = rw (e, question3)
 
-      pub read_refused_3 : (p : ℕ) → text_of text ≡ stuck p → ReadDone (read_text vars text lent) (RefusedCase (Text p)) lent
+      pub read_refused_3 : (p : ℕ) → text_of text ≡ stuck p → ReadDone (read_text vars text lent) (Err (Text p)) lent
       unfolding first_no question1 question2 ask
       read_refused_3 p e = read_refuses (Text p) (rw (yes1, yes2, no3 p e))
 
@@ -152,7 +145,7 @@ module _ (vars : ℕ) (text : List ℕ) (lent : Buffers) where
         unfolding question3
         yes3 = rw (e, question3)
 
-        pub read_refused_5 : sizes_in_range gs ≡ false → ReadDone (read_text vars text lent) (RefusedCase SizesRefused) lent
+        pub read_refused_5 : sizes_in_range gs ≡ false → ReadDone (read_text vars text lent) (Err SizesRefused) lent
         unfolding first_no question1 question2 question5 ask refusal_of
         read_refused_5 s = read_refuses SizesRefused (rw (ladder_of_lem, yes1, yes2, yes3, s))
 
@@ -194,18 +187,18 @@ module _ (vars : ℕ) (text : List ℕ) (lent : Buffers) where
 
 -- ---- from the lines to the questions
 
-module _ (p : Parse Ladder) (r : LinesParsed) (b a : Columns) (k : LinesAreKept p r b a) where
-  pub lines_stuck : (x : ℕ) → r ≡ LinesStuckCase x → p ≡ stuck x
+module _ (p : Parse Ladder) (r : Result Sizes Stuck) (b a : Columns) (k : LinesAreKept p r b a) where
+  pub lines_stuck : (x : Stuck) → r ≡ Err x → p ≡ stuck x.place
   lines_stuck x e = go p (sym e ∙ k.same)
     where
-      go : (q : Parse Ladder) → LinesStuckCase x ≡ lines_parsed q → q ≡ stuck x
+      go : (q : Parse Ladder) → Err x ≡ lines_parsed q → q ≡ stuck x.place
       go (read n gs) h = let z : ◌≡◌ {A = ℕ} 0 1 = cc in absurd (omega arith)
       go (stuck y) h = cc
 
-  pub lines_read : (z : Sizes) → r ≡ LinesReadCase z → (n : ℕ) × (gs : Ladder) × (p ≡ read n gs) × (z ≡ sizes_of gs)
+  pub lines_read : (z : Sizes) → r ≡ Ok z → (n : ℕ) × (gs : Ladder) × (p ≡ read n gs) × (z ≡ sizes_of gs)
   lines_read z e = go p (sym e ∙ k.same)
     where
-      go : (q : Parse Ladder) → LinesReadCase z ≡ lines_parsed q → (n : ℕ) × (gs : Ladder) × (q ≡ read n gs) × (z ≡ sizes_of gs)
+      go : (q : Parse Ladder) → Ok z ≡ lines_parsed q → (n : ℕ) × (gs : Ladder) × (q ≡ read n gs) × (z ≡ sizes_of gs)
       go (read n gs) h = (n, gs, refl, cc)
       go (stuck y) h = let z : ◌≡◌ {A = ℕ} 0 1 = cc in absurd (omega arith)
 
@@ -240,6 +233,19 @@ first_of z a =
       times = take z.rungs (replicate most_records 0);
     }
 
+zeros_first : (n most : ℕ) → n ≤ most → take n (none_entered most) ≡ none_entered n
+zeros_first zero most h = refl
+zeros_first (suc n) zero h = absurd (omega arith)
+zeros_first (suc n) (suc most) h = ap (λ (l : List ℕ). 0 ∷ l) (zeros_first n most (omega arith))
+
+-- as they are lent
+module _ (z : Sizes) (a : Columns) (s : Slices) (e : columns_in s ≡ first_columns z.words z.rungs a) where
+  first_read : read_in s (take z.rungs (replicate most_records 0)) ≡ first_of z a
+  first_read = ap (λ k. buffers k.words k.labels k.offsets k.lengths (take z.rungs (replicate most_records 0))) e
+
+  pub first_zeros : z.rungs ≤ length a.labels → z.rungs ≤ most_records → take {A = ℕ} z.rungs (replicate most_records 0) ≡ replicate (length s.labels.now) 0
+  first_zeros h k = zeros_first z.rungs most_records k ∙ ap none_entered (sym (ap (λ c. length c.labels) e ∙ length-take-le z.rungs a.labels h))
+
 module _ (gs : Ladder) (b a : Columns) (room : Room (sizes_of gs)) (zeroed : Zeroed b) (e : a ≡ put_all b (kept_columns gs)) where
   abbrev new : Buffers
   new = kept_buffers gs
@@ -250,11 +256,6 @@ module _ (gs : Ladder) (b a : Columns) (room : Room (sizes_of gs)) (zeroed : Zer
 
   first_is : (n : ℕ) (xs out out' : List ℕ) → n ≡ length xs → n ≤ length out → out' ≡ sets out 0 xs → take n out' ≡ xs
   first_is n xs out out' q h s = rw q (taken_out xs out out' (omega arith) s)
-
-  zeros_first : (n most : ℕ) → n ≤ most → take n (none_entered most) ≡ none_entered n
-  zeros_first zero most h = refl
-  zeros_first (suc n) zero h = absurd (omega arith)
-  zeros_first (suc n) (suc most) h = ap (λ (l : List ℕ). 0 ∷ l) (zeros_first n most (omega arith))
 
   pub first_kept : first_of (sizes_of gs) a ≡ kept_buffers gs
   unfolding sizes_of put_all as_buffers
@@ -268,24 +269,25 @@ module _ (gs : Ladder) (b a : Columns) (room : Room (sizes_of gs)) (zeroed : Zer
       }
 
 module _ (vars : ℕ) (text : List ℕ) (lent : Buffers) (yes1 : vars_in_range vars ≡ true) (yes2 : (leb 1 (length text) && leb (length text) 65535) ≡ true)
-    (r : LinesParsed) (b a : Columns) (k : LinesAreKept (text_of text) r b a) where
-  pub read_stuck : (x : ℕ) → r ≡ LinesStuckCase x → ReadDone (read_text vars text lent) (RefusedCase (Text x)) lent
-  read_stuck x e = read_refused_3 vars text lent yes1 yes2 x (lines_stuck (text_of text) r b a k x e)
+    (r : Result Sizes Stuck) (b a : Columns) (k : LinesAreKept (text_of text) r b a) where
+  pub read_stuck : (x : Stuck) → r ≡ Err x → ReadDone (read_text vars text lent) (Err (Text x.place)) lent
+  read_stuck x e = read_refused_3 vars text lent yes1 yes2 x.place (lines_stuck (text_of text) r b a k x e)
 
-  module _ (z : Sizes) (e : r ≡ LinesReadCase z) where
-    pub read_too_large : fits z ≡ false → ReadDone (read_text vars text lent) (RefusedCase SizesRefused) lent
+  module _ (z : Sizes) (e : r ≡ Ok z) where
+    pub read_too_large : fits z ≡ false → ReadDone (read_text vars text lent) (Err SizesRefused) lent
     read_too_large f =
         let h = lines_read (text_of text) r b a k z e in
         read_refused_5 vars text lent yes1 yes2 h.0 h.1 h.2 (sym (fits_sizes h.1) ∙ sym (ap fits h.3) ∙ f)
 
-    pub read_done : fits z ≡ true → Zeroed b → (x : TextRead) (after : Buffers) → ReadDone (hand_over vars (first_of z a) lent) x after → ReadDone (read_text vars text lent) x after
-    read_done f zeroed x after d =
+    pub read_done : fits z ≡ true → Zeroed b → (new : Slices) → columns_in new ≡ first_columns z.words z.rungs a → (x : TextRead) (after : Buffers)
+        → ReadDone (hand_over vars (read_in new (take {A = ℕ} z.rungs (replicate most_records 0))) lent) x after → ReadDone (read_text vars text lent) x after
+    read_done f zeroed new lent_first x after d =
         let h = lines_read (text_of text) r b a k z e in
         let gs = h.1 in
         let t = (read_exactly text gs).0 (h.2 ∙ ap (λ n. read n gs) (read_whole text h.0 gs h.2)) in
         let room : Room (sizes_of gs) = fits_room (sizes_of gs) (sym (ap fits h.3) ∙ f) in
         let first : first_of z a ≡ kept_buffers gs = ap (λ y. first_of y a) h.3 ∙ first_kept gs b a room zeroed (k.out h.0 gs h.2 room.longest) in
-        let same = ap (λ y. hand_over vars y lent) first
+        let same = ap (λ y. hand_over vars y lent) (first_read z a new lent_first ∙ first)
         ∙ same_call vars text lent yes1 yes2 h.0 gs h.2 (sym (fits_sizes gs) ∙ sym (ap fits h.3) ∙ f) (decoded_always t) (kept_always t) (scratch_always t) in
         subst (λ c. ReadDone c x after) same d
 

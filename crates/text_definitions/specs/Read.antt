@@ -1,16 +1,16 @@
 -- The call Read: its answer and the lent buffers afterwards, for all inputs. Document 01, "Text", "Questions before work". Assumes nothing.
-use Rattle.std.specs.Prelude.{ℕ, ◌≡◌, List, [], ◌∷◌, length}
+use Rattle.std.specs.Prelude.{ℕ, ◌≡◌, List, [], ◌∷◌, length, Result, Ok, Err}
 use Rattle.std.proofs.Math.Option.{none, some}
 use Rattle.questions.specs.Questions.{Refusal, first_no, question1, question2, question13}
 use Rattle.questions.specs.Refusals.{refusal_of}
+use Rattle.questions.specs.declared.Refusal.{Refusal as RefusalCase}
 use Rattle.rungs.specs.Buffers.{Buffers, new_buffers, needs, written_over, written_words, written_records}
 use Rattle.ladder_definitions.specs.Tree.{Ladder}
 use Rattle.ladder_definitions.specs.Kept.{Kept, encode}
 use Rattle.ladder_definitions.specs.Questions.{question5, question6, question7, question8}
 use Rattle.text_grammar.specs.Reader.{read, stuck, text_of}
 use Rattle.text_grammar.specs.Questions.{question3}
-use Rattle.text_definitions.specs.declared.TextRead.{TextRead}
-use Rattle.text_definitions.specs.declared.TextRead.TheVariants.{Kept as KeptCase, Refused as RefusedCase}
+use Rattle.text_definitions.specs.declared.Counts.{Counts}
 
 -- the ladder of a text; no rung where the text is not in the grammar
 unfoldable pub text_ladder : List ℕ → Ladder
@@ -43,10 +43,14 @@ read_text vars text lent =
 unfoldable pub written_kept : Buffers → ℕ → ℕ → Kept
 written_kept b words rungs = record { words = written_words b words; records = written_records b rungs }
 
--- document 01's values for each case of the enum TextRead
+-- what read answers
+abbrev pub TextRead : Type 0
+TextRead = Result Counts RefusalCase
+
+-- document 01's values for each case of it
 unfoldable pub text_read_answer : TextRead → ReadAnswer
-text_read_answer (KeptCase c) = kept c.words c.rungs
-text_read_answer (RefusedCase refusal) = refused (refusal_of refusal)
+text_read_answer (Ok c) = kept c.words c.rungs
+text_read_answer (Err refusal) = refused (refusal_of refusal)
 
 -- the promise of read: answer and buffers are those of the definition
 pub record ReadDone (call : ReadCall) (r : TextRead) (lent : Buffers) : Type 0 where

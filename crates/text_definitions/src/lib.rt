@@ -1,18 +1,9 @@
-// What Read answers. Its definition stands in specs/; nothing here has a body.
+// The counts of Read, which answers Result<Counts, questions::Refusal>. Its definition stands in specs/; nothing here has a body.
 #![tactic(auto)]
 
-use questions::Refusal;
-
 // The words and rungs of a ladder.
-#[derive(Clone, Copy)]
+#[derive(Clone, Copy, PartialEq, Eq)]
 pub struct Counts {
     pub words: usize,
     pub rungs: usize,
-}
-
-// The answer of Read.
-#[derive(Clone, Copy)]
-pub enum TextRead {
-    Kept(Counts),
-    Refused(Refusal),
 }

@@ -11,7 +11,9 @@ use Rattle.ladder_definitions.specs.Kept.{front_words}
 use Rattle.text_grammar.specs.Reader.{Parse, read, stuck, map_p, chain}
 use Rattle.text_grammar.proofs.Laws.Spans.{inside}
 use Rattle.text_fronts.specs.Parts.{Inserted, PartRead}
-use Rattle.text_fronts.specs.declared.part.Parsed.TheVariants.{Read, Stuck}
+use Rattle.std.specs.Prelude.{Ok, Err}
+use Rattle.text_fronts.specs.declared.part.Parsed.{Parsed}
+use Rattle.text_fronts.specs.declared.part.Stuck.{Stuck}
 use Rattle.questions.proofs.Laws.Stores.{sets_append}
 use Rattle.text_fronts.proofs.Sets.{sets_over, before}
 use Rattle.text_fronts.proofs.Parts.{read_of, stuck_of, part_stuck, part_read}
@@ -49,10 +51,10 @@ again : (e x : List ℕ) (put : ℕ) (ws : List ℕ) → x ≡ sets e put ws →
 again e x put ws i h = i ∙ sym (ap (λ (l : List ℕ). sets l put ws) i ∙ sets_over e put ws ws (omega arith) h)
 
 module _ (item : ℕ → Parse Front) (sep : ℕ) (op : Front → Front → Front) (s : List ℕ) where
-  pub chain_start : (whole : Parse Front) (at put : ℕ) (e x : List ℕ) (n w : ℕ) → whole ≡ chain item sep op s (length s) (item at) → length x ≡ length e
-      → PartRead front_words (item at) s at (Read n w) put e x → Writing item sep op s whole at put x x w n w
-  chain_start whole at put e x n w q l h =
-      let r = read_of front_words (item at) n w h.same in
+  pub chain_start : (whole : Parse Front) (at put : ℕ) (e x : List ℕ) (v : Parsed) → whole ≡ chain item sep op s (length s) (item at) → length x ≡ length e
+      → PartRead front_words (item at) s at (Ok v) put e x → Writing item sep op s whole at put x x v.count v.next v.count
+  chain_start whole at put e x v q l h =
+      let r = read_of front_words (item at) v h.same in
       record {
         left = length s;
         tree = r.0;
@@ -65,7 +67,7 @@ module _ (item : ℕ → Parse Front) (sep : ℕ) (op : Front → Front → Fron
         long = refl;
         grown = omega arith;
         out = λ b.
-            let i = h.out n r.0 r.1 (omega (arith, r.2)) in
+            let i = h.out v.next r.0 r.1 (omega (arith, r.2)) in
             again e x put (front_words r.0) i (omega (arith, r.2));
       }
 
@@ -74,10 +76,10 @@ module _ (item : ℕ → Parse Front) (sep : ℕ) (op : Front → Front → Fron
   stuck_all zero p = refl
   stuck_all (suc k) p = refl
 
-  pub first_stuck : (whole : Parse Front) (at put : ℕ) (e x y : List ℕ) (p : ℕ) → whole ≡ chain item sep op s (length s) (item at)
-      → PartRead front_words (item at) s at (Stuck p) put e x → PartRead front_words whole s at (Stuck p) put e y
+  pub first_stuck : (whole : Parse Front) (at put : ℕ) (e x y : List ℕ) (p : Stuck) → whole ≡ chain item sep op s (length s) (item at)
+      → PartRead front_words (item at) s at (Err p) put e x → PartRead front_words whole s at (Err p) put e y
   first_stuck whole at put e x y p q h =
-      part_stuck front_words whole s at p put e y (rw (q, stuck_of front_words (item at) p h.same) (stuck_all (length s) p))
+      part_stuck front_words whole s at p put e y (rw (q, stuck_of front_words (item at) p h.same) (stuck_all (length s) p.place))
 
   -- at the byte b after what is read so far
   module _ (pos : 0 < sep) (whole : Parse Front) (at put : ℕ) (e x : List ℕ) (w₀ n w : ℕ)
@@ -88,14 +90,15 @@ module _ (item : ℕ → Parse Front) (sep : ℕ) (op : Front → Front → Fron
     turned zero i g c p q = absurd (omega arith)
     turned (suc k) i g c p q = (k, omega arith, rw (← eb, eq-eqb _ _ c, q) refl)
 
-    pub chain_more : b ≡ sep → (put' : ℕ) → put' ≡ put + w → (m v : ℕ) (y z : List ℕ)
-        → PartRead front_words (item (n + 1)) s (n + 1) (Read m v) put' x y → length y ≡ length x
-        → (root : ℕ) → Rooted op root → Inserted y put (w + v) root z → length z ≡ length y → Writing item sep op s whole at put e z w₀ m (w + v + 1)
+    pub chain_more : b ≡ sep → (put' : ℕ) → put' ≡ put + w → (v : Parsed) (y z : List ℕ)
+        → PartRead front_words (item (n + 1)) s (n + 1) (Ok v) put' x y → length y ≡ length x
+        → (root : ℕ) → Rooted op root → Inserted y put (w + v.count) root z → length z ≡ length y
+        → (k : ℕ) → k ≡ w + v.count + 1 → Writing item sep op s whole at put e z w₀ v.next k
     unfolding map_p
-    chain_more c put' ep m v y z f ly root law i lz =
-        let r = read_of front_words (item (n + 1)) m v f.same in
-        let t = turned h.left (inside s n (omega arith)) h.enough c (read m r.0) r.1 in
-        let k : length (front_words h.tree ++ front_words r.0) ≡ w + v = length-append (front_words h.tree) (front_words r.0) ∙ omega (arith, h.count, r.2) in
+    chain_more c put' ep v y z f ly root law i lz l ek =
+        let r = read_of front_words (item (n + 1)) v f.same in
+        let t = turned h.left (inside s n (omega arith)) h.enough c (read v.next r.0) r.1 in
+        let k : length (front_words h.tree ++ front_words r.0) ≡ w + v.count = length-append (front_words h.tree) (front_words r.0) ∙ omega (arith, h.count, r.2) in
         record {
           left = t.0;
           tree = op h.tree r.0;
@@ -108,19 +111,19 @@ module _ (item : ℕ → Parse Front) (sep : ℕ) (op : Front → Front → Fron
           long = lz ∙ ly ∙ h.long;
           grown = omega (arith, h.grown);
           out = λ g.
-              before e put (front_words h.tree ++ front_words r.0) root (w + v) y z (sym k) (omega arith)
-              (f.out m r.0 r.1 (omega (arith, h.long, r.2, ep))
+              before e put (front_words h.tree ++ front_words r.0) root (w + v.count) y z (sym k) (omega arith)
+              (f.out v.next r.0 r.1 (omega (arith, h.long, r.2, ep))
               ∙ rw (h.out (omega arith), ep, ← h.count) (sym (sets_append e put (front_words h.tree) (front_words r.0))))
               i
               ∙ ap (sets e put) (sym (law h.tree r.0));
         }
 
-    pub chain_stuck : b ≡ sep → (put' : ℕ) (y f₀ z : List ℕ) (p : ℕ) → PartRead front_words (item (n + 1)) s (n + 1) (Stuck p) put' x y
-        → PartRead front_words whole s at (Stuck p) put f₀ z
+    pub chain_stuck : b ≡ sep → (put' : ℕ) (y f₀ z : List ℕ) (p : Stuck) → PartRead front_words (item (n + 1)) s (n + 1) (Err p) put' x y
+        → PartRead front_words whole s at (Err p) put f₀ z
     unfolding map_p
     chain_stuck c put' y f₀ z p f =
-        let t = turned h.left (inside s n (omega arith)) h.enough c (stuck p) (stuck_of front_words (item (n + 1)) p f.same) in
-        part_stuck front_words whole s at p put f₀ z (sym h.same ∙ t.2 ∙ stuck_all t.0 p)
+        let t = turned h.left (inside s n (omega arith)) h.enough c (stuck p.place) (stuck_of front_words (item (n + 1)) p f.same) in
+        part_stuck front_words whole s at p put f₀ z (sym h.same ∙ t.2 ∙ stuck_all t.0 p.place)
 
     ended : (k : ℕ) → (b ≡ sep → ⊥) → chain item sep op s k (read n h.tree) ≡ read n h.tree
     unfolding chain
@@ -128,12 +131,12 @@ module _ (item : ℕ → Parse Front) (sep : ℕ) (op : Front → Front → Fron
     ended (suc k) c = rw (← eb, ne_eqb _ _ c) refl
 
     -- f₀ is the row before the first part was written
-    pub chain_end : (b ≡ sep → ⊥) → (f₀ : List ℕ) (n₀ : ℕ) → length e ≡ length f₀ → PartRead front_words (item at) s at (Read n₀ w₀) put f₀ e
-        → PartRead front_words whole s at (Read n w) put f₀ x
-    chain_end c f₀ n₀ l g =
-        let r = read_of front_words (item at) n₀ w₀ g.same in
-        part_read front_words whole s at n h.tree w put f₀ x (sym h.same ∙ ended h.left c) h.count h.past h.within h.few
+    pub chain_end : (b ≡ sep → ⊥) → (f₀ : List ℕ) (v : Parsed) → length e ≡ length f₀ → v.count ≡ w₀ → PartRead front_words (item at) s at (Ok v) put f₀ e
+        → PartRead front_words whole s at (Ok (record { next = n; count = w })) put f₀ x
+    chain_end c f₀ v l q g =
+        let r = read_of front_words (item at) v g.same in
+        part_read front_words whole s at (record { next = n; count = w }) h.tree put f₀ x (sym h.same ∙ ended h.left c) h.count h.past h.within h.few
         (λ k.
         h.out (omega (arith, h.count, l))
-        ∙ rw (g.out n₀ r.0 r.1 (omega (arith, r.2, h.grown, h.count)))
+        ∙ rw (g.out v.next r.0 r.1 (omega (arith, r.2, h.grown, h.count)))
         (sets_over f₀ put (front_words r.0) (front_words h.tree) (omega (arith, r.2, h.grown, h.count)) k))

@@ -1,31 +1,35 @@
 -- Laws of a part that is read, over whatever tree it is and whatever words it makes. Assumes nothing.
 use mathlib.Core.Path.{◌≡◌, refl, sym, ap, subst, ◌∙◌}
 use mathlib.Core.List.{List}
-use Prim.Native.Nat.{ℕ, ◌+◌, ◌*◌, ◌≤◌, ◌<◌}
+use Prim.Native.Nat.{ℕ, ◌+◌, ◌≤◌, ◌<◌}
 use native.Mathlib.Omega.{arith}
 use borrow.Author.Tests.{eq-eqb, ne_eqb}
-use lib.ListN.{length, get_or, set}
+use lib.ListN.{length, set}
 use lib.Seq.{sets}
+use Rattle.std.specs.Prelude.{Some, None, Result, Ok, Err, IsErr, IsErrAnd}
 use Rattle.rungs.specs.Words.{word}
 use Rattle.text_grammar.specs.Reader.{Parse, read, stuck, map_p, followed}
 use Rattle.text_grammar.specs.Numbers.{NumberRead}
 use Rattle.text_grammar.specs.declared.Numeral.{Numeral}
-use Rattle.text_grammar.specs.declared.Numeral.TheVariants.{Value, Missing}
-use Rattle.text_grammar.proofs.Laws.Spans.{inside}
 use Rattle.text_grammar.proofs.Laws.Parses.{same_tree, not_both}
-use Rattle.text_fronts.specs.Parts.{parsed_of, PartRead, one_word, leaf_of}
+use Rattle.text_fronts.specs.Parts.{parsed_of, PartRead, ByteRead, one_word, leaf_of}
 use Rattle.text_fronts.specs.declared.part.Parsed.{Parsed}
-use Rattle.text_fronts.specs.declared.part.Parsed.TheVariants.{Read, Stuck}
+use Rattle.text_fronts.specs.declared.part.Stuck.{Stuck}
 
--- a part and the byte x after it
+-- what a `?` passes on is the error that it met
+pub error_is : {A E : Type 0} {e : E} (r : Result A E) → IsErr r × IsErrAnd r (λ x. x ≡ e) → r ≡ Err e
+error_is (Ok a) h = absurd h.1
+error_is (Err x) h = ap Err h.1
+
+-- a part and the byte b after it
 module _ {A : Type 0} (s : List ℕ) (b : ℕ) (p : Parse A) where
-  pub followed_read : (n x : ℕ) (t : A) → p ≡ read n t → x ≡ get_or s n 0 → x ≡ b → followed s b p ≡ read (n + 1) t
+  pub followed_read : (n m : ℕ) (t : A) → p ≡ read n t → ByteRead s n b (Ok m) → followed s b p ≡ read m t
   unfolding followed
-  followed_read n x t r q h = rw (r, ← q, eq-eqb _ _ h) refl
+  followed_read n m t r q = rw (r, q.0, eq-eqb _ _ q.1) refl
 
-  pub followed_short : (n x : ℕ) (t : A) → p ≡ read n t → x ≡ get_or s n 0 → (x ≡ b → ⊥) → followed s b p ≡ stuck n
+  pub followed_short : (n : ℕ) (x : Stuck) (t : A) → p ≡ read n t → ByteRead s n b (Err x) → followed s b p ≡ stuck x.place
   unfolding followed
-  followed_short n x t r q h = rw (r, ← q, ne_eqb _ _ h) refl
+  followed_short n x t r q = rw (r, q.0, ne_eqb _ _ q.1) refl
 
   pub followed_stuck : (x : ℕ) → p ≡ stuck x → followed s b p ≡ stuck x
   unfolding followed
@@ -33,27 +37,24 @@ module _ {A : Type 0} (s : List ℕ) (b : ℕ) (p : Parse A) where
 
 module _ {A : Type 0} (words : A → List ℕ) where
   -- what the reader gave, by the code's answer
-  pub read_of : (p : Parse A) (n w : ℕ) → Read n w ≡ parsed_of words p → (t : A) × (p ≡ read n t) × (length (words t) ≡ w)
-  read_of (read m t) n w e = (t, cc, cc)
-  read_of (stuck p) n w e = let z : ◌≡◌ {A = ℕ} 0 1 = cc in absurd (omega arith)
+  pub read_of : (p : Parse A) (r : Parsed) → Ok r ≡ parsed_of words p → (t : A) × (p ≡ read r.next t) × (length (words t) ≡ r.count)
+  read_of (read m t) r e = let q : r ≡ record { next = m; count = length (words t) } = cc in (t, rw q refl, rw q refl)
+  read_of (stuck p) r e = let z : ◌≡◌ {A = ℕ} 0 1 = cc in absurd (omega arith)
 
-  pub stuck_of : (p : Parse A) (x : ℕ) → Stuck x ≡ parsed_of words p → p ≡ stuck x
+  pub stuck_of : (p : Parse A) (x : Stuck) → Err x ≡ parsed_of words p → p ≡ stuck x.place
   stuck_of (read m t) x e = let z : ◌≡◌ {A = ℕ} 0 1 = cc in absurd (omega arith)
-  stuck_of (stuck p) x e = cc
+  stuck_of (stuck p) x e = let q : x ≡ record { place = p } = cc in rw q refl
 
   module _ (p : Parse A) (s : List ℕ) (at : ℕ) where
-    -- what holds of an answer holds of what the answer is found to be
-    pub found : (r q : Parsed) (put : ℕ) (e x : List ℕ) → PartRead words p s at r put e x → r ≡ q → PartRead words p s at q put e x
-    found r q put e x f h = subst (λ (a : Parsed). PartRead words p s at a put e x) h f
-
     -- a part that is stuck says nothing of the words
-    pub part_stuck : (x put : ℕ) (e y : List ℕ) → p ≡ stuck x → PartRead words p s at (Stuck x) put e y
-    part_stuck x put e y q = record { same = rw q refl; within = tt; out = λ n t b h. absurd (not_both p x n t q b) }
+    pub part_stuck : (x : Stuck) (put : ℕ) (e y : List ℕ) → p ≡ stuck x.place → PartRead words p s at (Err x) put e y
+    part_stuck x put e y q = record { same = rw q refl; within = tt; out = λ n t b h. absurd (not_both p x.place n t q b) }
 
     -- a part that is read as a known tree
-    pub part_read : (n : ℕ) (t : A) (w put : ℕ) (e x : List ℕ) → p ≡ read n t → length (words t) ≡ w → at < n → n ≤ length s → w + at ≤ n
-        → (put + length (words t) ≤ length e → x ≡ sets e put (words t)) → PartRead words p s at (Read n w) put e x
-    part_read n t w put e x q c past within few h =
+    pub part_read : (r : Parsed) (t : A) (put : ℕ) (e x : List ℕ) → p ≡ read r.next t → length (words t) ≡ r.count
+        → at < r.next → r.next ≤ length s → r.count + at ≤ r.next
+        → (put + length (words t) ≤ length e → x ≡ sets e put (words t)) → PartRead words p s at (Ok r) put e x
+    part_read r t put e x q c past within few h =
         record {
           same = rw (q, c) refl;
           within = (past, within, few);
@@ -61,36 +62,38 @@ module _ {A : Type 0} (words : A → List ℕ) where
         }
 
   -- the same part under another name
-  pub renamed : (p q : Parse A) (s : List ℕ) (at : ℕ) (r : Parsed) (put : ℕ) (e x : List ℕ) → p ≡ q → PartRead words p s at r put e x → PartRead words q s at r put e x
+  pub renamed : (p q : Parse A) (s : List ℕ) (at : ℕ) (r : Result Parsed Stuck) (put : ℕ) (e x : List ℕ) → p ≡ q → PartRead words p s at r put e x
+      → PartRead words q s at r put e x
   renamed p q s at r put e x h f = subst (λ (a : Parse A). PartRead words a s at r put e x) h f
 
   -- a part, and then the byte b, which closes a bracket or ends a line
-  module _ (p : Parse A) (s : List ℕ) (from at b : ℕ) (pos : 0 < b) (less : at ≤ from) where
-    pub closed : (n w x put : ℕ) (e y : List ℕ) → PartRead words p s from (Read n w) put e y → x ≡ get_or s n 0 → x ≡ b
-        → PartRead words (followed s b p) s at (Read (n + 1) w) put e y
-    closed n w x put e y f q h =
-        let r = read_of p n w f.same in
-        let i = inside s n (omega arith) in
-        part_read (followed s b p) s at (n + 1) r.0 w put e y (followed_read s b p n x r.0 r.1 q h) r.2
-        (omega (arith, f.within.0)) (omega arith) (omega (arith, f.within.2)) (f.out n r.0 r.1)
+  module _ (p : Parse A) (s : List ℕ) (from at b : ℕ) (less : at ≤ from) where
+    pub closed : (r : Parsed) (m put : ℕ) (e y : List ℕ) → PartRead words p s from (Ok r) put e y → ByteRead s r.next b (Ok m)
+        → PartRead words (followed s b p) s at (Ok (record { next = m; count = r.count })) put e y
+    closed r m put e y f q =
+        let t = read_of p r f.same in
+        let n = q.0 in
+        let i = q.2 in
+        part_read (followed s b p) s at (record { next = m; count = r.count }) t.0 put e y (followed_read s b p r.next m t.0 t.1 q) t.2
+        (omega (arith, f.within.0)) (omega arith) (omega (arith, f.within.2)) (f.out r.next t.0 t.1)
 
-    pub not_closed : (n w x put : ℕ) (e y : List ℕ) (put' : ℕ) (e' y' : List ℕ) → PartRead words p s from (Read n w) put e y → x ≡ get_or s n 0 → (x ≡ b → ⊥)
-        → PartRead words (followed s b p) s at (Stuck n) put' e' y'
-    not_closed n w x put e y put' e' y' f q h =
-        let r = read_of p n w f.same in
-        part_stuck (followed s b p) s at n put' e' y' (followed_short s b p n x r.0 r.1 q h)
+    pub not_closed : (r : Parsed) (x : Stuck) (put : ℕ) (e y : List ℕ) (put' : ℕ) (e' y' : List ℕ) → PartRead words p s from (Ok r) put e y
+        → ByteRead s r.next b (Err x) → PartRead words (followed s b p) s at (Err x) put' e' y'
+    not_closed r x put e y put' e' y' f q =
+        let t = read_of p r f.same in
+        part_stuck (followed s b p) s at x put' e' y' (followed_short s b p r.next x t.0 t.1 q)
 
-    pub inner_stuck : (x put : ℕ) (e y : List ℕ) (put' : ℕ) (e' y' : List ℕ) → PartRead words p s from (Stuck x) put e y
-        → PartRead words (followed s b p) s at (Stuck x) put' e' y'
-    inner_stuck x put e y put' e' y' f = part_stuck (followed s b p) s at x put' e' y' (followed_stuck s b p x (stuck_of p x f.same))
+    pub inner_stuck : (x : Stuck) (put : ℕ) (e y : List ℕ) (put' : ℕ) (e' y' : List ℕ) → PartRead words p s from (Err x) put e y
+        → PartRead words (followed s b p) s at (Err x) put' e' y'
+    inner_stuck x put e y put' e' y' f = part_stuck (followed s b p) s at x put' e' y' (followed_stuck s b p x.place (stuck_of p x f.same))
 
 -- one thing read as two trees that make the same words
 pub other_tree : {A B C : Type 0} (words : B → List ℕ) (others : C → List ℕ) (f : A → B) (g : A → C) → ((t : A) → others (g t) ≡ words (f t))
-    → (p : Parse A) (s : List ℕ) (at : ℕ) (r : Parsed) (put : ℕ) (e x : List ℕ) → PartRead words (map_p f p) s at r put e x → PartRead others (map_p g p) s at r put e x
+    → (p : Parse A) (s : List ℕ) (at : ℕ) (r : Result Parsed Stuck) (put : ℕ) (e x : List ℕ) → PartRead words (map_p f p) s at r put e x → PartRead others (map_p g p) s at r put e x
 unfolding map_p
 other_tree words others f g same (read n t) s at r put e x h =
     record {
-      same = h.same ∙ ap (λ (l : List ℕ). Read n (length l)) (sym (same t));
+      same = h.same ∙ ap (λ (l : List ℕ). Ok (record { next = n; count = length l })) (sym (same t));
       within = h.within;
       out = λ m u q k.
           let z : others u ≡ words (f t) = ap others (sym (same_tree q)) ∙ same t in
@@ -100,20 +103,14 @@ other_tree words others f g same (stuck p) s at r put e x h =
     record { same = h.same; within = h.within; out = λ m u q k. absurd (not_both (stuck p) p m u refl q) }
 
 -- a contact or an output, by the number after its letter
-module _ (s : List ℕ) (at : ℕ) (r : Numeral) (f : NumberRead s (at + 1) r) where
-  pub number_small : (v n : ℕ) → r ≡ Value v n → v ≤ 65535
-  number_small v n q = let g : NumberRead s (at + 1) (Value v n) = subst (NumberRead s (at + 1)) q f in g.within.2
-
-  pub leaf_read : (kind v n : ℕ) → r ≡ Value v n → (put : ℕ) (e x : List ℕ) → x ≡ set e put (kind * 65536 + v)
-      → PartRead one_word (leaf_of kind s at) s at (Read n 1) put e x
+module _ (s : List ℕ) (at kind put : ℕ) (e x : List ℕ) where
+  pub leaf_read : (v : Numeral) → NumberRead s (at + 1) (Some v) → x ≡ set e put (word kind v.value)
+      → PartRead one_word (leaf_of kind s at) s at (Ok (record { next = v.next; count = 1 })) put e x
   unfolding leaf_of map_p
-  leaf_read kind v n q put e x h =
-      let g : NumberRead s (at + 1) (Value v n) = subst (NumberRead s (at + 1)) q f in
-      part_read one_word (leaf_of kind s at) s at n (word kind v) 1 put e x (rw (← g.same) refl) refl
-      (omega (arith, g.within.0)) g.within.1 (omega (arith, g.within.0)) (λ k. h)
+  leaf_read v f h =
+      part_read one_word (leaf_of kind s at) s at (record { next = v.next; count = 1 }) (word kind v.value) put e x (rw (← f.same) refl) refl
+      (omega (arith, f.within.0)) f.within.1 (omega (arith, f.within.0)) (λ k. h)
 
-  pub leaf_stuck : (kind : ℕ) → r ≡ Missing → (put : ℕ) (e x : List ℕ) → PartRead one_word (leaf_of kind s at) s at (Stuck (at + 1)) put e x
+  pub leaf_stuck : NumberRead s (at + 1) None → PartRead one_word (leaf_of kind s at) s at (Err (record { place = at + 1 })) put e x
   unfolding leaf_of map_p
-  leaf_stuck kind q put e x =
-      let g : NumberRead s (at + 1) Missing = subst (NumberRead s (at + 1)) q f in
-      part_stuck one_word (leaf_of kind s at) s at (at + 1) put e x (rw (← g.same) refl)
+  leaf_stuck f = part_stuck one_word (leaf_of kind s at) s at (record { place = at + 1 }) put e x (rw (← f.same) refl)

@@ -1,11 +1,12 @@
 -- Laws of a run of stores, and of a word that is put before others. Assumes nothing.
 use mathlib.Core.Path.{◌≡◌, refl, sym, ap, ◌∙◌}
 use mathlib.Core.List.{List, [], ◌∷◌, ◌++◌, append_assoc}
-use Prim.Native.Nat.{ℕ, zero, suc, ◌+◌, ◌-◌, ◌≤◌, ◌<◌}
+use Prim.Native.Nat.{ℕ, suc, ◌+◌, ◌-◌, ◌≤◌, ◌<◌}
 use native.Mathlib.Numerals.{add-one}
 use native.Mathlib.Omega.{arith}
-use lib.ListN.{length, get_or, take, drop, set, length-set}
-use lib.Seq.{sets, length-sets, sets-eq, drop-cons, drop-set-lt, take-set-le, drop_at, take_at, length-take-le}
+use lib.ListN.{length, take, drop, set, length-drop}
+use lib.Seq.{sets, length-sets, sets-eq, paste, drop-set-lt, take-set-le, drop_at, take_at, length-take-le}
+use Rattle.std.proofs.lemmas.List.{set_comm}
 use Rattle.text_fronts.specs.Parts.{Inserted}
 
 drop_sets : (n : ℕ) (l : List ℕ) (i : ℕ) (xs : List ℕ) → i + length xs ≤ n → drop n (sets l i xs) ≡ drop n l
@@ -35,30 +36,24 @@ before e i xs w c y z q r h n =
     n.moved (omega (arith, ap length h, length-sets e i xs))
     ∙ rw (h, q, taken e i xs (omega arith)) (sets_over e i xs (w ∷ xs) (omega arith) (omega arith))
 
--- the loop of `insert`: what is left to be moved
-pub record Carrying (e : List ℕ) (i c w : ℕ) (x : List ℕ) (k v : ℕ) : Type 0 where
-  pub same : sets x k (v ∷ take (i + c - k) (drop k x)) ≡ sets e i (w ∷ take c (drop i e))
-  pub long : length x ≡ length e
-  pub low : i ≤ k
-  pub high : k ≤ i + c
+-- words moved up by one, and a word where they stood
+set_sets : (l : List ℕ) (i j w : ℕ) (xs : List ℕ) → i < j → set (sets l j xs) i w ≡ sets (set l i w) j xs
+set_sets l i j w [] h = refl
+set_sets l i j w (x ∷ xs) h =
+    set_sets (set l j x) i (suc j) w xs (omega arith)
+    ∙ ap (λ (m : List ℕ). sets m (suc j) xs) (set_comm l j i x w (λ e. omega arith))
 
-take_one : (m n v : ℕ) (r : List ℕ) → m ≡ n + 1 → take m (v ∷ r) ≡ v ∷ take n r
-take_one zero n v r e = absurd (omega arith)
-take_one (suc m) n v r e = let q : m ≡ n = omega arith in rw q refl
+pub moved_up : (e : List ℕ) (from count end w : ℕ) (x : List ℕ) → end ≡ from + count → end < length e
+    → x ≡ paste e (from + 1) (drop from e) (end - from) → Inserted e from count w (set x from w)
+moved_up e from count end w x q h p = record { moved = λ r. rw add-one at (ap (λ (l : List ℕ). set l from w) pasted ∙ set_sets e from (from + 1) w ws (omega arith)) }
+  where
+    ws : List ℕ
+    ws = take count (drop from e)
 
-module _ (e : List ℕ) (i c w : ℕ) (x : List ℕ) (k v : ℕ) (h : Carrying e i c w x k v) where
-  pub carried : k < i + c → i + c < length e → Carrying e i c w (set x k v) (k + 1) (get_or x k 0)
-  carried l r =
-      record {
-        same =
-            rw (add-one, drop-set-lt (suc k) x k v (omega arith))
-            (rw (drop-cons x k 0 (omega (arith, h.long)), take_one (i + c - k) (i + c - (k + 1)) (get_or x k 0) (drop (suc k) x) (omega arith), add-one) at h.same);
-        long = length-set x k v ∙ h.long;
-        low = omega (arith, h.low);
-        high = omega arith;
-      }
+    long : length ws ≡ count
+    long = length-take-le count (drop from e) (omega (arith, length-drop from e))
 
-  pub landed : i + c ≤ k → Inserted e i c w (set x k v)
-  landed l =
-      let z : i + c - k ≡ 0 = omega arith in
-      record { moved = λ r. rw z at h.same }
+    pasted : x ≡ sets e (from + 1) ws
+    pasted =
+        let n : end - from ≡ count = omega arith in
+        p ∙ rw (n, sets-eq ws e (from + 1) (omega (arith, long)), long) refl

@@ -8,16 +8,8 @@ pub fn insert(words: &mut [u32], from: usize, count: usize, word: u32)
     ensures { Inserted words.old from count word words.new }
 {
     let end = from + count;
-    if words.len() <= end {
-        return;
+    if end < words.len() {
+        words.copy_within(from..end, from + 1);
+        words[from] = word;
     }
-    let mut k = from;
-    let mut carry = word;
-    while k < end {
-        let next = words[k];
-        words[k] = carry;
-        carry = next;
-        k += 1;
-    }
-    words[k] = carry;
 }

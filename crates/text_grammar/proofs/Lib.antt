@@ -1,5 +1,4 @@
 -- Laws that the proofs of functions cite.
-pub mod Bytes
 pub mod Numbers
 pub mod Laws
 pub mod Theorems

@@ -1,7 +1,7 @@
 -- Laws of rungs that are kept in buffers one after the other, and of what they take. Assumes nothing.
-use mathlib.Core.Path.{◌≡◌, refl, sym, ap, subst, ◌∙◌}
+use mathlib.Core.Path.{◌≡◌, refl, sym, ap, ◌∙◌}
 use mathlib.Core.List.{List, [], ◌∷◌, ◌++◌, map, flat_map, map-append}
-use Prim.Native.Nat.{ℕ, zero, suc, ◌+◌, ◌≤◌, ◌<◌, max}
+use Prim.Native.Nat.{ℕ, zero, suc, ◌+◌, ◌≤◌, max}
 use native.Mathlib.Nat.{zero-add}
 use native.Mathlib.Omega.{arith}
 use borrow.Author.Tests.{eq-eqb, ne_eqb}
@@ -18,19 +18,12 @@ use Rattle.rungs.specs.Parts.{put_all}
 use Rattle.text_lines.specs.Parts.{line_parsed, LineRead, with_rung, put_rung, line_kept, LineIsKept, sizes_of, kept_columns, LinesAreKept}
 use Rattle.text_lines.specs.declared.Sizes.{Sizes}
 use Rattle.text_lines.specs.declared.LineParsed.{LineParsed}
-use Rattle.text_lines.specs.declared.LineParsed.TheVariants.{Read as LineReadCase, Stuck as LineStuckCase}
 use Rattle.text_lines.specs.declared.LineKept.{LineKept}
-use Rattle.text_lines.specs.declared.LineKept.TheVariants.{Read as LineKeptCase, Stuck as LineNotKept}
-use Rattle.text_lines.specs.declared.LinesParsed.TheVariants.{Read as LinesReadCase, Stuck as LinesStuckCase}
+use Rattle.text_fronts.specs.declared.part.Stuck.{Stuck}
+use Rattle.std.specs.Prelude.{Ok, Err}
 use Rattle.text_grammar.proofs.Laws.Parses.{same_tree, not_both, map_none, map_more}
 use Rattle.questions.proofs.Laws.Stores.{sets_append}
 use Rattle.text_fronts.proofs.Sets.{taken}
-
--- ---- one rung more
-
-pub grown_by : (z : Sizes) (count m : ℕ) → m ≡ max z.longest count → record { words = z.words + count; rungs = z.rungs + 1; longest = m } ≡ with_rung z count
-unfolding with_rung
-grown_by z count m e = rw e refl
 
 -- four stores
 pub stored : (b : Columns) (z : Sizes) (label count : ℕ) (ws words labels offsets lengths : List ℕ) → words ≡ sets b.words z.words ws
@@ -39,55 +32,43 @@ pub stored : (b : Columns) (z : Sizes) (label count : ℕ) (ws words labels offs
 unfolding put_rung
 stored b z label count ws words labels offsets lengths e f g h = rw (e, f, g, h) refl
 
--- numbers of 32 bits are numbers of 64 bits
-pub wider : (a b : ℕ) → (a < 4294967296) × (b < 4294967296) → (a < 18446744073709551616) × (b < 18446744073709551616)
-wider a b h = let p = h.0 in let q = h.1 in (omega arith, omega arith)
-
-pub one_less : (a b : ℕ) → (a < 4294967296) × (b + 1 < 4294967296) → (a < 4294967296) × (b < 4294967296)
-one_less a b h = let q = h.1 in (h.0, omega arith)
-
 -- ---- a line
 
-line_of_lem : (p : Parse Rung) (l n w : ℕ) → LineReadCase l n w ≡ line_parsed p → (g : Rung) × (p ≡ read n g) × (g.label ≡ l) × (length (rung_words g) ≡ w)
-line_of_lem (read m g) l n w e = (g, cc, cc, cc)
-line_of_lem (stuck p) l n w e = let z : ◌≡◌ {A = ℕ} 0 1 = cc in absurd (omega arith)
+line_is : (p : Parse Rung) (l : LineParsed) → Ok l ≡ line_parsed p → (g : Rung) × (p ≡ read l.next g) × (g.label ≡ l.label) × (length (rung_words g) ≡ l.count)
+line_is (read m g) l e =
+    let q : l ≡ record { label = g.label; next = m; count = length (rung_words g) } = cc in
+    (g, rw q refl, rw q refl, rw q refl)
+line_is (stuck p) l e = let z : ◌≡◌ {A = ℕ} 0 1 = cc in absurd (omega arith)
 
-line_stuck : (p : Parse Rung) (x : ℕ) → LineStuckCase x ≡ line_parsed p → p ≡ stuck x
+line_stuck : (p : Parse Rung) (x : Stuck) → Err x ≡ line_parsed p → p ≡ stuck x.place
 line_stuck (read m g) x e = let z : ◌≡◌ {A = ℕ} 0 1 = cc in absurd (omega arith)
-line_stuck (stuck p) x e = cc
+line_stuck (stuck p) x e = let q : x ≡ record { place = p } = cc in rw q refl
 
-module _ (p : Parse Rung) (s : List ℕ) (at : ℕ) (r : LineParsed) (e x : List ℕ) (f : LineRead p s at r e x) where
-  pub line_not_kept : (m : ℕ) → r ≡ LineStuckCase m → (z : Sizes) (before after : Columns) → LineIsKept p s at z (LineNotKept m) before after
-  line_not_kept m q z before after =
-      let g = subst (λ (a : LineParsed). LineRead p s at a e x) q f in
-      let k = line_stuck p m g.same in
-      record { same = rw k refl; within = tt; out = λ n t b h. absurd (not_both p m n t k b) }
+module _ (p : Parse Rung) (s : List ℕ) (at : ℕ) (e x : List ℕ) where
+  pub line_not_kept : (m : Stuck) → LineRead p s at (Err m) e x → (z : Sizes) (before after : Columns) → LineIsKept p s at z (Err m) before after
+  line_not_kept m f z before after =
+      let k = line_stuck p m f.same in
+      record { same = rw k refl; within = tt; out = λ n t b h. absurd (not_both p m.place n t k b) }
 
-  module _ (l n w : ℕ) (q : r ≡ LineReadCase l n w) where
-    got : LineRead p s at (LineReadCase l n w) e x
-    got = subst (λ (a : LineParsed). LineRead p s at a e x) q f
-
-    -- there is room for the numbers of one rung more
-    pub line_room : (z : Sizes) → length s < 4294967296 → z.words ≤ at → z.rungs ≤ at → (z.words + w < 4294967296) × (z.rungs + 1 < 4294967296)
-    line_room z long few fewer = let c = got.within in (omega arith, omega arith)
-
-    pub line_kept_lem : length e ≡ 128 → (z : Sizes) → z.words ≤ at → z.rungs ≤ at → (before after : Columns) → after ≡ put_rung before z l w (take w x)
-        → (y : Sizes) → y ≡ with_rung z w → LineIsKept p s at z (LineKeptCase n y) before after
+  module _ (l : LineParsed) (f : LineRead p s at (Ok l) e x) where
+    pub line_kept_lem : length e ≡ 128 → (z : Sizes) → z.words ≤ at → z.rungs ≤ at → (before after : Columns)
+        → after ≡ put_rung before z l.label l.count (take l.count x)
+        → (y : Sizes) → y ≡ with_rung z l.count → LineIsKept p s at z (Ok (record { next = l.next; sizes = y })) before after
     unfolding with_rung
     line_kept_lem long z few fewer before after put y grown =
-        let t = line_of_lem p l n w got.same in
-        let c = got.within in
-        let a : y.words ≡ z.words + w = ap (λ (k : Sizes). k.words) grown in
+        let t = line_is p l f.same in
+        let c = f.within in
+        let a : y.words ≡ z.words + l.count = ap (λ (k : Sizes). k.words) grown in
         let b : y.rungs ≡ z.rungs + 1 = ap (λ (k : Sizes). k.rungs) grown in
         record {
-          same = rw (t.1, t.3) (ap (LineKeptCase n) grown);
+          same = rw (t.1, t.3) (ap (λ (k : Sizes). Ok (record { next = l.next; sizes = k })) grown);
           within = (omega arith, omega arith, omega arith, omega arith);
           out = λ m g k room.
               let u : t.0 ≡ g = same_tree (sym t.1 ∙ k) in
-              let d : l ≡ g.label = sym t.2 ∙ ap (λ (h : Rung). h.label) u in
-              let c : w ≡ length (rung_words g) = sym t.3 ∙ ap (λ (h : Rung). length (rung_words h)) u in
-              let o : take w x ≡ rung_words g =
-              ap (λ (i : ℕ). take i x) c ∙ ap (take (length (rung_words g))) (got.out m g k (omega arith)) ∙ taken e 0 (rung_words g) (omega arith) in
+              let d : l.label ≡ g.label = sym t.2 ∙ ap (λ (h : Rung). h.label) u in
+              let c : l.count ≡ length (rung_words g) = sym t.3 ∙ ap (λ (h : Rung). length (rung_words h)) u in
+              let o : take l.count x ≡ rung_words g =
+              ap (λ (i : ℕ). take i x) c ∙ ap (take (length (rung_words g))) (f.out m g k (omega arith)) ∙ taken e 0 (rung_words g) (omega arith) in
               put ∙ rw (d, o, c) refl;
         }
 
@@ -141,15 +122,6 @@ module _ (done : Ladder) (g : Rung) where
 
 -- ---- the loop over lines: the rungs before what the lines that follow give are the text, and they are kept
 
-pub record AsLong (a b : Columns) : Type 0 where
-  pub words : length b.words ≡ length a.words
-  pub labels : length b.labels ≡ length a.labels
-  pub offsets : length b.offsets ≡ length a.offsets
-  pub lengths : length b.lengths ≡ length a.lengths
-
-as_long : (a b c : Columns) → AsLong a b → AsLong b c → AsLong a c
-as_long a b c f g = record { words = g.words ∙ f.words; labels = g.labels ∙ f.labels; offsets = g.offsets ∙ f.offsets; lengths = g.lengths ∙ f.lengths }
-
 pub record Keeping (s : List ℕ) (before now : Columns) (next : ℕ) (z : Sizes) : Type 0 where
   pub left : ℕ
   pub done : Ladder
@@ -159,7 +131,6 @@ pub record Keeping (s : List ℕ) (before now : Columns) (next : ℕ) (z : Sizes
   pub within : next ≤ length s
   pub few : z.words ≤ next
   pub fewer : z.rungs ≤ next
-  pub long : AsLong before now
   pub out : z.longest ≤ 128 → now ≡ put_all before (kept_columns done)
 
 no_rungs : sizes_of [] ≡ record { words = 0; rungs = 0; longest = 0 }
@@ -182,17 +153,16 @@ keeping_start s b =
       within = omega arith;
       few = omega arith;
       fewer = omega arith;
-      long = record { words = refl; labels = refl; offsets = refl; lengths = refl };
       out = λ h. sym (nothing_put b);
     }
 
-kept_of_lem : (z : Sizes) (p : Parse Rung) (n : ℕ) (y : Sizes) → LineKeptCase n y ≡ line_kept z p → (g : Rung) × (p ≡ read n g) × (y ≡ with_rung z (length (rung_words g)))
-kept_of_lem z (read m g) n y e = (g, cc, cc)
-kept_of_lem z (stuck p) n y e = let k : ◌≡◌ {A = ℕ} 0 1 = cc in absurd (omega arith)
+kept_is : (z : Sizes) (p : Parse Rung) (k : LineKept) → Ok k ≡ line_kept z p → (g : Rung) × (p ≡ read k.next g) × (k.sizes ≡ with_rung z (length (rung_words g)))
+kept_is z (read m g) k e = let q : k ≡ record { next = m; sizes = with_rung z (length (rung_words g)) } = cc in (g, rw q refl, rw q refl)
+kept_is z (stuck p) k e = let k : ◌≡◌ {A = ℕ} 0 1 = cc in absurd (omega arith)
 
-not_kept : (z : Sizes) (p : Parse Rung) (x : ℕ) → LineNotKept x ≡ line_kept z p → p ≡ stuck x
+not_kept : (z : Sizes) (p : Parse Rung) (x : Stuck) → Err x ≡ line_kept z p → p ≡ stuck x.place
 not_kept z (read m g) x e = let k : ◌≡◌ {A = ℕ} 0 1 = cc in absurd (omega arith)
-not_kept z (stuck p) x e = cc
+not_kept z (stuck p) x e = let q : x ≡ record { place = p } = cc in rw q refl
 
 line_then : (s : List ℕ) (l n : ℕ) (g : Rung) (p : Parse Rung) → p ≡ read n g → (n ≡ length s → ⊥)
     → bind p (λ m g. pick (eqb m (length s)) (read m (g ∷ [])) (map_p (λ gs. g ∷ gs) (lines_of s l m))) ≡ map_p (λ gs. g ∷ gs) (lines_of s l n)
@@ -205,78 +175,70 @@ unfolding bind
 line_last s l n g p e q = rw (e, eq-eqb _ _ q) refl
 
 module _ (s : List ℕ) (before now : Columns) (next : ℕ) (z : Sizes) (h : Keeping s before now next z)
-    (r : LineKept) (after : Columns) (fr : LineIsKept (line_of s next) s next z r now after) where
-  pub lines_stuck : (x : ℕ) → r ≡ LineNotKept x → (last : Columns) → LinesAreKept (text_of s) (LinesStuckCase x) before last
+    (after : Columns) where
+  pub lines_stuck : (x : Stuck) → LineIsKept (line_of s next) s next z (Err x) now after → (last : Columns) → LinesAreKept (text_of s) (Err x) before last
   unfolding lines_of bind map_p
-  lines_stuck x e last =
-      let f = subst (λ (a : LineKept). LineIsKept (line_of s next) s next z a now after) e fr in
-      let k : text_of s ≡ stuck x = sym h.same ∙ ends (not_kept z (line_of s next) x f.same) in
-      record { same = rw k refl; out = λ n gs b i. absurd (not_both (text_of s) x n gs k b) }
+  lines_stuck x f last =
+      let k : text_of s ≡ stuck x.place = sym h.same ∙ ends (not_kept z (line_of s next) x f.same) in
+      record { same = rw k refl; out = λ n gs b i. absurd (not_both (text_of s) x.place n gs k b) }
     where
-      ends : line_of s next ≡ stuck x → map_p (λ gs. h.done ++ gs) (lines_of s (suc h.left) next) ≡ stuck x
+      ends : line_of s next ≡ stuck x.place → map_p (λ gs. h.done ++ gs) (lines_of s (suc h.left) next) ≡ stuck x.place
       ends q = rw q refl
 
-  module _ (n : ℕ) (y : Sizes) (e : r ≡ LineKeptCase n y) where
-    got_line : LineIsKept (line_of s next) s next z (LineKeptCase n y) now after
-    got_line = subst (λ (a : LineKept). LineIsKept (line_of s next) s next z a now after) e fr
-
-    pub kept_within : (next < n) × (n ≤ length s) × (y.words ≤ n) × (y.rungs ≤ n)
-    kept_within = got_line.within
-
-    module _ (g : Rung) (p : line_of s next ≡ read n g) (grown : y ≡ with_rung z (length (rung_words g))) where
-      takes_more : y ≡ sizes_of (h.done ++ g ∷ [])
+  module _ (l : LineKept) (f : LineIsKept (line_of s next) s next z (Ok l) now after) where
+    module _ (g : Rung) (p : line_of s next ≡ read l.next g) (grown : l.sizes ≡ with_rung z (length (rung_words g))) where
+      takes_more : l.sizes ≡ sizes_of (h.done ++ g ∷ [])
       takes_more = grown ∙ ap (λ (k : Sizes). with_rung k (length (rung_words g))) h.takes ∙ sym (sizes_more h.done g)
 
-      put_line : y.longest ≤ 128 → after ≡ put_all before (kept_columns (h.done ++ g ∷ []))
+      put_line : l.sizes.longest ≤ 128 → after ≡ put_all before (kept_columns (h.done ++ g ∷ []))
       unfolding with_rung
       put_line m =
-          let k : y.longest ≡ max z.longest (length (rung_words g)) = ap (λ (k : Sizes). k.longest) grown in
-          got_line.out n g p (omega arith)
+          let k : l.sizes.longest ≡ max z.longest (length (rung_words g)) = ap (λ (k : Sizes). k.longest) grown in
+          f.out l.next g p (omega arith)
           ∙ ap (λ (b : Columns). put_rung b z g.label (length (rung_words g)) (rung_words g)) (h.out (omega arith))
           ∙ ap (λ (k : Sizes). put_rung (put_all before (kept_columns h.done)) k g.label (length (rung_words g)) (rung_words g)) h.takes
           ∙ put_more h.done g before
 
-      ended : n ≡ length s → text_of s ≡ read n (h.done ++ g ∷ [])
+      ended : l.next ≡ length s → text_of s ≡ read l.next (h.done ++ g ∷ [])
       unfolding lines_of map_p
       ended q = sym h.same ∙ go
         where
-          go : map_p (λ gs. h.done ++ gs) (lines_of s (suc h.left) next) ≡ read n (h.done ++ g ∷ [])
-          go = ap (map_p (λ gs. h.done ++ gs)) (line_last s h.left n g (line_of s next) p q)
+          go : map_p (λ gs. h.done ++ gs) (lines_of s (suc h.left) next) ≡ read l.next (h.done ++ g ∷ [])
+          go = ap (map_p (λ gs. h.done ++ gs)) (line_last s h.left l.next g (line_of s next) p q)
 
-      more : (n ≡ length s → ⊥) → AsLong now after → Keeping s before after n y
+      more : (l.next ≡ length s → ⊥) → Keeping s before after l.next l.sizes
       unfolding lines_of
-      more q long = go h.left h.enough h.same
+      more q = go h.left h.enough h.same
         where
-          go : (l : ℕ) → length s ≤ next + l → map_p (λ gs. h.done ++ gs) (lines_of s (suc l) next) ≡ text_of s → Keeping s before after n y
-          go zero a b = let c = kept_within in absurd (omega arith)
-          go (suc l) a b =
-              let c = kept_within in
-              let d : lines_of s (suc (suc l)) next ≡ map_p (λ gs. g ∷ gs) (lines_of s (suc l) n) = line_then s (suc l) n g (line_of s next) p q in
+          go : (k : ℕ) → length s ≤ next + k → map_p (λ gs. h.done ++ gs) (lines_of s (suc k) next) ≡ text_of s → Keeping s before after l.next l.sizes
+          go zero a b = let c = f.within in absurd (omega arith)
+          go (suc k) a b =
+              let c = f.within in
+              let d : lines_of s (suc (suc k)) next ≡ map_p (λ gs. g ∷ gs) (lines_of s (suc k) l.next) = line_then s (suc k) l.next g (line_of s next) p q in
               record {
-                left = l;
+                left = k;
                 done = h.done ++ g ∷ [];
                 takes = takes_more;
-                same = sym (map_more h.done g (lines_of s (suc l) n)) ∙ (ap (map_p (λ gs. h.done ++ gs)) (sym d) ∙ b);
+                same = sym (map_more h.done g (lines_of s (suc k) l.next)) ∙ (ap (map_p (λ gs. h.done ++ gs)) (sym d) ∙ b);
                 enough = omega arith;
                 within = omega arith;
                 few = c.2;
                 fewer = c.3;
-                long = as_long before now after h.long long;
                 out = put_line;
               }
 
-    pub lines_end : n ≡ length s → LinesAreKept (text_of s) (LinesReadCase y) before after
+    pub lines_end : l.next ≡ length s → LinesAreKept (text_of s) (Ok l.sizes) before after
     lines_end q =
-        let t = kept_of_lem z (line_of s next) n y got_line.same in
+        let t = kept_is z (line_of s next) l f.same in
         let k = ended t.0 t.1 t.2 q in
         let a = takes_more t.0 t.1 t.2 in
         record {
-          same = rw k (ap LinesReadCase a);
+          same = rw k (ap Ok a);
           out = λ m gs b small.
               let u : h.done ++ t.0 ∷ [] ≡ gs = same_tree (sym k ∙ b) in
-              let v : y ≡ sizes_of gs = a ∙ ap sizes_of u in
+              let v : l.sizes ≡ sizes_of gs = a ∙ ap sizes_of u in
               put_line t.0 t.1 t.2 (rw v small) ∙ ap (λ (l : Ladder). put_all before (kept_columns l)) u;
         }
 
-    pub lines_more : (n ≡ length s → ⊥) → AsLong now after → Keeping s before after n y
-    lines_more q long = let t = kept_of_lem z (line_of s next) n y got_line.same in more t.0 t.1 t.2 q long
+    pub lines_more : (l.next ≡ length s → ⊥) → Keeping s before after l.next l.sizes
+    lines_more q = let t = kept_is z (line_of s next) l f.same in more t.0 t.1 t.2 q

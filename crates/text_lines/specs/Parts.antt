@@ -1,5 +1,5 @@
 -- What the functions of this crate promise to each other. Nothing here is a sentence of document 01. Assumes nothing.
-use Rattle.std.specs.Prelude.{ℕ, ◌+◌, ◌≤◌, ◌<◌, max, ◌≡◌, List, length, set}
+use Rattle.std.specs.Prelude.{ℕ, ◌+◌, ◌≤◌, ◌<◌, max, ◌≡◌, List, length, set, Result, Ok, Err}
 use Rattle.std.proofs.lemmas.List.Edits.{sets}
 use Rattle.questions.specs.Bytes.{byte}
 use Rattle.rungs.specs.Records.{longest}
@@ -12,26 +12,23 @@ use Rattle.text_grammar.specs.Reader.{Parse, read, stuck, map_p, bind, followed,
 use Rattle.text_definitions.specs.Read.{kept_buffers}
 use Rattle.text_lines.specs.declared.Sizes.{Sizes}
 use Rattle.text_lines.specs.declared.LineParsed.{LineParsed}
-use Rattle.text_lines.specs.declared.LineParsed.TheVariants.{Read as LineReadCase, Stuck as LineStuckCase}
 use Rattle.text_lines.specs.declared.LineKept.{LineKept}
-use Rattle.text_lines.specs.declared.LineKept.TheVariants.{Read as LineKeptCase, Stuck as LineNotKept}
-use Rattle.text_lines.specs.declared.LinesParsed.{LinesParsed}
-use Rattle.text_lines.specs.declared.LinesParsed.TheVariants.{Read as LinesReadCase, Stuck as LinesStuckCase}
+use Rattle.text_fronts.specs.declared.part.Stuck.{Stuck}
 use Rattle.text_grammar.specs.Grammar.{most_brackets}
 
 -- a line from after its label's ":" on
 unfoldable pub rung_of : ℕ → List ℕ → ℕ → Parse Rung
 rung_of label s at = bind (followed s (byte ">") (front_of most_brackets s at)) (λ n f. map_p (rung label f) (followed s (byte "\n") (rear_of most_brackets s n)))
 
-abbrev pub line_parsed : Parse Rung → LineParsed
-line_parsed (read n g) = LineReadCase g.label n (length (rung_words g))
-line_parsed (stuck p) = LineStuckCase p
+abbrev pub line_parsed : Parse Rung → Result LineParsed Stuck
+line_parsed (read n g) = Ok (record { label = g.label; next = n; count = length (rung_words g) })
+line_parsed (stuck p) = Err (record { place = p })
 
-abbrev pub LineWithin : List ℕ → ℕ → LineParsed → Type 0
-LineWithin s at (LineReadCase l n w) = (at < n) × (n ≤ length s) × (w + at < n)
-LineWithin s at (LineStuckCase p) = Unit {0}
+abbrev pub LineWithin : List ℕ → ℕ → Result LineParsed Stuck → Type 0
+LineWithin s at (Ok l) = (at < l.next) × (l.next ≤ length s) × (l.count + at < l.next)
+LineWithin s at (Err e) = Unit {0}
 
-pub record LineRead (p : Parse Rung) (s : List ℕ) (at : ℕ) (r : LineParsed) (e x : List ℕ) : Type 0 where
+pub record LineRead (p : Parse Rung) (s : List ℕ) (at : ℕ) (r : Result LineParsed Stuck) (e x : List ℕ) : Type 0 where
   pub same : r ≡ line_parsed p
   pub within : LineWithin s at r
   pub out : (n : ℕ) (g : Rung) → p ≡ read n g → length (rung_words g) ≤ length e → x ≡ sets e 0 (rung_words g)
@@ -50,16 +47,16 @@ put_rung b z label count ws =
       lengths = set b.lengths z.rungs count;
     }
 
-abbrev pub line_kept : Sizes → Parse Rung → LineKept
-line_kept z (read n g) = LineKeptCase n (with_rung z (length (rung_words g)))
-line_kept z (stuck p) = LineNotKept p
+abbrev pub line_kept : Sizes → Parse Rung → Result LineKept Stuck
+line_kept z (read n g) = Ok (record { next = n; sizes = with_rung z (length (rung_words g)) })
+line_kept z (stuck p) = Err (record { place = p })
 
-abbrev pub KeptWithin : List ℕ → ℕ → Sizes → LineKept → Type 0
-KeptWithin s at z (LineKeptCase n y) = (at < n) × (n ≤ length s) × (y.words ≤ n) × (y.rungs ≤ n)
-KeptWithin s at z (LineNotKept p) = Unit {0}
+abbrev pub KeptWithin : List ℕ → ℕ → Sizes → Result LineKept Stuck → Type 0
+KeptWithin s at z (Ok k) = (at < k.next) × (k.next ≤ length s) × (k.sizes.words ≤ k.next) × (k.sizes.rungs ≤ k.next)
+KeptWithin s at z (Err e) = Unit {0}
 
 -- a line is read, and where its rung is not too long it is kept
-pub record LineIsKept (p : Parse Rung) (s : List ℕ) (at : ℕ) (z : Sizes) (r : LineKept) (before after : Columns) : Type 0 where
+pub record LineIsKept (p : Parse Rung) (s : List ℕ) (at : ℕ) (z : Sizes) (r : Result LineKept Stuck) (before after : Columns) : Type 0 where
   pub same : r ≡ line_kept z p
   pub within : KeptWithin s at z r
   pub out : (n : ℕ) (g : Rung) → p ≡ read n g → length (rung_words g) ≤ most_rung_words → after ≡ put_rung before z g.label (length (rung_words g)) (rung_words g)
@@ -67,15 +64,15 @@ pub record LineIsKept (p : Parse Rung) (s : List ℕ) (at : ℕ) (z : Sizes) (r 
 unfoldable pub sizes_of : Ladder → Sizes
 sizes_of gs = record { words = length (encode gs).words; rungs = length gs; longest = longest (encode gs).records }
 
-abbrev pub lines_parsed : Parse Ladder → LinesParsed
-lines_parsed (read n gs) = LinesReadCase (sizes_of gs)
-lines_parsed (stuck p) = LinesStuckCase p
+abbrev pub lines_parsed : Parse Ladder → Result Sizes Stuck
+lines_parsed (read n gs) = Ok (sizes_of gs)
+lines_parsed (stuck p) = Err (record { place = p })
 
 -- a ladder's words, and of its records labels, offsets and lengths
 abbrev pub kept_columns : Ladder → Columns
 kept_columns gs = columns_of (kept_buffers gs)
 
 -- a text is read, and where no rung is too long all are kept, as far as there is room
-pub record LinesAreKept (p : Parse Ladder) (r : LinesParsed) (before after : Columns) : Type 0 where
+pub record LinesAreKept (p : Parse Ladder) (r : Result Sizes Stuck) (before after : Columns) : Type 0 where
   pub same : r ≡ lines_parsed p
   pub out : (n : ℕ) (gs : Ladder) → p ≡ read n gs → (sizes_of gs).longest ≤ most_rung_words → after ≡ put_all before (kept_columns gs)

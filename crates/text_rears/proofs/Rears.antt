@@ -12,11 +12,13 @@ use Rattle.ladder_definitions.specs.Tree.{Front, Rear, rear_and, rear_or}
 use Rattle.ladder_definitions.specs.Kept.{front_words, rear_words}
 use Rattle.text_grammar.specs.Reader.{pick, Parse, read, stuck, map_p, bind, followed, opens_factor, branch_by, rear_by}
 use Rattle.text_grammar.proofs.Laws.Spans.{inside}
-use Rattle.text_fronts.specs.Parts.{PartRead, Inserted}
-use Rattle.text_fronts.specs.declared.part.Parsed.TheVariants.{Read, Stuck}
+use Rattle.text_fronts.specs.Parts.{PartRead, ByteRead, Inserted}
+use Rattle.std.specs.Prelude.{Ok, Err}
+use Rattle.text_fronts.specs.declared.part.Parsed.{Parsed}
+use Rattle.text_fronts.specs.declared.part.Stuck.{Stuck}
 use Rattle.questions.proofs.Laws.Stores.{sets_append}
 use Rattle.text_fronts.proofs.Sets.{before}
-use Rattle.text_fronts.proofs.Parts.{read_of, stuck_of, part_stuck, part_read}
+use Rattle.text_fronts.proofs.Parts.{followed_read, followed_short, read_of, stuck_of, part_stuck, part_read}
 
 map_none : (p : Parse Rear) → map_p (λ r. r) p ≡ p
 unfolding map_p
@@ -92,26 +94,26 @@ module _ (by : ℕ → ℕ → Parse Rear) (s : List ℕ) (whole : Parse Rear) (
             out = joined;
           }
 
-  stop_stuck : (p : ℕ) (y : List ℕ) → ((k : ℕ) → by (suc k) n ≡ stuck p) → PartRead rear_words whole s at (Stuck p) put e y
+  stop_stuck : (p : Stuck) (y : List ℕ) → ((k : ℕ) → by (suc k) n ≡ stuck p.place) → PartRead rear_words whole s at (Err p) put e y
   unfolding map_p
   stop_stuck p y q = part_stuck rear_words whole s at p put e y (rw (← h.same, q h.left) refl)
 
   -- the last part
-  stop_read : (p : Parse Rear) (m v : ℕ) (y : List ℕ) → ((k : ℕ) (r : Rear) → p ≡ read m r → by (suc k) n ≡ read m r)
-      → PartRead rear_words p s n (Read m v) (put + w) x y → PartRead rear_words whole s at (Read m (w + v)) put e y
+  stop_read : (p : Parse Rear) (v : Parsed) (y : List ℕ) → ((k : ℕ) (r : Rear) → p ≡ read v.next r → by (suc k) n ≡ read v.next r)
+      → PartRead rear_words p s n (Ok v) (put + w) x y → PartRead rear_words whole s at (Ok (record { next = v.next; count = w + v.count })) put e y
   unfolding map_p
-  stop_read p m v y q g =
-      let r = read_of rear_words p m v g.same in
-      let z : whole ≡ read m (h.around r.0) = rw (← h.same, q h.left r.0 r.1) refl in
-      let c : length (rear_words (h.around r.0)) ≡ w + v =
+  stop_read p v y q g =
+      let r = read_of rear_words p v g.same in
+      let z : whole ≡ read v.next (h.around r.0) = rw (← h.same, q h.left r.0 r.1) refl in
+      let c : length (rear_words (h.around r.0)) ≡ w + v.count =
       ap length (h.split r.0) ∙ length-append h.words (rear_words r.0) ∙ omega (arith, h.count, r.2) in
-      part_read rear_words whole s at m (h.around r.0) (w + v) put e y z c (omega (arith, h.past, g.within.0)) g.within.1
+      part_read rear_words whole s at (record { next = v.next; count = w + v.count }) (h.around r.0) put e y z c (omega (arith, h.past, g.within.0)) g.within.1
       (omega (arith, h.few, g.within.2)) (λ o. joined r.0 r.1 r.2 (omega (arith, c)))
     where
-      joined : (r : Rear) → p ≡ read m r → length (rear_words r) ≡ v → put + (w + v) ≤ length e → y ≡ sets e put (rear_words (h.around r))
+      joined : (r : Rear) → p ≡ read v.next r → length (rear_words r) ≡ v.count → put + (w + v.count) ≤ length e → y ≡ sets e put (rear_words (h.around r))
       joined r z c o =
           let i : put + w ≡ put + length h.words = omega (arith, h.count) in
-          g.out m r z (omega (arith, h.long, c)) ∙ ap (λ (l : List ℕ). sets l (put + w) (rear_words r)) (h.out (omega arith))
+          g.out v.next r z (omega (arith, h.long, c)) ∙ ap (λ (l : List ℕ). sets l (put + w) (rear_words r)) (h.out (omega arith))
           ∙ ap (λ (i : ℕ). sets (sets e put h.words) i (rear_words r)) i ∙ sym (sets_append e put h.words (rear_words r))
           ∙ ap (sets e put) (sym (h.split r))
 
@@ -130,33 +132,31 @@ module _ (f : ℕ → Parse Front) (end : ℕ → Parse Rear) (s : List ℕ) (wh
       ∙ ap (λ (l : List ℕ). sets l (put + w + 1) (front_words g)) p
       ∙ ap (λ (i : ℕ). sets (set x (put + w) 589824) i (front_words g)) i
 
-  pub branch_more : t ≡ true → (m v c : ℕ) (y z : List ℕ) → y ≡ set x (put + w) 589824 → length z ≡ length y
-      → PartRead front_words (f n) s n (Read m v) (put + w + 1) y z → c ≡ get_or s m 0 → c ≡ 38
-      → Prefixed (branch_by f end s) s whole at (m + 1) (w + v + 1) put e z
-  unfolding branch_by bind followed rear_words
-  branch_more o m v c y z ey lz g ec i =
-      let r = read_of front_words (f n) m v g.same in
-      turn (branch_by f end s) s whole at n w put e x h m v (rear_and r.0) (589824 ∷ front_words r.0) z (omega (arith, r.2)) (λ q. refl)
-      g.within.0 (inside s m (omega arith)) g.within.2 (λ k. step k (f n) r.0 r.1)
-      (lz ∙ ap length ey ∙ length-set x (put + w) 589824) (rooted m r.0 y z r.1 ey g.out)
+  pub branch_more : t ≡ true → (v : Parsed) (m c : ℕ) (y z : List ℕ) → y ≡ set x (put + w) 589824 → length z ≡ length y
+      → PartRead front_words (f n) s n (Ok v) (put + w + 1) y z → ByteRead s v.next 38 (Ok m) → c ≡ w + v.count + 1
+      → Prefixed (branch_by f end s) s whole at m c put e z
+  unfolding branch_by bind rear_words
+  branch_more o v m c y z ey lz g b ec =
+      let r = read_of front_words (f n) v g.same in
+      rw (b.0, ec)
+      (turn (branch_by f end s) s whole at n w put e x h v.next v.count (rear_and r.0) (589824 ∷ front_words r.0) z (omega (arith, r.2)) (λ q. refl)
+      g.within.0 b.2 g.within.2 (λ k. step k (followed_read s 38 (f n) v.next m r.0 r.1 b ∙ ap (λ i. read i r.0) b.0))
+      (lz ∙ ap length ey ∙ length-set x (put + w) 589824) (rooted v.next r.0 y z r.1 ey g.out))
     where
-      step : (k : ℕ) (p : Parse Front) (u : Front) → p ≡ read m u
-          → pick (opens_factor (get_or s n 0)) (bind (followed s 38 p) (λ m f₁. map_p (rear_and f₁) (branch_by f end s k m))) (end n)
-          ≡ map_p (rear_and u) (branch_by f end s k (m + 1))
-      step k p u q = rw (opened o, q, ← ec, eq-eqb _ _ i) refl
+      step : (k : ℕ) {i : ℕ} {u : Front} → followed s 38 (f n) ≡ read i u
+          → pick (opens_factor (get_or s n 0)) (bind (followed s 38 (f n)) (λ m f₁. map_p (rear_and f₁) (branch_by f end s k m))) (end n)
+          ≡ map_p (rear_and u) (branch_by f end s k i)
+      step k q = rw (opened o, q) refl
 
-  pub branch_short : t ≡ true → (m v c p : ℕ) (y z z' : List ℕ) → PartRead front_words (f n) s n (Read m v) p y z → c ≡ get_or s m 0 → (c ≡ 38 → ⊥)
-      → PartRead rear_words whole s at (Stuck m) put e z'
-  unfolding branch_by bind followed
-  branch_short o m v c p y z z' g ec i =
-      let r = read_of front_words (f n) m v g.same in
-      stop_stuck (branch_by f end s) s whole at n w put e x h m z' (λ k. step k (f n) r.0 r.1)
-    where
-      step : (k : ℕ) (p : Parse Front) (u : Front) → p ≡ read m u
-          → pick (opens_factor (get_or s n 0)) (bind (followed s 38 p) (λ m f₁. map_p (rear_and f₁) (branch_by f end s k m))) (end n) ≡ stuck m
-      step k p u q = rw (opened o, q, ← ec, ne_eqb _ _ i) refl
+  pub branch_short : t ≡ true → (v : Parsed) (q : Stuck) (p : ℕ) (y z z' : List ℕ) → PartRead front_words (f n) s n (Ok v) p y z
+      → ByteRead s v.next 38 (Err q) → PartRead rear_words whole s at (Err q) put e z'
+  unfolding branch_by bind
+  branch_short o v q p y z z' g b =
+      let r = read_of front_words (f n) v g.same in
+      stop_stuck (branch_by f end s) s whole at n w put e x h q z' (λ k. rw (opened o, followed_short s 38 (f n) v.next q r.0 r.1 b) refl)
 
-  pub branch_stuck : t ≡ true → (q p : ℕ) (y z z' : List ℕ) → PartRead front_words (f n) s n (Stuck q) p y z → PartRead rear_words whole s at (Stuck q) put e z'
+  pub branch_stuck : t ≡ true → (q : Stuck) (p : ℕ) (y z z' : List ℕ) → PartRead front_words (f n) s n (Err q) p y z
+      → PartRead rear_words whole s at (Err q) put e z'
   unfolding branch_by bind followed
   branch_stuck o q p y z z' g =
       let r = stuck_of front_words (f n) q g.same in
@@ -166,12 +166,12 @@ module _ (f : ℕ → Parse Front) (end : ℕ → Parse Rear) (s : List ℕ) (wh
   unfolding branch_by bind followed
   done o k = let z : opens_factor (get_or s n 0) ≡ false = ap opens_factor (sym eb) ∙ sym et ∙ o in rw z refl
 
-  pub branch_end : t ≡ false → (m v : ℕ) (y : List ℕ) → PartRead rear_words (end n) s n (Read m v) (put + w) x y
-      → PartRead rear_words whole s at (Read m (w + v)) put e y
-  branch_end o m v y g = stop_read (branch_by f end s) s whole at n w put e x h (end n) m v y (λ k r q. done o k ∙ q) g
+  pub branch_end : t ≡ false → (v : Parsed) (y : List ℕ) → PartRead rear_words (end n) s n (Ok v) (put + w) x y
+      → PartRead rear_words whole s at (Ok (record { next = v.next; count = w + v.count })) put e y
+  branch_end o v y g = stop_read (branch_by f end s) s whole at n w put e x h (end n) v y (λ k r q. done o k ∙ q) g
 
-  pub branch_end_stuck : t ≡ false → (q p : ℕ) (y z z' : List ℕ) → PartRead rear_words (end n) s n (Stuck q) p y z
-      → PartRead rear_words whole s at (Stuck q) put e z'
+  pub branch_end_stuck : t ≡ false → (q : Stuck) (p : ℕ) (y z z' : List ℕ) → PartRead rear_words (end n) s n (Err q) p y z
+      → PartRead rear_words whole s at (Err q) put e z'
   branch_end_stuck o q p y z z' g =
       stop_stuck (branch_by f end s) s whole at n w put e x h q z' (λ k. done o k ∙ stuck_of rear_words (end n) q g.same)
 
@@ -186,21 +186,22 @@ module _ (p : ℕ → Parse Rear) (s : List ℕ) (whole : Parse Rear) (at n w pu
   unfolding bind
   last k m q u c r ec i = rw (r, ← ec, ne_eqb _ _ i) refl
 
-  pub rear_more : (m v c : ℕ) (y z : List ℕ) → PartRead rear_words (p n) s n (Read m v) (put + w) x y → c ≡ get_or s m 0 → c ≡ 124
-      → length z ≡ length x → Inserted y (put + w) v 655360 z → Prefixed (rear_by p s) s whole at (m + 1) (w + v + 1) put e z
+  pub rear_more : (v : Parsed) (c k : ℕ) (y z : List ℕ) → PartRead rear_words (p n) s n (Ok v) (put + w) x y → c ≡ get_or s v.next 0 → c ≡ 124
+      → length z ≡ length x → Inserted y (put + w) v.count 655360 z → k ≡ w + v.count + 1 → Prefixed (rear_by p s) s whole at (v.next + 1) k put e z
   unfolding rear_by bind rear_words
-  rear_more m v c y z g ec i lz ins =
-      let r = read_of rear_words (p n) m v g.same in
-      turn (rear_by p s) s whole at n w put e x h m v (rear_or r.0) (655360 ∷ rear_words r.0) z (omega (arith, r.2)) (λ q. refl)
-      g.within.0 (inside s m (omega arith)) g.within.2 (λ k. step k m (p n) r.0 c r.1 ec i) lz
-      (λ o. before x (put + w) (rear_words r.0) 655360 v y z (sym r.2) (omega (arith, r.2)) (g.out m r.0 r.1 (omega arith)) ins)
+  rear_more v c k y z g ec i lz ins ek =
+      let r = read_of rear_words (p n) v g.same in
+      rw ek
+      (turn (rear_by p s) s whole at n w put e x h v.next v.count (rear_or r.0) (655360 ∷ rear_words r.0) z (omega (arith, r.2)) (λ q. refl)
+      g.within.0 (inside s v.next (omega arith)) g.within.2 (λ k. step k v.next (p n) r.0 c r.1 ec i) lz
+      (λ o. before x (put + w) (rear_words r.0) 655360 v.count y z (sym r.2) (omega (arith, r.2)) (g.out v.next r.0 r.1 (omega arith)) ins))
 
-  pub rear_last : (m v c : ℕ) (y : List ℕ) → PartRead rear_words (p n) s n (Read m v) (put + w) x y → c ≡ get_or s m 0 → (c ≡ 124 → ⊥)
-      → PartRead rear_words whole s at (Read m (w + v)) put e y
+  pub rear_last : (v : Parsed) (c : ℕ) (y : List ℕ) → PartRead rear_words (p n) s n (Ok v) (put + w) x y → c ≡ get_or s v.next 0 → (c ≡ 124 → ⊥)
+      → PartRead rear_words whole s at (Ok (record { next = v.next; count = w + v.count })) put e y
   unfolding rear_by bind
-  rear_last m v c y g ec i = stop_read (rear_by p s) s whole at n w put e x h (p n) m v y (λ k u q. last k m (p n) u c q ec i) g
+  rear_last v c y g ec i = stop_read (rear_by p s) s whole at n w put e x h (p n) v y (λ k u q. last k v.next (p n) u c q ec i) g
 
-  pub rear_stuck : (q i : ℕ) (y z z' : List ℕ) → PartRead rear_words (p n) s n (Stuck q) i y z → PartRead rear_words whole s at (Stuck q) put e z'
+  pub rear_stuck : (q : Stuck) (i : ℕ) (y z z' : List ℕ) → PartRead rear_words (p n) s n (Err q) i y z → PartRead rear_words whole s at (Err q) put e z'
   unfolding rear_by bind
   rear_stuck q i y z z' g =
       let r = stuck_of rear_words (p n) q g.same in

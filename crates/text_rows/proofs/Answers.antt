@@ -6,7 +6,8 @@ use mathlib.Core.Option.{none, some}
 use mathlib.Core.List.{List}
 use lib.Dec.{leb, leb→le}
 use mir.Facts.{and_yes}
-use lib.ListN.{length}
+use lib.ListN.{length, take, replicate, length-replicate}
+use lib.Seq.{length-take-le}
 use Rattle.questions.specs.Questions.{Answer, question1, question2}
 use Rattle.questions.proofs.Laws.Answers.{first_yes, later_yes, ask_passed}
 use Rattle.questions.specs.Refusals.{refusal_of}
@@ -15,18 +16,16 @@ use Rattle.rungs.specs.Records.{RungRecord, most_records, none_entered}
 use Rattle.rungs.specs.Buffers.{Buffers, buffers, as_buffers, written}
 use Rattle.rungs.proofs.Laws.Layout.{lay_length}
 use Rattle.rows.specs.Parts.{scattered}
-use Rattle.rows.proofs.Laws.Written.{same_asked, few_written, within_written, fields, same_refused, same_written}
+use Rattle.rows.proofs.Laws.Written.{same_asked, few_written, within_written, fields, same_written}
 use Rattle.ladder_definitions.specs.Tree.{Ladder}
 use Rattle.ladder_definitions.specs.Kept.{rung_words, encode}
 use Rattle.ladder_definitions.specs.Questions.{sizes_in_range, question5}
 use Rattle.text_grammar.specs.Questions.{question3}
-use Rattle.text_definitions.specs.Read.{text_ladder, kept, read_text, ReadDone, text_read_answer}
+use Rattle.text_definitions.specs.Read.{TextRead, text_ladder, kept, read_text, ReadDone, text_read_answer}
 use Rattle.text_definitions.proofs.Laws.Reads.{not_both, before, asked, call_refused, call_kept_lem, all_yes, rungs_count}
 use Rattle.text_definitions.specs.declared.Counts.{Counts}
-use Rattle.text_definitions.specs.declared.TextRead.{TextRead}
-use Rattle.text_definitions.specs.declared.TextRead.TheVariants.{Kept as KeptCase, Refused as RefusedCase}
-use Rattle.text_rows.specs.Parts.{FieldsRead}
-use Rattle.text_rows.specs.declared.ReadFields.{ReadFields}
+use Rattle.rows.specs.declared.Rows.{Rows}
+use Rattle.std.specs.Prelude.{Ok, Err}
 
 module _ (vars : ℕ) (text : List ℕ) where
   abbrev gs : Ladder
@@ -53,39 +52,31 @@ module _ (vars : ℕ) (text : List ℕ) where
   -- Read, done on a copy of as many fields as a row of `lent` records has room for
   module _ (words : List ℕ) (lent : ℕ) (zl zo zn zt : List ℕ)
       (el : length zl ≡ min most_records lent) (eo : length zo ≡ min most_records lent) (en : length zn ≡ min most_records lent) (et : length zt ≡ min most_records lent)
-      (r : TextRead) (words' ls os ns times' : List ℕ) (done : ReadDone (read_text vars text (buffers words zl zo zn zt)) r (buffers words' ls os ns times')) (rest : List ℕ) where
+      (r : TextRead) (words' ls os ns times' : List ℕ) (done : ReadDone (read_text vars text (buffers words zl zo zn zt)) r (buffers words' ls os ns times')) where
     abbrev lends : Buffers
     lends = buffers words zl zo zn zt
-
-    abbrev fields_read : TextRead → ℕ → ReadFields
-    fields_read answer k = record { answer = answer; rows = fields (before vars text) nw ks few_rungs words lent zl zo zn zt el eo en et words' ls os ns times' rest k }
-
-    abbrev RowDone : ReadFields → Type 0
-    RowDone x = (rs : List RungRecord) (ts : List ℕ) → length rs ≡ lent → length ts ≡ length rs → ReadDone (read_text vars text (as_buffers words rs ts)) x.answer (as_buffers words' (scattered x.rows.kept x.rows rs) (written (none_entered x.rows.kept) ts))
 
     still_asked : (rs : List RungRecord) (ts : List ℕ) → length rs ≡ lent → length ts ≡ length rs → asked vars text lends ≡ asked vars text (as_buffers words rs ts)
     still_asked = same_asked (before vars text) nw ks few_rungs words lent zl zo zn zt el eo en et
 
-    module _ (x : RefusalCase) (is : r ≡ RefusedCase x) where
-      refused_done : RowDone (fields_read r 0)
-      unfolding text_read_answer
-      refused_done rs ts e f = go (asked vars text lends) refl
-        where
-          go : (a : Answer) → asked vars text lends ≡ a → ReadDone (read_text vars text (as_buffers words rs ts)) r (as_buffers words' (scattered 0 (fields_read r 0).rows rs) (written (none_entered 0) ts))
-          go (some y) q =
-              let small = call_refused vars text lends y q in
-              let whole = call_refused vars text (as_buffers words rs ts) y (sym (still_asked rs ts e f) ∙ q) in
-              record {
-                answer = done.answer ∙ ap (λ k. k.answer) small ∙ sym (ap (λ k. k.answer) whole);
-                same_buffers = same_refused (before vars text) nw ks few_rungs words lent zl zo zn zt el eo en et words' ls os ns times' rest (done.same_buffers ∙ ap (λ k. k.buffers) small) rs ts
-                    ∙ sym (ap (λ k. k.buffers) whole);
-              }
-          go none q = absurd (not_both _ _ (refusal_of x) (sym (ap (λ k. k.answer) (call_kept_lem vars text lends q)) ∙ sym done.answer ∙ ap text_read_answer is))
+    -- a refusal writes nothing
+    pub row_refused : (x : RefusalCase) → r ≡ Err x → (rs : List RungRecord) (ts : List ℕ) → length rs ≡ lent → length ts ≡ length rs
+        → ReadDone (read_text vars text (as_buffers words rs ts)) (Err x) (as_buffers words' rs ts)
+    unfolding text_read_answer
+    row_refused x is rs ts e f = go (asked vars text lends) refl
+      where
+        go : (a : Answer) → asked vars text lends ≡ a → ReadDone (read_text vars text (as_buffers words rs ts)) (Err x) (as_buffers words' rs ts)
+        go (some y) q =
+            let small = call_refused vars text lends y q in
+            let whole = call_refused vars text (as_buffers words rs ts) y (sym (still_asked rs ts e f) ∙ q) in
+            let same = done.same_buffers ∙ ap (λ k. k.buffers) small in
+            record {
+              answer = ap text_read_answer (sym is) ∙ done.answer ∙ ap (λ k. k.answer) small ∙ sym (ap (λ k. k.answer) whole);
+              same_buffers = (λ i. as_buffers (same i).words rs ts) ∙ sym (ap (λ k. k.buffers) whole);
+            }
+        go none q = absurd (not_both _ _ (refusal_of x) (sym (ap (λ k. k.answer) (call_kept_lem vars text lends q)) ∙ sym done.answer ∙ ap text_read_answer is))
 
-      pub read_refused_lem : FieldsRead vars text words lent (fields_read r 0) words'
-      read_refused_lem = record { same = refused_done; few = omega arith; within = omega arith }
-
-    module _ (c : Counts) (is : r ≡ KeptCase c) (same-l : length ls ≡ length zl) (same-o : length os ≡ length zo) (same-n : length ns ≡ length zn) where
+    module _ (c : Counts) (is : r ≡ Ok c) where
       answer_is : (read_text vars text lends).answer ≡ kept c.words c.rungs
       unfolding text_read_answer
       answer_is = sym done.answer ∙ ap text_read_answer is
@@ -96,19 +87,29 @@ module _ (vars : ℕ) (text : List ℕ) where
       rungs_are : c.rungs ≡ length ks
       rungs_are = rungs_count vars text lends c.words c.rungs answer_is ∙ sym rungs_laid
 
-      kept_done : RowDone (fields_read (KeptCase c) (length ks))
-      kept_done rs ts e f =
-          let small = call_kept_lem vars text lends was_kept in
-          let whole = call_kept_lem vars text (as_buffers words rs ts) (sym (still_asked rs ts e f) ∙ was_kept) in
-          record {
-            answer = ap text_read_answer (sym is) ∙ done.answer ∙ ap (λ k. k.answer) small ∙ sym (ap (λ k. k.answer) whole);
-            same_buffers = same_written (before vars text) nw ks few_rungs words lent zl zo zn zt el eo en et words' ls os ns times' rest (done.same_buffers ∙ ap (λ k. k.buffers) small) same-l same-o same-n rs ts
-                ∙ sym (ap (λ k. k.buffers) whole);
-          }
+      pub rungs_few : (c.rungs ≤ most_records) × (c.rungs ≤ lent)
+      rungs_few = rw rungs_are (
+        few_written (before vars text) nw ks few_rungs words lent zl zo zn zt el eo en et was_kept,
+        within_written (before vars text) nw ks few_rungs words lent zl zo zn zt el eo en et was_kept,
+      )
 
-      pub read_kept : FieldsRead vars text words lent (fields_read (KeptCase c) c.rungs) words'
-      read_kept = subst (λ (k : ℕ). FieldsRead vars text words lent (fields_read (KeptCase c) k) words') (sym rungs_are) (record {
-        same = kept_done;
-        few = few_written (before vars text) nw ks few_rungs words lent zl zo zn zt el eo en et was_kept;
-        within = within_written (before vars text) nw ks few_rungs words lent zl zo zn zt el eo en et was_kept;
-      })
+      -- the records that are kept go into the row, with times of 0
+      module _ (same-l : length ls ≡ length zl) (same-o : length os ≡ length zo) (same-n : length ns ≡ length zn) (rest : List ℕ) where
+        abbrev rows_read : Rows
+        rows_read = fields (before vars text) nw ks few_rungs words lent zl zo zn zt el eo en et words' ls os ns times' rest
+
+        kept_done : (rs : List RungRecord) (ts : List ℕ) → length rs ≡ lent → length ts ≡ length rs
+            → ReadDone (read_text vars text (as_buffers words rs ts)) (Ok c) (as_buffers words' (scattered (length ks) rows_read rs) (written (none_entered (length ks)) ts))
+        kept_done rs ts e f =
+            let small = call_kept_lem vars text lends was_kept in
+            let whole = call_kept_lem vars text (as_buffers words rs ts) (sym (still_asked rs ts e f) ∙ was_kept) in
+            record {
+              answer = ap text_read_answer (sym is) ∙ done.answer ∙ ap (λ k. k.answer) small ∙ sym (ap (λ k. k.answer) whole);
+              same_buffers = same_written (before vars text) nw ks few_rungs words lent zl zo zn zt el eo en et words' ls os ns times' rest (done.same_buffers ∙ ap (λ k. k.buffers) small) same-l same-o same-n rs ts
+                  ∙ sym (ap (λ k. k.buffers) whole);
+            }
+
+        pub row_kept : (rs rs' : List RungRecord) (ts ts' : List ℕ) → length rs ≡ lent → length ts ≡ length rs → rs' ≡ scattered c.rungs rows_read rs
+            → ts' ≡ written (none_entered c.rungs) ts → ReadDone (read_text vars text (as_buffers words rs ts)) (Ok c) (as_buffers words' rs' ts')
+        row_kept rs rs' ts ts' e f p q =
+            rw (p ∙ ap (λ (n : ℕ). scattered n rows_read rs) rungs_are, q ∙ ap (λ (n : ℕ). written (none_entered n) ts) rungs_are) (kept_done rs ts e f)

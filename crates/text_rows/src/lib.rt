@@ -1,34 +1,52 @@
 // Read into one lent row of rung records. Document 01, "Text": "Read returns word and rung counts and writes words and records likewise."
 #![tactic(auto)]
 
-ghost use Rattle.std.specs.Prelude.{◌≡◌};
-ghost use Rattle.rungs.specs.Buffers.{as_buffers};
+ghost use Rattle.rungs.specs.Buffers.{buffers, as_buffers};
 ghost use Rattle.rows.specs.Rows.{records_of, times_of};
 ghost use Rattle.text_definitions.specs.Read.{read_text, ReadDone};
-ghost use Rattle.text_rows.specs.Parts.{FieldsRead};
 
+use questions::Refusal;
 use rows::{Rows, Rung};
-use rungs::MOST_RECORDS;
-use text_definitions::TextRead;
+use rungs::{Buffers, MOST_RECORDS};
+use text_definitions::Counts;
 
-// What Read answers, and the fields of the records that it writes: as many as `rows` keeps. Their times are 0, which `scatter`
-// puts.
-#[derive(Clone, Copy)]
-pub struct ReadFields {
-    pub answer: TextRead,
-    pub rows: Rows,
+// Read, into the slices lent. They are lent one by one, since the beginning of an array, lent within a struct, is not known afterwards.
+fn read_fields(
+    vars: u32,
+    text: &[u8],
+    words: &mut [u32],
+    labels: &mut [u16],
+    offsets: &mut [u32],
+    lengths: &mut [u32],
+    times: &mut [u32],
+) -> Result<Counts, Refusal>
+    ensures { ReadDone (read_text vars text.now
+        (buffers words.old labels.old offsets.old lengths.old times.old)) result
+        (buffers words.new labels.new offsets.new lengths.new times.new) }
+{
+    let mut lent = Buffers {
+        words,
+        labels,
+        offsets,
+        lengths,
+        times,
+    };
+    text::read(vars, text, &mut lent)
 }
 
-// Read, into a copy of the fields of a row of `lent` records.
-fn read_fields(vars: u32, text: &[u8], words: &mut [u32], lent: usize) -> ReadFields
-    ensures { FieldsRead vars text.now words.old lent result words.new }
+// Read, into a copy of the fields of as many records as the row has, or 256: a refusal writes no record. Their times are 0, which `scatter`
+// puts.
+pub fn read(vars: u32, text: &[u8], words: &mut [u32], row: &mut [Rung]) -> Result<Counts, Refusal>
+    ensures { ReadDone (read_text vars text.now
+        (as_buffers words.old (records_of row.old) (times_of row.old))) result
+        (as_buffers words.new (records_of row.new) (times_of row.new)) }
 {
-    let mut labels = [0u16; MOST_RECORDS];
-    let mut offsets = [0u32; MOST_RECORDS];
-    let mut lengths = [0u32; MOST_RECORDS];
-    let mut times = [0u32; MOST_RECORDS];
-    let room = rows::room(lent);
-    let answer = text::read(
+    let room = MOST_RECORDS.min(row.len());
+    let mut labels = [0; MOST_RECORDS];
+    let mut offsets = [0; MOST_RECORDS];
+    let mut lengths = [0; MOST_RECORDS];
+    let mut times = [0; MOST_RECORDS];
+    let counts = read_fields(
         vars,
         text,
         words,
@@ -36,49 +54,13 @@ fn read_fields(vars: u32, text: &[u8], words: &mut [u32], lent: usize) -> ReadFi
         &mut offsets[..room],
         &mut lengths[..room],
         &mut times[..room],
-    );
-    let kept = match answer {
-        TextRead::Kept(counts) => counts.rungs,
-        TextRead::Refused(_) => 0,
+    )?;
+    let rows = Rows {
+        labels,
+        offsets,
+        lengths,
+        n: row.len(),
     };
-    ReadFields {
-        answer,
-        rows: Rows {
-            labels,
-            offsets,
-            lengths,
-            n: lent,
-            kept,
-        },
-    }
-}
-
-fn rows_of(done: ReadFields) -> Rows
-    ensures { result ≡ done.rows }
-{
-    done.rows
-}
-
-fn kept_of(done: ReadFields) -> usize
-    ensures { result ≡ done.rows.kept }
-{
-    let rows = done.rows;
-    rows.kept
-}
-
-fn answer_of(done: ReadFields) -> TextRead
-    ensures { result ≡ done.answer }
-{
-    done.answer
-}
-
-// Read.
-pub fn read(vars: u32, text: &[u8], words: &mut [u32], row: &mut [Rung]) -> TextRead
-    ensures { ReadDone (read_text vars text.now
-        (as_buffers words.old (records_of row.old) (times_of row.old))) result
-        (as_buffers words.new (records_of row.new) (times_of row.new)) }
-{
-    let done = read_fields(vars, text, words, row.len());
-    rows::scatter(row, rows_of(done), kept_of(done));
-    answer_of(done)
+    rows::scatter(row, &rows, counts.rungs);
+    Ok(counts)
 }

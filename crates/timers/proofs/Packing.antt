@@ -1,53 +1,30 @@
 -- Laws of the loops between five slices and numbers. Assumes nothing.
-use Rattle.std.proofs.Common.{◌≡◌, ℕ, zero, suc, ◌+◌, ◌*◌, ◌<◌, ◌≤◌, false, T, leb, List, [], ◌∷◌, ◌++◌, map, length, get_or, take, drop, set, sym, refl, ap, ◌∙◌, arith, length-set, drop_of_length-le, get_or-drop, drop-cons, get_or-set_other, get_or-set_same, drop-drop, take_at, ext_get_or, eq-eqb, ne_eqb}
-use native.Mathlib.Decide.{ℕ_discrete}
+use Rattle.std.proofs.Common.{◌≡◌, ℕ, zero, suc, ◌+◌, ◌*◌, ◌<◌, ◌≤◌, T, List, [], ◌∷◌, ◌++◌, map, length, get_or, take, drop, set, sym, refl, ap, ◌∙◌, arith, length-set, drop_of_length-le, get_or-drop, drop-cons, get_or-set_other, get_or-set_same, append_assoc, take_at, ext_get_or}
+use native.Mathlib.Decide.{ℕ_discrete, dec_lt}
+use borrow.Author.Count.{below_more}
 use mathlib.Core.Option.{some}
 use mathlib.Core.List.{flat_map}
-use lib.ListN.{get_elem?, length-map}
+use lib.ListN.{get_or-eq_default, get_elem?, length-map}
 use lib.Seq.{sets, sets-eq}
+use Rattle.std.proofs.lemmas.List.{drop-drop}
 use Rattle.questions.specs.Tests.{all}
 use Rattle.questions.proofs.Laws.Stores.{sets_append}
 use Rattle.questions.proofs.Laws.Tests.{none_some, all_head, all_tail}
 use Rattle.table.specs.Timer.{Timer}
-use Rattle.table.specs.Questions.{most_timers}
 use Rattle.table.specs.TimerRecords.{Columns, joined, numbers_of, timer_numbers, timers_in}
-use Rattle.timers.specs.Parts.{timer_at, flag_bytes, can_pack, Packable, Packed, Unpackable, Unpacked}
+use Rattle.timers.specs.Parts.{timer_at, flag_bytes, Packable, Packed, Unpackable, Unpacked}
 use Rattle.timers.proofs.Laws.Places.{record_there}
 use Rattle.timers.proofs.Laws.Numbers.{numbers_length, five_length}
 use Rattle.timers.proofs.Laws.Columns.{Lengths, one_length_lem, joined_length, column_timers_lem}
 use Rattle.timers.proofs.Laws.Flags.{running_byte, done_byte, joined_bytes}
 
--- ---- lengths
-
-module _ (p s v r d : ℕ) where
-  pub pack_start : (s ≡ p → ⊥) → false ≡ can_pack p s v r d
-  pack_start a = rw (ne_eqb s p a) refl
-
-  module _ (a : s ≡ p) where
-    pub pack_variable : (v ≡ p → ⊥) → false ≡ can_pack p s v r d
-    pack_variable b = rw (eq-eqb s p a, ne_eqb v p b) refl
-
-    module _ (b : v ≡ p) where
-      pub pack_running : (r ≡ p → ⊥) → false ≡ can_pack p s v r d
-      pack_running c = rw (eq-eqb s p a, eq-eqb v p b, ne_eqb r p c) refl
-
-      module _ (c : r ≡ p) where
-        pub pack_done : (d ≡ p → ⊥) → false ≡ can_pack p s v r d
-        pack_done f = rw (eq-eqb s p a, eq-eqb v p b, eq-eqb r p c, ne_eqb d p f) refl
-
-        pub pack_few : d ≡ p → leb p most_timers ≡ can_pack p s v r d
-        pack_few f = rw (eq-eqb s p a, eq-eqb v p b, eq-eqb r p c, eq-eqb d p f) refl
-
 -- ---- one record's numbers
 
-pub five_sets : (ns : List ℕ) (at p s v r d : ℕ)
-    → set (set (set (set (set ns at p) (at + 1) s) (at + 2) v) (at + 3) r) (at + 4) d ≡ sets ns at (p ∷ s ∷ v ∷ r ∷ d ∷ [])
-five_sets ns at p s v r d =
-    let a : at + 1 ≡ suc at = omega arith in
-    let b : at + 2 ≡ suc (suc at) = omega arith in
-    let c : at + 3 ≡ suc (suc (suc at)) = omega arith in
-    let e : at + 4 ≡ suc (suc (suc (suc at))) = omega arith in
-    rw (a, b, c, e) refl
+-- five numbers that were copied over what stood there
+pub five_put : (ns five ys : List ℕ) (at k : ℕ) → at + 5 ≤ length ns → length five ≡ 5 → k ≡ 5 → ys ≡ five → take at ns ++ (ys ++ drop k (drop at ns)) ≡ sets ns at five
+five_put ns five ys at k h l e f =
+    let whole = rw append_assoc at (rw l at (sets-eq five ns at (omega arith))) in
+    rw (e, f, drop-drop) (sym whole)
 
 -- ---- all records' numbers
 
@@ -86,15 +63,25 @@ pub record Packing (c : Columns) (e x : List ℕ) (i : ℕ) : Type 0 where
   pub long : length x ≡ length e
   pub within : i ≤ length c.preset
   pub lengths : Lengths c
+  pub bytes : (k : ℕ) → k < i → (get_or c.running k 0 < 256) × (get_or c.done k 0 < 256)
+
+-- past the slices' end nothing stands
+in_bytes : (xs : List ℕ) → ((k : ℕ) → k < length xs → get_or xs k 0 < 256) → (k : ℕ) → get_or xs k 0 < 256
+in_bytes xs h k = go (dec_lt k (length xs))
+  where
+    go : Dec (k < length xs) → get_or xs k 0 < 256
+    go (yes l) = h k l
+    go (no l) = rw (get_or-eq_default xs 0 {n = k} (omega arith)) (omega arith)
 
 module _ (c : Columns) (e : List ℕ) where
   pub packing_start : Packable c e → Packing c e e 0
-  packing_start p = record { same = refl; long = refl; within = omega arith; lengths = one_length_lem c p.one }
+  packing_start p = record { same = refl; long = refl; within = omega arith; lengths = one_length_lem c p.one; bytes = λ k l. absurd (omega arith) }
 
   module _ (x : List ℕ) (i : ℕ) (h : Packing c e x i) where
-    pub packing_more : (y : List ℕ) → i < length c.preset → y ≡ sets x (i * 5) (numbers_of (timer_of c i)) → length y ≡ length x → Packing c e y (i + 1)
+    pub packing_more : (y : List ℕ) → i < length c.preset → y ≡ sets x (i * 5) (numbers_of (timer_of c i)) → length y ≡ length x
+        → (get_or c.running i 0 < 256) × (get_or c.done i 0 < 256) → Packing c e y (i + 1)
     unfolding timer_numbers flat_map numbers_of
-    packing_more y l q k =
+    packing_more y l q k b =
         let z : i * 5 + 5 ≡ (i + 1) * 5 = omega arith in
         let one = ap (λ ts. sets x (i * 5) (timer_numbers ts)) (from_more c i l) in
         let two = sets_append x (i * 5) (numbers_of (timer_of c i)) (timer_numbers (from c (i + 1))) in
@@ -105,23 +92,28 @@ module _ (c : Columns) (e : List ℕ) where
           long = k ∙ h.long;
           within = omega arith;
           lengths = h.lengths;
+          bytes = below_more _ i h.bytes b;
         }
 
-    pub packing_end : length c.preset ≤ i → Packable c e → ((k : ℕ) → get_or c.running k 0 < 256) → ((k : ℕ) → get_or c.done k 0 < 256) → Packed c (i * 5) x
+    pub packing_end : length c.preset ≤ i → Packable c e → Packed c (length c.preset * 5) x
     unfolding timer_numbers flat_map
-    packing_end l p f g =
+    packing_end l p =
         let w = h.within in
+        let runnings = h.lengths.running in
+        let dones = h.lengths.done in
+        let f = in_bytes c.running (λ k m. (h.bytes k (omega arith)).0) in
+        let g = in_bytes c.done (λ k m. (h.bytes k (omega arith)).1) in
         let n = timer_numbers (from c 0) in
         let is = column_timers_lem c p.one in
         let many = numbers_length (from c 0) in
         let count = joined_length c.preset c.start c.variable c.running c.done in
         let room = p.room in
-        let size : length n ≡ i * 5 = omega arith in
+        let size : length n ≡ length c.preset * 5 = omega arith in
         let put : sets e 0 n ≡ n ++ drop (0 + length n) e = sets-eq n e 0 (omega arith) in
         let done : x ≡ sets e 0 n = sym (ap (λ ts. sets x (i * 5) (timer_numbers ts)) (from_end c i l)) ∙ h.same in
         record {
           count = omega arith;
-          numbers = ap (take (i * 5)) (done ∙ put) ∙ take_at n (drop (0 + length n) e) (i * 5) size ∙ ap timer_numbers (sym is);
+          numbers = ap (take (length c.preset * 5)) (done ∙ put) ∙ take_at n (drop (0 + length n) e) (length c.preset * 5) size ∙ ap timer_numbers (sym is);
           flags = rw is (joined_bytes c.preset c.start c.variable c.running c.done f g);
         }
 
@@ -175,7 +167,7 @@ module _ (ns e f g : List ℕ) (p : Unpackable ns e f g) where
         dones = filled_start g _ (d ∙ sym (length-map (timers_in ns) (λ t. t.done) ∙ n));
       }
 
-  module _ (x y z : List ℕ) (i : ℕ) (h : Unpacking ns e f g x y z i) (l : i < length x) where
+  module _ (x y z : List ℕ) (i : ℕ) (h : Unpacking ns e f g x y z i) (l : i < length e) where
     pub unpacking_room : i * 5 + 5 ≤ length ns
     unpacking_room = let a = h.starts.long in let b = p.count in omega arith
 
@@ -196,12 +188,12 @@ module _ (ns e f g : List ℕ) (p : Unpackable ns e f g) where
         let r = p.runnings in
         let d = p.dones in
         record {
-          starts = filled_more e _ x i _ h.starts l (got_map (λ t. t.start) (timers_in ns) i _ there);
+          starts = filled_more e _ x i _ h.starts (omega arith) (got_map (λ t. t.start) (timers_in ns) i _ there);
           runnings = filled_more f _ y i _ h.runnings (omega arith) (got_map (λ t. t.running) (timers_in ns) i _ there);
           dones = filled_more g _ z i _ h.dones (omega arith) (got_map (λ t. t.done) (timers_in ns) i _ there);
         }
 
-  pub unpacking_end : (x y z : List ℕ) (i : ℕ) → Unpacking ns e f g x y z i → length x ≤ i → Unpacked ns x y z
+  pub unpacking_end : (x y z : List ℕ) (i : ℕ) → Unpacking ns e f g x y z i → length e ≤ i → Unpacked ns x y z
   unpacking_end x y z i h l =
       let a = h.starts.long in
       let b = h.runnings.long in
@@ -209,7 +201,7 @@ module _ (ns e f g : List ℕ) (p : Unpackable ns e f g) where
       let r = p.runnings in
       let d = p.dones in
       record {
-        starts = filled_end e _ x i h.starts l;
+        starts = filled_end e _ x i h.starts (omega arith);
         runnings = filled_end f _ y i h.runnings (omega arith);
         dones = filled_end g _ z i h.dones (omega arith);
       }

@@ -1,22 +1,19 @@
 -- What functions over timer records in one slice of numbers promise their callers. Assumes nothing.
-use Rattle.std.specs.Prelude.{◌≡◌, ℕ, ◌+◌, ◌*◌, ◌≤◌, Bool, true, not, ◌&&◌, T, List, map, length, take, ◌==◌, nat_le, nat_lt, slice_index, slice_set}
+use Rattle.std.specs.Prelude.{◌≡◌, ℕ, ◌+◌, ◌*◌, ◌≤◌, Bool, true, not, ◌&&◌, T, List, map, length, take, ◌==◌, nat_le, nat_lt, slice_index}
 use Rattle.questions.specs.Tests.{all}
 use Rattle.table.specs.Timer.{Timer}
-use Rattle.table.specs.State.{State, state_with}
 use Rattle.table.specs.Questions.{most_timers}
-use Rattle.table.specs.TimerRecords.{Columns, one_length, column_timers, timer_numbers, timers_in}
+use Rattle.table.specs.TimerRecords.{Columns, columns, one_length, column_timers, timer_numbers, timers_in}
+use Rattle.timers.specs.declared.Timer.{Timer as TimerStruct}
+use Rattle.timers.specs.declared.Columns.{Columns as ColumnsStruct}
 
 -- the record whose numbers begin at a place
 abbrev pub timer_at : List ℕ → ℕ → Timer
 timer_at ns at = record { preset = slice_index ns at; start = slice_index ns (at + 1); variable = slice_index ns (at + 2); running = slice_index ns (at + 3); done = slice_index ns (at + 4) }
 
--- the numbers with another start tick and other flags there
-abbrev pub put_timer : List ℕ → ℕ → Timer → List ℕ
-put_timer ns at t = slice_set (slice_set (slice_set ns (at + 1) t.start) (at + 3) t.running) (at + 4) t.done
-
--- from bytes t, numbers ns and a sum, the bytes u, the numbers ms and the sum r of a state that was changed so at a tick
-pub record StateChanged (vars tick : ℕ) (t ns : List ℕ) (moved : ℕ) (change : State → State) (r : ℕ) (u ms : List ℕ) : Type 0 where
-  pub same : state_with vars u (timers_in ms) tick r ≡ change (state_with vars t (timers_in ns) tick moved)
+-- the record that a struct holds
+abbrev pub timer_of : TimerStruct → Timer
+timer_of t = record { preset = t.preset; start = t.start; variable = t.variable; running = t.running; done = t.done }
 
 -- ---- question 16
 
@@ -29,6 +26,14 @@ other_variable v t = not (t.variable == v)
 -- slices of these lengths are of one length and hold at most 32 records
 abbrev pub can_pack : ℕ → ℕ → ℕ → ℕ → ℕ → Bool
 can_pack preset start variable running done = (start == preset && (variable == preset && (running == preset && done == preset))) && nat_le preset most_timers
+
+-- the same of the slices of records
+abbrev pub packs : Columns → Bool
+packs c = can_pack (length c.preset) (length c.start) (length c.variable) (length c.running) (length c.done)
+
+-- the slices that are lent
+abbrev pub columns_in : ColumnsStruct → Columns
+columns_in c = columns c.preset.now c.start.now c.variable.now c.running.now c.done.now
 
 -- both flags of a record fit a byte
 abbrev pub flag_bytes : Timer → Bool
@@ -57,3 +62,11 @@ pub record Unpacked (ns start running done : List ℕ) : Type 0 where
   pub starts : start ≡ map (λ t. t.start) (timers_in ns)
   pub runnings : running ≡ map (λ t. t.running) (timers_in ns)
   pub dones : done ≡ map (λ t. t.done) (timers_in ns)
+
+-- the same slices are lent: presets and variables as they were, and the places of the others, whatever stands there
+pub record SameSlices (before after : ColumnsStruct) : Type 0 where
+  pub preset : after.preset ≡ before.preset
+  pub variable : after.variable ≡ before.variable
+  pub start : after.start.ghost_name ≡ before.start.ghost_name
+  pub running : after.running.ghost_name ≡ before.running.ghost_name
+  pub done : after.done.ghost_name ≡ before.done.ghost_name

@@ -5,12 +5,15 @@
 ghost use Rattle.std.specs.Prelude.{◌≡◌, ◌+◌, ◌*◌, ◌^◌, ◌<◌, ◌≤◌, true, ◌||◌, [], ◌∷◌, length, drop, nat_eq, nat_le, slice_index};
 ghost use Rattle.std.proofs.lemmas.List.Edits.{sets};
 ghost use Rattle.questions.specs.Tests.{all, different, truth};
-ghost use Rattle.table.specs.Timer.{elapsed, started, powered};
+ghost use Rattle.table.specs.Timer.{started, tested, powered};
 ghost use Rattle.table.specs.State.{run_timer};
 ghost use Rattle.table.specs.Questions.{timer_below, timer_variables, timers_in_range};
-ghost use Rattle.table.specs.TimerRecords.{columns, timers_in, whole, number_timers};
-ghost use Rattle.timers.specs.Parts.{timer_at, put_timer, StateChanged, other_variable};
-ghost use Rattle.timers.specs.Parts.{can_pack, Packable, Packed, Unpackable, Unpacked};
+ghost use Rattle.table.specs.TimerRecords.{timers_in, whole, number_timers};
+ghost use Rattle.table.specs.Parts.{Changed};
+ghost use Rattle.timers.specs.Parts.{timer_of, timer_at, other_variable};
+ghost use Rattle.timers.specs.Parts.{columns_in, packs, Packable, Packed, Unpackable, Unpacked, SameSlices};
+
+use table::State;
 
 // "16 when there are more than 32 records"
 pub const MOST_TIMERS: usize = 32;
@@ -28,74 +31,119 @@ pub const RUNNING: usize = 3;
 
 pub const DONE: usize = 4;
 
-// "A timer not running takes `now` as its start, clears done and runs."
-fn start(timers: &mut [u32], at: usize, tick: u32)
+// A timer record. A flag is true where it is not 0.
+#[derive(Clone, Copy, PartialEq, Eq)]
+pub struct Timer {
+    pub preset: u32,
+    pub start: u32,
+    pub variable: u32,
+    pub running: u32,
+    pub done: u32,
+}
+
+impl Timer {
+    // The record whose numbers begin at a place.
+    fn at(state: &State, at: usize) -> Timer
+        requires { at + 5 ≤ length state.now.timers.now }
+        ensures { timer_of result ≡ timer_at state.now.timers.now at }
+    {
+        let timers = &state.timers;
+        Timer {
+            preset: timers[at],
+            start: timers[at + START],
+            variable: timers[at + VARIABLE],
+            running: timers[at + RUNNING],
+            done: timers[at + DONE],
+        }
+    }
+
+    // The record of the numbers that stand in five slices.
+    fn of(preset: u32, start: u32, variable: u16, running: u8, done: u8) -> Timer
+        ensures same { timer_of result ≡
+            record { preset = preset; start = start; variable = variable; running = running; done = done } }
+        ensures bytes { (running < 256) × (done < 256) }
+    {
+        Timer {
+            preset,
+            start,
+            variable: u32::from(variable),
+            running: u32::from(running),
+            done: u32::from(done),
+        }
+    }
+
+    // "A timer not running takes `now` as its start, clears done and runs."
+    fn started(self, tick: u32) -> Timer
+        ensures { timer_of result ≡ started tick (timer_of self) }
+    {
+        if self.running != 0 {
+            self
+        } else {
+            Timer {
+                start: tick,
+                running: 1,
+                done: 0,
+                ..self
+            }
+        }
+    }
+
+    // "It is done when (now − start) modulo 4,294,967,296 is at least the preset, and once done it remains so while powered."
+    fn tested(self, tick: u32) -> Timer
+        ensures { timer_of result ≡ tested tick (timer_of self) }
+    {
+        let elapsed = tick.wrapping_sub(self.start);
+        let done = self.done != 0 || self.preset <= elapsed;
+        Timer {
+            running: 1,
+            done: u32::from(done),
+            ..self
+        }
+    }
+
+    // What a timer does with power or without. Its flags are written as 0 or 1.
+    fn powered(self, tick: u32, power: bool) -> Timer
+        ensures { timer_of result ≡ powered tick power (timer_of self) }
+    {
+        if power {
+            self.started(tick).tested(tick)
+        } else {
+            Timer {
+                running: 0,
+                done: 0,
+                ..self
+            }
+        }
+    }
+}
+
+// The numbers of one record.
+pub fn put_timer(timers: &mut [u32], at: usize, timer: Timer)
     requires { at + 5 ≤ length timers.old }
-    ensures { timers.new ≡ put_timer timers.old at (started tick (timer_at timers.old at)) }
+    ensures { timers.new ≡ sets timers.old at
+        (timer.preset ∷ timer.start ∷ timer.variable ∷ timer.running ∷ timer.done ∷ []) }
 {
-    if timers[at + RUNNING] == 0 {
-        timers[at + START] = tick;
-        timers[at + RUNNING] = 1;
-        timers[at + DONE] = 0;
-    }
+    let Timer {
+        preset,
+        start,
+        variable,
+        running,
+        done,
+    } = timer;
+    timers[at..at + NUMBERS].copy_from_slice(&[preset, start, variable, running, done]);
 }
 
-// "It is done when (now − start) modulo 4,294,967,296 is at least the preset, and once done it remains so while powered."
-fn is_done(timers: &[u32], at: usize, tick: u32) -> bool
-    requires { at + 5 ≤ length timers.now }
-    ensures { result ≡ (truth (timer_at timers.now at).done
-        || nat_le (timer_at timers.now at).preset (elapsed tick (timer_at timers.now at).start)) }
-{
-    if timers[at + DONE] != 0 {
-        return true;
-    }
-    timers[at] <= std::num::wrapping_sub_u32(tick, timers[at + START])
-}
-
-// What a timer does with power or without. Its flags are written as 0 or 1; done is given.
-fn work(timers: &mut [u32], at: usize, power: bool, tick: u32) -> bool
-    requires { at + 5 ≤ length timers.old }
-    ensures { (result ≡ truth (powered tick power (timer_at timers.old at)).done)
-        × (timers.new ≡ put_timer timers.old at (powered tick power (timer_at timers.old at))) }
-{
-    if !power {
-        timers[at + RUNNING] = 0;
-        timers[at + DONE] = 0;
-        return false;
-    }
-    start(timers, at, tick);
-    let done = is_done(timers, at, tick);
-    timers[at + RUNNING] = 1;
-    if done {
-        timers[at + DONE] = 1;
-    } else {
-        timers[at + DONE] = 0;
-    }
-    done
-}
-
-// Works a timer and writes done to its variable; and gives how many times variables have been turned over. A number without a record does
-// nothing.
-pub fn run_timer(
-    vars: u32,
-    table: &mut [u8],
-    timers: &mut [u32],
-    number: usize,
-    power: bool,
-    tick: u32,
-    moved: u32,
-) -> u32
-    requires { (moved + 1 < 2 ^ 32) × (number < 65536) }
-    ensures { StateChanged vars tick table.old timers.old moved (λ s. run_timer s number power)
-        result table.new timers.new }
+// Works a timer and writes done to its variable. A number without a record does nothing.
+pub fn run_timer(state: &mut State, number: usize, power: bool)
+    requires { (state.old.moved + 1 < 2 ^ 32) × (number < 65536) }
+    ensures { Changed state.old state.new (λ s. run_timer s number power) }
 {
     let at = number * NUMBERS;
-    if timers.len() < at + NUMBERS {
-        return moved;
+    if at + NUMBERS <= state.timers.len() {
+        let timer = Timer::at(state, at).powered(state.tick, power);
+        put_timer(state.timers, at, timer);
+        state.write(timer.variable as usize, timer.done != 0);
     }
-    let variable = timers[at + VARIABLE] as usize;
-    let done = work(timers, at, power, tick);
-    table::write(vars, table, variable, done, moved)
 }
 
 // Whether every variable is below V.
@@ -103,28 +151,27 @@ fn all_below(vars: u32, timers: &[u32]) -> bool
     requires { whole timers.now ≡ true }
     ensures { result ≡ all (timer_below vars) (timers_in timers.now) }
 {
-    let mut at: usize = 0;
-    while at < timers.len() {
-        if vars <= timers[at + VARIABLE] {
+    for number in 0..timers.len() / NUMBERS {
+        let below = timers[number * NUMBERS + VARIABLE] < vars;
+        if !below {
             return false;
         }
-        at += NUMBERS;
     }
     true
 }
 
-// Whether no record after the one at a place has its variable.
-fn not_shared(timers: &[u32], from: usize) -> bool
-    requires { (from + 5 ≤ length timers.now) × (whole (drop (from + 5) timers.now) ≡ true) }
-    ensures { result ≡ all (other_variable (slice_index timers.now (from + 2)))
-        (timers_in (drop (from + 5) timers.now)) }
+// Whether no record after the one of a number has its variable.
+fn not_shared(timers: &[u32], number: usize) -> bool
+    requires { (number * 5 + 5 ≤ length timers.now) × (whole timers.now ≡ true) }
+    ensures { result ≡ all (other_variable (slice_index timers.now (number * 5 + 2)))
+        (timers_in (drop (number * 5 + 5) timers.now)) }
 {
-    let mut at = from + NUMBERS;
-    while at < timers.len() {
-        if timers[at + VARIABLE] == timers[from + VARIABLE] {
+    let variable = timers[number * NUMBERS + VARIABLE];
+    for later in number + 1..timers.len() / NUMBERS {
+        let shared = timers[later * NUMBERS + VARIABLE] == variable;
+        if shared {
             return false;
         }
-        at += NUMBERS;
     }
     true
 }
@@ -134,12 +181,10 @@ fn none_shared(timers: &[u32]) -> bool
     requires { whole timers.now ≡ true }
     ensures { result ≡ different nat_eq (timer_variables (timers_in timers.now)) }
 {
-    let mut at: usize = 0;
-    while at < timers.len() {
-        if !not_shared(timers, at) {
+    for number in 0..timers.len() / NUMBERS {
+        if !not_shared(timers, number) {
             return false;
         }
-        at += NUMBERS;
     }
     true
 }
@@ -148,99 +193,64 @@ fn none_shared(timers: &[u32]) -> bool
 pub fn timers_in_range(vars: u32, timers: &[u32]) -> bool
     ensures { result ≡ timers_in_range vars (number_timers timers.now) }
 {
-    if timers.len() % NUMBERS != 0 {
+    if !timers.len().is_multiple_of(NUMBERS) || MOST_NUMBERS < timers.len() {
         return false;
     }
-    if MOST_NUMBERS < timers.len() {
-        return false;
-    }
-    if !all_below(vars, timers) {
-        return false;
-    }
-    none_shared(timers)
+    all_below(vars, timers) && none_shared(timers)
 }
 
-// Whether slices of these lengths are of one length and hold at most 32 records.
-pub fn can_pack(preset: usize, start: usize, variable: usize, running: usize, done: usize) -> bool
-    ensures { result ≡ can_pack preset start variable running done }
-{
-    if start != preset {
-        return false;
-    }
-    if variable != preset {
-        return false;
-    }
-    if running != preset {
-        return false;
-    }
-    if done != preset {
-        return false;
-    }
-    preset <= MOST_TIMERS
+// The five slices that callers lend, an entry for each record.
+#[derive(Drop)]
+pub struct Columns<'a> {
+    pub preset: &'a [u32],
+    pub start: &'a mut [u32],
+    pub variable: &'a [u16],
+    pub running: &'a mut [u8],
+    pub done: &'a mut [u8],
 }
 
-// The numbers of one record.
-pub fn put_timer(
-    timers: &mut [u32],
-    at: usize,
-    preset: u32,
-    start: u32,
-    variable: u32,
-    running: u32,
-    done: u32,
-)
-    requires { at + 5 ≤ length timers.old }
-    ensures { timers.new
-        ≡ sets timers.old at (preset ∷ start ∷ variable ∷ running ∷ done ∷ []) }
-{
-    timers[at] = preset;
-    timers[at + START] = start;
-    timers[at + VARIABLE] = variable;
-    timers[at + RUNNING] = running;
-    timers[at + DONE] = done;
-}
-
-// The records of five slices as numbers, and how many numbers they are.
-pub fn pack(
-    preset: &[u32],
-    start: &[u32],
-    variable: &[u16],
-    running: &[u8],
-    done: &[u8],
-    timers: &mut [u32],
-) -> usize
-    requires { Packable (columns preset.now start.now variable.now running.now done.now) timers.old }
-    ensures { Packed
-        (columns preset.now start.now variable.now running.now done.now)
-        result timers.new }
-{
-    let mut i: usize = 0;
-    while i < preset.len() {
-        put_timer(
-            timers,
-            i * NUMBERS,
-            preset[i],
-            start[i],
-            variable[i] as u32,
-            running[i] as u32,
-            done[i] as u32,
-        );
-        i += 1;
+impl Columns<'_> {
+    // Whether the slices are of one length and hold at most 32 records.
+    pub fn can_pack(&self) -> bool
+        ensures { result ≡ packs (columns_in self.now) }
+    {
+        let records = self.preset.len();
+        self.start.len() == records
+            && self.variable.len() == records
+            && self.running.len() == records
+            && self.done.len() == records
+            && records <= MOST_TIMERS
     }
-    i * NUMBERS
-}
 
-// What a scan changes of records, back into three slices.
-pub fn unpack(timers: &[u32], start: &mut [u32], running: &mut [u8], done: &mut [u8])
-    requires { Unpackable timers.now start.old running.old done.old }
-    ensures { Unpacked timers.now start.new running.new done.new }
-{
-    let mut i: usize = 0;
-    while i < start.len() {
-        let at = i * NUMBERS;
-        start[i] = timers[at + START];
-        running[i] = timers[at + RUNNING] as u8;
-        done[i] = timers[at + DONE] as u8;
-        i += 1;
+    // The records as numbers, and how many numbers they are.
+    pub fn pack(&self, timers: &mut [u32]) -> usize
+        requires { Packable (columns_in self.now) timers.old }
+        ensures { Packed (columns_in self.now) result timers.new }
+    {
+        for i in 0..self.preset.len() {
+            let timer = Timer::of(
+                self.preset[i],
+                self.start[i],
+                self.variable[i],
+                self.running[i],
+                self.done[i],
+            );
+            put_timer(timers, i * NUMBERS, timer);
+        }
+        self.preset.len() * NUMBERS
+    }
+
+    // What a scan changes of records, back into three of the slices.
+    pub fn unpack(&mut self, timers: &[u32])
+        requires { Unpackable timers.now self.old.start.now self.old.running.now self.old.done.now }
+        ensures unpacked { Unpacked timers.now self.new.start.now self.new.running.now self.new.done.now }
+        ensures same { SameSlices self.old self.new }
+    {
+        for i in 0..self.start.len() {
+            let at = i * NUMBERS;
+            self.start[i] = timers[at + START];
+            self.running[i] = timers[at + RUNNING] as u8;
+            self.done[i] = timers[at + DONE] as u8;
+        }
     }
 }

@@ -1,8 +1,9 @@
 -- Laws of Translate: its questions in order, and what it writes. Assumes nothing.
-use Prim.Native.Nat.{ℕ, zero, suc, ◌≤◌, ◌<◌}
+use Prim.Native.Nat.{ℕ, zero, suc, ◌≤◌}
 use native.Mathlib.Omega.{arith}
 use mathlib.Core.Path.{◌≡◌, refl, sym, ap, ◌∙◌}
-use mathlib.Core.Bool.{false}
+use mathlib.Core.Bool.{true, false}
+use Rattle.std.specs.Prelude.{Ok, Err}
 use mathlib.Core.Option.{none, some}
 use mathlib.Core.List.{List, [], ◌∷◌, ◌++◌, map}
 use lib.ListN.{length, get_or, drop, replicate, length-replicate, length-map}
@@ -10,12 +11,13 @@ use lib.Seq.{sets, get_or-drop}
 use Rattle.questions.specs.Tests.{all}
 use Rattle.questions.specs.Questions.{ask, first_no, long_enough, question13}
 use Rattle.questions.specs.Refusals.{refusal_of}
+use Rattle.questions.proofs.Laws.Answers.{passed_ask}
 use Rattle.questions.specs.declared.Refusal.{Refusal as RefusalCase}
 use Rattle.questions.specs.declared.Refusal.TheVariants.{Buffer as BufferCase}
 use Rattle.rungs.specs.Records.{offsets, search}
-use Rattle.rungs.specs.Buffers.{Buffers, columns_of, as_buffers, needs, written}
+use Rattle.rungs.specs.Buffers.{Buffers, columns_of, as_buffers, needs, has_room, written}
 use Rattle.rungs.proofs.Laws.Layout.{lay_length}
-use Rattle.rungs.proofs.Laws.Filling.{written_sets, labels_count, offsets_count, lengths_count, times_count, short_words, short_labels, short_offsets, short_lengths, short_times, enough, put_written}
+use Rattle.rungs.proofs.Laws.Filling.{written_sets, labels_count, offsets_count, lengths_count, times_count, room_needs, roomy, put_written}
 use Rattle.ladder_definitions.specs.Tree.{Ladder}
 use Rattle.ladder_definitions.specs.Kept.{Kept, kept_of}
 use Rattle.ladder_definitions.specs.Questions.{most_rungs, ladder_of, ladder_answer}
@@ -28,7 +30,6 @@ use Rattle.translation_definitions.specs.TranslateKept.{list_buffers, counts_of,
 use Rattle.translation_definitions.proofs.Laws.Answers.{call_refused, call_written}
 use Rattle.translation_code.specs.Parts.{start_in}
 use Rattle.translation_layout.specs.Parts.{LadderReady, LaidOut, ListPut}
-use Rattle.translation_definitions.specs.declared.Translated.TheVariants.{Written as WrittenCase, Refused as RefusedCase}
 use Rattle.translation_layout.specs.declared.Layout.{Layout}
 
 -- ---- entries over zeros
@@ -69,11 +70,11 @@ module _ (vars : ℕ) (ws ls os ns ts : List ℕ) (lent : Buffers) where
   new = list_buffers (translate vars gs)
 
   refuses : (refusal : RefusalCase) → first_no (ladder_answer vars kept ∷ question13 (needs new lent) ∷ []) ≡ some (refusal_of refusal)
-      → TranslateDone (translate_kept vars kept lent) (RefusedCase refusal) lent
+      → TranslateDone (translate_kept vars kept lent) (Err refusal) lent
   unfolding translated_answer
   refuses refusal e = let c = call_refused vars kept lent (refusal_of refusal) e in record { answer = sym (ap (λ t. t.answer) c); same_buffers = sym (ap (λ t. t.buffers) c) }
 
-  pub translate_refused_lem : (refusal : RefusalCase) → ladder_answer vars kept ≡ some (refusal_of refusal) → TranslateDone (translate_kept vars kept lent) (RefusedCase refusal) lent
+  pub translate_refused_lem : (refusal : RefusalCase) → ladder_answer vars kept ≡ some (refusal_of refusal) → TranslateDone (translate_kept vars kept lent) (Err refusal) lent
   unfolding first_no
   translate_refused_lem refusal e = refuses refusal (rw e)
 
@@ -101,59 +102,41 @@ module _ (vars : ℕ) (ws ls os ns ts : List ℕ) (lent : Buffers) where
     times_many : length new.times ≡ length os
     times_many = times_count (map instr_word (translate vars gs).code) (translate vars gs).records ∙ records_many
 
-    short : all long_enough (needs new lent) ≡ false → TranslateDone (translate_kept vars kept lent) (RefusedCase BufferCase) lent
-    unfolding first_no question13 ask refusal_of
-    short e = refuses BufferCase (rw (ok, e))
-
     module _ (r : Layout) (e x : List ℕ) (laid : LaidOut vars ws ls os r e x) where
       words_many : length new.words ≡ r.instructions
       unfolding as_buffers translate
       words_many = length-map (translate vars gs).code instr_word ∙ sym (laid.instructions gs the_held)
 
-      pub short_of_code : length lent.words < r.instructions → TranslateDone (translate_kept vars kept lent) (RefusedCase BufferCase) lent
-      short_of_code h = short (short_words new lent (omega (arith, words_many)))
+      needs_room : all long_enough (needs new lent) ≡ has_room lent r.instructions (length os)
+      needs_room = room_needs new lent r.instructions (length os) words_many labels_many offsets_many lengths_many times_many
 
-      module _ (w : r.instructions ≤ length lent.words) where
-        pub short_of_labels : length lent.labels < length os → TranslateDone (translate_kept vars kept lent) (RefusedCase BufferCase) lent
-        short_of_labels h = short (short_labels new lent (omega (arith, words_many)) (omega (arith, labels_many)))
+      pub short : has_room lent r.instructions (length os) ≡ false → TranslateDone (translate_kept vars kept lent) (Err BufferCase) lent
+      unfolding first_no question13 ask refusal_of
+      short h = refuses BufferCase (rw (ok, needs_room, h))
 
-        module _ (l : length os ≤ length lent.labels) where
-          pub short_of_offsets : length lent.offsets < length os → TranslateDone (translate_kept vars kept lent) (RefusedCase BufferCase) lent
-          short_of_offsets h = short (short_offsets new lent (omega (arith, words_many)) (omega (arith, labels_many)) (omega (arith, offsets_many)))
+      module _ (room : has_room lent r.instructions (length os) ≡ true) where
+        asked : first_no (ladder_answer vars kept ∷ question13 (needs new lent) ∷ []) ≡ none
+        unfolding first_no question13 ask
+        asked = rw (ok, needs_room, room) refl
 
-          module _ (o : length os ≤ length lent.offsets) where
-            pub short_of_lengths : length lent.lengths < length os → TranslateDone (translate_kept vars kept lent) (RefusedCase BufferCase) lent
-            short_of_lengths h = short (short_lengths new lent (omega (arith, words_many)) (omega (arith, labels_many)) (omega (arith, offsets_many)) (omega (arith, lengths_many)))
+        -- the starts that were laid out are those of the list
+        starts_laid : e ≡ replicate most_rungs 0 → (i : ℕ) → start_in ls x i ≡ start_in ls (offsets (list_records vars gs)) i
+        unfolding start_in translate
+        starts_laid z i =
+            ap (λ s. get_or s (search i ls) 0) (laid.starts gs the_held ∙ ap (λ s. sets s 0 (offsets (list_records vars gs))) z)
+            ∙ over_zeros_lem (offsets (list_records vars gs)) most_rungs (search i ls) (omega (arith, length-map (list_records vars gs) (λ r. r.offset), records_many, rungs_many, (sized gs (accepted vars kept ok).1.sizes).rungs))
 
-            module _ (n : length os ≤ length lent.lengths) where
-              pub short_of_times : length lent.times < length os → TranslateDone (translate_kept vars kept lent) (RefusedCase BufferCase) lent
-              short_of_times h =
-                  short (short_times new lent (omega (arith, words_many)) (omega (arith, labels_many)) (omega (arith, offsets_many)) (omega (arith, lengths_many)) (omega (arith, times_many)))
-
-              module _ (m : length os ≤ length lent.times) where
-                asked : first_no (ladder_answer vars kept ∷ question13 (needs new lent) ∷ []) ≡ none
-                unfolding first_no question13 ask
-                asked =
-                    let f = enough new lent (omega (arith, words_many)) (omega (arith, labels_many)) (omega (arith, offsets_many)) (omega (arith, lengths_many)) (omega (arith, times_many)) in
-                    rw (ok, f) refl
-
-                -- the starts that were laid out are those of the list
-                starts_laid : e ≡ replicate most_rungs 0 → (i : ℕ) → start_in ls x i ≡ start_in ls (offsets (list_records vars gs)) i
-                unfolding start_in translate
-                starts_laid z i =
-                    ap (λ s. get_or s (search i ls) 0) (laid.starts gs the_held ∙ ap (λ s. sets s 0 (offsets (list_records vars gs))) z)
-                    ∙ over_zeros_lem (offsets (list_records vars gs)) most_rungs (search i ls) (omega (arith, length-map (list_records vars gs) (λ r. r.offset), records_many, rungs_many, (sized gs (accepted vars kept ok).1.sizes).rungs))
-
-                pub translate_done : e ≡ replicate most_rungs 0 → (after : Buffers) → ListPut vars ws ls os x (columns_of lent) (columns_of after)
-                    → after.times ≡ sets lent.times 0 (replicate (length os) 0)
-                    → TranslateDone (translate_kept vars kept lent) (WrittenCase (record { instructions = r.instructions; rungs = length os; longest = r.longest })) after
-                unfolding translated_answer counts_of translate as_buffers
-                translate_done z after put cleared =
-                    let counted = laid.instructions gs the_held in
-                    let c = call_written vars kept lent asked in
-                    record {
-                      answer = rw (c, counted, laid.longest gs the_held, ← records_many) refl;
-                      same_buffers = rw c
-                          (put_written new lent (omega (arith, words_many)) (omega (arith, labels_many)) (omega (arith, offsets_many)) (omega (arith, lengths_many)) (omega (arith, times_many)) after
-                          (put.wrote gs the_held (starts_laid z)) (cleared ∙ ap (λ (k : ℕ). sets lent.times 0 (replicate k 0)) (sym records_many)));
-                    }
+        pub translate_done : e ≡ replicate most_rungs 0 → (after : Buffers) → ListPut vars ws ls os x (columns_of lent) (columns_of after)
+            → after.times ≡ sets lent.times 0 (replicate (length os) 0)
+            → TranslateDone (translate_kept vars kept lent) (Ok (record { instructions = r.instructions; rungs = length os; longest = r.longest })) after
+        unfolding translated_answer counts_of translate as_buffers question13
+        translate_done z after put cleared =
+            let counted = laid.instructions gs the_held in
+            let c = call_written vars kept lent asked in
+            let fits = roomy new lent (rw (needs_room, room) (passed_ask 13 true tt)) in
+            record {
+              answer = rw (c, counted, laid.longest gs the_held, ← records_many) refl;
+              same_buffers = rw c
+                  (put_written new lent fits.words fits.labels fits.offsets fits.lengths fits.times after
+                  (put.wrote gs the_held (starts_laid z)) (cleared ∙ ap (λ (k : ℕ). sets lent.times 0 (replicate k 0)) (sym records_many)));
+            }

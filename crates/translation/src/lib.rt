@@ -1,74 +1,38 @@
 // The call Translate: from a kept ladder to its list. Document 01, "Translation".
 #![tactic(auto)]
 
-ghost use Rattle.ladder_definitions.specs.Kept.{kept_of};
-ghost use Rattle.rungs.specs.Buffers.{buffers};
+ghost use Rattle.ladder_definitions.specs.Kept.{kept_in};
+ghost use Rattle.rungs.specs.Buffers.{buffers_in, SameLoans};
 ghost use Rattle.translation_definitions.specs.TranslateKept.{translate_kept, TranslateDone};
 
-use questions::{Refusal, Verdict};
-use rungs::MOST_RECORDS;
-pub use translation_definitions::{Counts, Translated};
+use questions::Refusal;
+use rungs::{Buffers, MOST_RECORDS, Slices};
+pub use translation_definitions::Counts;
 
 // Translate.
 pub fn translate(
     vars: u32,
-    words: &[u32],
-    labels: &[u16],
-    offsets: &[u32],
-    lengths: &[u32],
+    ladder: Slices,
     times: &[u32],
-    code: &mut [u32],
-    code_labels: &mut [u16],
-    code_offsets: &mut [u32],
-    code_lengths: &mut [u32],
-    code_times: &mut [u32],
-) -> Translated
-    ensures { TranslateDone (translate_kept vars
-        (kept_of words.now labels.now offsets.now lengths.now times.now)
-        (buffers code.old code_labels.old code_offsets.old code_lengths.old
-        code_times.old)) result
-        (buffers code.new code_labels.new code_offsets.new code_lengths.new
-        code_times.new) }
+    list: &mut Buffers,
+) -> Result<Counts, Refusal>
+    ensures written { TranslateDone (translate_kept vars (kept_in ladder.entry times.now) (buffers_in list.old)) result
+        (buffers_in list.new) }
+    ensures same { SameLoans list.old list.new }
 {
-    match ladder::ladder_answer(vars, words, labels, offsets, lengths, times) {
-        Verdict::Refused(refusal) => {
-            return Translated::Refused(refusal);
-        }
-        Verdict::Accepted => {}
-    }
-    let mut starts = [0u16; MOST_RECORDS];
-    let layout = translation_layout::lay_out(vars, words, labels, offsets, &mut starts);
-    let rungs = offsets.len();
-    if code.len() < layout.instructions {
-        return Translated::Refused(Refusal::Buffer);
-    }
-    if code_labels.len() < rungs {
-        return Translated::Refused(Refusal::Buffer);
-    }
-    if code_offsets.len() < rungs {
-        return Translated::Refused(Refusal::Buffer);
-    }
-    if code_lengths.len() < rungs {
-        return Translated::Refused(Refusal::Buffer);
-    }
-    if code_times.len() < rungs {
-        return Translated::Refused(Refusal::Buffer);
-    }
-    translation_layout::write_list(
-        vars,
-        words,
-        labels,
-        offsets,
-        &starts,
-        code,
-        code_labels,
-        code_offsets,
-        code_lengths,
-    );
-    rungs::put_zeros(code_times, rungs);
-    Translated::Written(Counts {
+    ladder::ladder_answer(vars, ladder, times)?;
+    let mut starts = [0; MOST_RECORDS];
+    let layout = translation_layout::lay_out(vars, ladder, &mut starts);
+    let counts = Counts {
         instructions: layout.instructions,
-        rungs,
+        rungs: ladder.offsets.len(),
         longest: layout.longest,
-    })
+    };
+    let room = list.has_room(counts.instructions, counts.rungs);
+    if !room {
+        return Err(Refusal::Buffer);
+    }
+    translation_layout::write_list(vars, ladder, &starts, list);
+    rungs::put_zeros(list.times, counts.rungs);
+    Ok(counts)
 }

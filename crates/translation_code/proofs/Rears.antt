@@ -8,14 +8,17 @@ use mathlib.Core.List.{List, ◌∷◌, ◌++◌}
 use lib.ListN.{length, length-append, get_or, set}
 use Rattle.questions.specs.Questions.{most_variables}
 use Rattle.table.specs.State.{scratch_index}
-use Rattle.rungs.specs.Words.{word, number_of}
+use Rattle.rungs.specs.Words.{word, number_of, operand_of}
 use Rattle.ladder_definitions.specs.Tree.{Rear}
 use Rattle.ladder_definitions.specs.Questions.{most_words}
 use Rattle.ladder_definitions.specs.Kept.{output_sort, rear_and_sort, rear_or_sort, kind_sorts, kind_sort, rear_words, rung_words}
 use Rattle.ladder_definitions.proofs.Laws.Trees.{inside, starts_rear, output_only, rear_and_only, rear_or_only, no_rear_lem, rung_only}
+use Rattle.ladder_kinds.specs.Kinds.{kind_number}
+use Rattle.ladder_kinds.specs.declared.Kind.{Kind}
+use Rattle.ladder_kinds.specs.declared.Kind.TheVariants as the_kind
 use Rattle.list_definitions.specs.Instruction.{Instr, LD, ST, AND, ANDN, op_of, operand, operand_number, instr_word}
 use Rattle.translation_definitions.specs.Translate.{R, rung_code, code_bound}
-use Rattle.translation_code.specs.Parts.{CodePut, Within, FrontPut, JoinPut, start_in, OutputInstruction, RearPut, RungPut}
+use Rattle.translation_code.specs.Parts.{CodePut, Within, FrontPut, JoinPut, start_in, InstructionOf, RearPut, RungPut}
 use Rattle.translation_code.specs.declared.Positions.{Positions}
 use Rattle.translation_code.proofs.Fronts.{code_after, joins_and}
 
@@ -65,24 +68,43 @@ module _ (t vars : ℕ) (ws : List ℕ) (at depth put w : ℕ) (e : w ≡ get_or
       let go = g.onward in let gi = g.inside in let gf = g.few in
       (omega arith, (omega arith, omega arith, omega arith, omega arith))
 
+-- ---- a kind that no rear begins with
+
+pub no_rear_kind : (k : Kind) {n : ℕ} → kind_number k ≡ n → (k ≡ the_kind.RearAnd → ⊥) → (k ≡ the_kind.RearOr → ⊥) → (kind_sort (kind_number k) ≡ output_sort → ⊥)
+    → starts_rear (kind_sort n) ≡ false
+unfolding kind_number kind_sort kind_sorts
+no_rear_kind the_kind.Contact e a b o = rw (← e) refl
+no_rear_kind the_kind.NegatedContact e a b o = rw (← e) refl
+no_rear_kind the_kind.FrontAnd e a b o = rw (← e) refl
+no_rear_kind the_kind.FrontOr e a b o = rw (← e) refl
+no_rear_kind the_kind.Coil e a b o = absurd (o refl)
+no_rear_kind the_kind.NegatedCoil e a b o = absurd (o refl)
+no_rear_kind the_kind.Jump e a b o = absurd (o refl)
+no_rear_kind the_kind.NegatedJump e a b o = absurd (o refl)
+no_rear_kind the_kind.RearAnd e a b o = absurd (a refl)
+no_rear_kind the_kind.RearOr e a b o = absurd (b refl)
+no_rear_kind the_kind.SetCoil e a b o = absurd (o refl)
+no_rear_kind the_kind.ResetCoil e a b o = absurd (o refl)
+no_rear_kind the_kind.Timer e a b o = absurd (o refl)
+
 -- ---- a rear, by the sort of its word's kind
 
 module _ (vars : ℕ) (ws : List ℕ) (at depth : ℕ) (ls starts : List ℕ) (put w : ℕ) (e : w ≡ get_or ws at 0) where
   abbrev Put : Positions → List ℕ → List ℕ → Rear → Type 0
   Put r a x k = CodePut at (length (rear_words k)) put (R vars (start_in ls starts) k depth) r a x
 
-  pub rear_output : (i : ℕ) (a x : List ℕ) → kind_sort (number_of w) ≡ output_sort → OutputInstruction w ls starts i → x ≡ set a put i
+  pub rear_output : (i : ℕ) (a x : List ℕ) → InstructionOf (number_of w) (operand_of w) ls starts i → x ≡ set a put i
       → RearPut vars ws at depth ls starts put (record { next = at + 1; put = put + 1 }) a x
   unfolding rear_words R
-  rear_output i a x k h q = record {
+  rear_output i a x h q = record {
     within =
-        let l = rear_inside ws at w e (ap starts_rear k) in
+        let l = rear_inside ws at w e (ap starts_rear h.sort) in
         record { onward = omega arith; inside = omega arith; few = omega arith; on = omega arith };
-    done = output_only ws at w e (Put (record { next = at + 1; put = put + 1 }) a x) k (λ o n v.
+    done = output_only ws at w e (Put (record { next = at + 1; put = put + 1 }) a x) h.sort (λ o n v.
         record { next = refl; end = refl; wrote = q ∙ ap (set a put) (h.same o n v) });
   }
 
-  pub rear_and_lem : (j r : Positions) (a b x : List ℕ) → kind_sort (number_of w) ≡ rear_and_sort → JoinPut vars ws (at + 1) 5 depth put j a b
+  pub rear_and_lem : (j r : Positions) (a b x : List ℕ) → kind_sort (number_of w) ≡ rear_and_sort → JoinPut vars ws (at + 1) 5 6 depth put j a b
       → RearPut vars ws j.next depth ls starts j.put r b x → RearPut vars ws at depth ls starts put r a x
   unfolding rear_words R
   rear_and_lem j r a b x k g h = record {

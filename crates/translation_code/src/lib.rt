@@ -7,10 +7,12 @@ ghost use Rattle.std.specs.Prelude.{◌≡◌, ◌+◌, ◌-◌, ◌≤◌, ◌<
 ghost use Rattle.questions.specs.Questions.{most_variables};
 ghost use Rattle.rungs.specs.Words.{operands, word};
 ghost use Rattle.ladder_definitions.specs.Questions.{most_words};
+ghost use Rattle.list_ops.specs.Ops.{op_number};
 ghost use Rattle.translation_definitions.specs.Translate.{code_bound};
 ghost use Rattle.translation_code.specs.Parts.{OnePut, FrontPut, JoinPut, OutputOp, OutputInstruction, RearPut, RungPut, start_in};
 
-use ladder_kinds::KindSort;
+use ladder_kinds::Kind;
+use list_ops::Op;
 use rungs::OPERANDS;
 
 // The position after a part's words, and after its instructions.
@@ -20,20 +22,21 @@ pub struct Positions {
     pub put: usize,
 }
 
-// One instruction.
-fn put_instruction(code: &mut [u32], put: usize, op: u32, operand: u32)
-    requires { (op < operands) × (operand < operands) }
-    ensures { code.new ≡ set code.old put (word op operand) }
+// The word of an instruction.
+#[tactic(auto, using(crate::proofs::Outputs::op_few))]
+fn instruction(op: Op, operand: u32) -> u32
+    requires { operand < operands }
+    ensures { result ≡ word (op_number op) operand }
 {
-    rungs::put_word(code, put, op * OPERANDS + operand);
+    op.number() * OPERANDS + operand
 }
 
 // One instruction for the word at a position.
-fn put_one(code: &mut [u32], put: usize, at: usize, op: u32, operand: u32) -> Positions
-    requires { (op < operands) × (operand < operands) × (at < 2 ^ 32) × (put < 2 ^ 32) }
-    ensures { OnePut at put op operand result code.old code.new }
+fn put_one(code: &mut [u32], put: usize, at: usize, op: Op, operand: u32) -> Positions
+    requires { (operand < operands) × (at < 2 ^ 32) × (put < 2 ^ 32) }
+    ensures { OnePut at put (op_number op) operand result code.old code.new }
 {
-    put_instruction(code, put, op, operand);
+    rungs::put(code, put, instruction(op, operand));
     Positions {
         next: at + 1,
         put: put + 1,
@@ -54,62 +57,56 @@ fn front_code(
         × (put + code_bound (length words.now - at) < 2 ^ 31) }
     ensures { FrontPut vars words.now at depth put result code.old code.new }
 {
-    let word = rungs::word_at(words, at);
-    match word / OPERANDS {
-        ladder_kinds::CONTACT => put_one(code, put, at, list_ops::LD, word % OPERANDS),
-        ladder_kinds::NEGATED_CONTACT => put_one(code, put, at, list_ops::LDN, word % OPERANDS),
-        ladder_kinds::FRONT_AND => {
+    let word = rungs::at_or(words, at, 0);
+    let operand = word % OPERANDS;
+    let Some(kind) = Kind::of(word / OPERANDS) else {
+        return Positions { next: at, put };
+    };
+    match kind {
+        Kind::Contact => put_one(code, put, at, Op::Ld, operand),
+        Kind::NegatedContact => put_one(code, put, at, Op::Ldn, operand),
+        Kind::FrontAnd => {
             let first = front_code(vars, words, at + 1, depth, code, put);
-            join_code(
-                vars,
-                words,
-                first.next,
-                list_ops::AND,
-                depth,
-                code,
-                first.put,
-            )
+            let Positions { next, put } = first;
+            join_code(vars, words, next, Op::And, Op::Andn, depth, code, put)
         }
-        ladder_kinds::FRONT_OR => {
+        Kind::FrontOr => {
             let first = front_code(vars, words, at + 1, depth, code, put);
-            join_code(
-                vars,
-                words,
-                first.next,
-                list_ops::OR,
-                depth,
-                code,
-                first.put,
-            )
+            let Positions { next, put } = first;
+            join_code(vars, words, next, Op::Or, Op::Orn, depth, code, put)
         }
         _ => Positions { next: at, put },
     }
 }
 
-// A front joined by AND or OR to what stands in the accumulator: in short if it is a contact, and else through td. The op of the
-// negated operand is the next.
+// A front joined by AND or OR to what stands in the accumulator: in short if it is a contact, and else through td.
 #[cycle(front_code_join_code)]
 fn join_code(
     vars: u32,
     words: &[u32],
     at: usize,
-    op: u32,
+    op: Op,
+    negated: Op,
     depth: u32,
     code: &mut [u32],
     put: usize,
 ) -> Positions
     requires { (vars ≤ most_variables) × (length words.now ≤ most_words) × (depth + 1 + (length words.now - at) ≤ most_words)
-        × (op + 1 < operands) × (put + code_bound (length words.now - at) + 2 < 2 ^ 31) }
-    ensures { JoinPut vars words.now at op depth put result code.old code.new }
+        × (put + code_bound (length words.now - at) + 2 < 2 ^ 31) }
+    ensures { JoinPut vars words.now at (op_number op) (op_number negated) depth put result code.old code.new }
 {
-    let word = rungs::word_at(words, at);
-    match word / OPERANDS {
-        ladder_kinds::CONTACT => put_one(code, put, at, op, word % OPERANDS),
-        ladder_kinds::NEGATED_CONTACT => put_one(code, put, at, op + 1, word % OPERANDS),
+    let word = rungs::at_or(words, at, 0);
+    let operand = word % OPERANDS;
+    let Some(kind) = Kind::of(word / OPERANDS) else {
+        return Positions { next: at, put };
+    };
+    match kind {
+        Kind::Contact => put_one(code, put, at, op, operand),
+        Kind::NegatedContact => put_one(code, put, at, negated, operand),
         _ => {
-            put_instruction(code, put, list_ops::ST, vars + depth);
+            rungs::put(code, put, instruction(Op::St, vars + depth));
             let inner = front_code(vars, words, at, depth + 1, code, put + 1);
-            put_instruction(code, inner.put, op, vars + depth);
+            rungs::put(code, inner.put, instruction(op, vars + depth));
             Positions {
                 next: inner.next,
                 put: inner.put + 1,
@@ -123,39 +120,36 @@ fn start_of(labels: &[u16], starts: &[u16], label: u32) -> u32
     ensures { (result ≡ start_in labels.now starts.now label) × (result < operands) }
 {
     let rung = rungs::place_of(rungs::search_label(labels, label));
-    if rung < starts.len() {
-        starts[rung] as u32
-    } else {
-        0
-    }
+    u32::from(rungs::at_or(starts, rung, 0))
 }
 
-// The op of an output's instruction, by the kind of its word; 0 for any other kind. The compiler makes a table of these arms.
-fn output_op(kind: u32) -> u32
+// The op of an output's instruction, by the kind of its word, if that is an output's.
+fn output_op(kind: Kind) -> Option<Op>
     ensures { OutputOp kind result }
 {
     match kind {
-        ladder_kinds::COIL => list_ops::ST,
-        ladder_kinds::NEGATED_COIL => list_ops::STN,
-        ladder_kinds::JUMP => list_ops::JMPC,
-        ladder_kinds::NEGATED_JUMP => list_ops::JMPCN,
-        ladder_kinds::SET_COIL => list_ops::S,
-        ladder_kinds::RESET_COIL => list_ops::R,
-        ladder_kinds::TIMER => list_ops::TON,
-        _ => 0,
+        Kind::Coil => Some(Op::St),
+        Kind::NegatedCoil => Some(Op::Stn),
+        Kind::Jump => Some(Op::Jmpc),
+        Kind::NegatedJump => Some(Op::Jmpcn),
+        Kind::SetCoil => Some(Op::S),
+        Kind::ResetCoil => Some(Op::R),
+        Kind::Timer => Some(Op::Ton),
+        _ => None,
     }
 }
 
-// The instruction of an output, by its word. A label stands for the start of its rung.
-fn output_code(word: u32, labels: &[u16], starts: &[u16]) -> u32
-    ensures { OutputInstruction word labels.now starts.now result }
+// The instruction of an output, by the kind and the operand of its word, if the kind is an output's. A label stands for the start of its
+// rung.
+fn output_code(kind: Kind, operand: u32, labels: &[u16], starts: &[u16]) -> Option<u32>
+    requires { operand < operands }
+    ensures { OutputInstruction kind operand labels.now starts.now result }
 {
-    let op = output_op(word / OPERANDS);
-    let operand = word % OPERANDS;
-    if ladder_kinds::names_label(word / OPERANDS) {
-        op * OPERANDS + start_of(labels, starts, operand)
+    let op = output_op(kind)?;
+    if ladder_kinds::names_label(kind.number()) {
+        Some(instruction(op, start_of(labels, starts, operand)))
     } else {
-        op * OPERANDS + operand
+        Some(instruction(op, operand))
     }
 }
 
@@ -175,29 +169,34 @@ fn rear_code(
     ensures { RearPut vars words.now at depth labels.now starts.now put result
         code.old code.new }
 {
-    let word = rungs::word_at(words, at);
-    match ladder_kinds::sort_of(word / OPERANDS) {
-        KindSort::Output => {
-            rungs::put_word(code, put, output_code(word, labels, starts));
+    let word = rungs::at_or(words, at, 0);
+    let Some(kind) = Kind::of(word / OPERANDS) else {
+        return Positions { next: at, put };
+    };
+    match kind {
+        Kind::RearAnd => {
+            let joined = join_code(vars, words, at + 1, Op::And, Op::Andn, depth, code, put);
+            let Positions { next, put } = joined;
+            rear_code(vars, words, next, depth, labels, starts, code, put)
+        }
+        Kind::RearOr => {
+            let inner = depth + 1;
+            rungs::put(code, put, instruction(Op::St, vars + depth));
+            let first = rear_code(vars, words, at + 1, inner, labels, starts, code, put + 1);
+            let Positions { next, put } = first;
+            rungs::put(code, put, instruction(Op::Ld, vars + depth));
+            rear_code(vars, words, next, depth, labels, starts, code, put + 1)
+        }
+        _ => {
+            let Some(output) = output_code(kind, word % OPERANDS, labels, starts) else {
+                return Positions { next: at, put };
+            };
+            rungs::put(code, put, output);
             Positions {
                 next: at + 1,
                 put: put + 1,
             }
         }
-        KindSort::RearAnd => {
-            let joined = join_code(vars, words, at + 1, list_ops::AND, depth, code, put);
-            let Positions { next, put } = joined;
-            rear_code(vars, words, next, depth, labels, starts, code, put)
-        }
-        KindSort::RearOr => {
-            let inner = depth + 1;
-            put_instruction(code, put, list_ops::ST, vars + depth);
-            let first = rear_code(vars, words, at + 1, inner, labels, starts, code, put + 1);
-            let Positions { next, put } = first;
-            put_instruction(code, put, list_ops::LD, vars + depth);
-            rear_code(vars, words, next, depth, labels, starts, code, put + 1)
-        }
-        _ => Positions { next: at, put },
     }
 }
 

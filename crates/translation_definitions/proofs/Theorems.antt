@@ -20,8 +20,7 @@ use Rattle.list_definitions.specs.Instruction.{instr_word, decode_code}
 use Rattle.list_definitions.specs.Machine.{InstructionList}
 use Rattle.list_definitions.specs.Questions.{instr_in_range, question10, question17 as list_question17}
 use Rattle.translation_definitions.specs.Translate.{rung_code, translate, code_bound}
-use Rattle.translation_definitions.specs.declared.Translated.{Translated}
-use Rattle.translation_definitions.specs.TranslateKept.{Counts, translated, translate_kept, TranslateDone}
+use Rattle.translation_definitions.specs.TranslateKept.{Counts, translated, translate_kept, TranslateDone, Translated}
 use Rattle.translation_definitions.specs.Agreement.{Agreement, SumsAgree, TimesAgree}
 use Rattle.translation_definitions.specs.Calls.{Given, ScansAgree, CallsAgree, TimersRefused}
 use Rattle.translation_definitions.specs.RowsAgree.{kept_in, RowsAgree}

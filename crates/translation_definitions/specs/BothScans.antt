@@ -1,10 +1,11 @@
 -- Both scans of one table: a ladder is translated, and the ladder and its list are scanned, "each" begun "on a copy of that table" (demand 3).
 -- Not a call of document 01: what a fault book can cite. Every question is put before the first store. Assumes nothing.
-use Rattle.std.specs.Prelude.{ℕ, ◌*◌, ◌≡◌, Bool, true, false, List, [], ◌∷◌, ◌++◌, map, eqb, length}
+use Rattle.std.specs.Prelude.{ℕ, ◌*◌, ◌≡◌, List, [], ◌∷◌, ◌++◌, map, eqb, length, Result, Ok, Err}
 use Rattle.std.proofs.Math.Option.{none, some}
 use Rattle.questions.specs.Questions.{Refusal, Answer, ask, first_no, question12, question13, most_instruction_watchdog}
 use Rattle.questions.specs.Refusals.{refusal_of}
-use Rattle.table.specs.Halt.{Halt, Ended, Stopped}
+use Rattle.questions.specs.declared.Refusal.{Refusal as RefusalCase}
+use Rattle.table.specs.Halt.{Halt, Ended, Stopped, halt_of, halt_counts}
 use Rattle.table.specs.State.{State, state_of}
 use Rattle.table.specs.TimerRecords.{timer_numbers, number_timers}
 use Rattle.rungs.specs.Buffers.{Buffers, as_buffers, needs, written_over}
@@ -19,8 +20,6 @@ use Rattle.list_definitions.specs.ListScan.{ListCounts, counts_of as list_counts
 use Rattle.translation_definitions.specs.Translate.{translate}
 use Rattle.translation_definitions.specs.TranslateKept.{Counts, counts_of, counts_in, list_buffers}
 use Rattle.translation_definitions.specs.declared.BothEnds.{BothEnds as EndsStruct}
-use Rattle.translation_definitions.specs.declared.BothScanned.{BothScanned}
-use Rattle.translation_definitions.specs.declared.BothScanned.TheVariants.{Scanned as ScannedCase, Refused as RefusedCase}
 
 -- the two lent tables and the two lent rows of timer records, which become the copies, and the buffers for the list; a row of timer records is one slice with
 -- five numbers for each
@@ -109,26 +108,25 @@ paired_watchdog vars k table timers now n =
 abbrev pub paired_scans : ℕ → Kept → List ℕ → List ℕ → ℕ → Lent → ℕ → BothCall
 paired_scans vars k table timers now lent n = both_scans vars k table timers now lent n (paired_watchdog vars k table timers now n)
 
--- true where a scan ended, false where it stopped
-unfoldable pub halt_of : Bool → Halt
-halt_of true = Ended
-halt_of false = Stopped
-
 -- the values in the struct BothEnds
 unfoldable pub ends_in : EndsStruct → BothEnds
 ends_in e =
     record {
       counts = counts_in e.counts;
-      ladder_halt = halt_of e.ladder_ended;
-      ladder = ladder_counts_in e.ladder;
-      list_halt = halt_of e.list_ended;
-      list = list_counts_in e.list;
+      ladder_halt = halt_of e.ladder;
+      ladder = ladder_counts_in (halt_counts e.ladder);
+      list_halt = halt_of e.list;
+      list = list_counts_in (halt_counts e.list);
     }
 
--- the values of each case of the enum BothScanned
+-- what both_scans and paired_scans answer
+abbrev pub BothScanned : Type 0
+BothScanned = Result EndsStruct RefusalCase
+
+-- the values of each case of it
 unfoldable pub both_scanned_answer : BothScanned → BothAnswer
-both_scanned_answer (ScannedCase ends) = both (ends_in ends)
-both_scanned_answer (RefusedCase refusal) = refused (refusal_of refusal)
+both_scanned_answer (Ok ends) = both (ends_in ends)
+both_scanned_answer (Err refusal) = refused (refusal_of refusal)
 
 -- the first promise of both_scans and paired_scans: answer, tables, timer records and buffers are those of the definition
 pub record BothScansDone (call : BothCall) (r : BothScanned) (lent : Lent) : Type 0 where

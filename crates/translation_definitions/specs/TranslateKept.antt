@@ -1,8 +1,9 @@
 -- The call Translate: its answer and the lent buffers afterwards, for all inputs. Document 01, "Translation", "Questions before work". Assumes nothing.
-use Rattle.std.specs.Prelude.{ℕ, ◌≡◌, [], ◌∷◌, ◌++◌, map, length}
+use Rattle.std.specs.Prelude.{ℕ, ◌≡◌, [], ◌∷◌, ◌++◌, map, length, Result, Ok, Err}
 use Rattle.std.proofs.Math.Option.{none, some}
 use Rattle.questions.specs.Questions.{Refusal, Answer, first_no, question1, question13}
 use Rattle.questions.specs.Refusals.{refusal_of}
+use Rattle.questions.specs.declared.Refusal.{Refusal as RefusalCase}
 use Rattle.rungs.specs.Records.{longest}
 use Rattle.rungs.specs.Buffers.{Buffers, new_buffers, needs, written_over}
 use Rattle.ladder_definitions.specs.Kept.{Kept}
@@ -11,8 +12,6 @@ use Rattle.list_definitions.specs.Instruction.{instr_word}
 use Rattle.list_definitions.specs.Machine.{InstructionList}
 use Rattle.translation_definitions.specs.Translate.{translate}
 use Rattle.translation_definitions.specs.declared.Counts.{Counts as CountsStruct}
-use Rattle.translation_definitions.specs.declared.Translated.{Translated}
-use Rattle.translation_definitions.specs.declared.Translated.TheVariants.{Written as WrittenCase, Refused as RefusedCase}
 
 -- a list in instruction words and records, as buffers of just their size, no rung entered
 abbrev pub list_buffers : InstructionList → Buffers
@@ -51,10 +50,14 @@ translate_kept vars k lent =
 abbrev pub counts_in : CountsStruct → Counts
 counts_in c = record { instructions = c.instructions; rungs = c.rungs; longest = c.longest }
 
--- document 01's values for each case of the enum Translated
+-- what translate answers
+abbrev pub Translated : Type 0
+Translated = Result CountsStruct RefusalCase
+
+-- document 01's values for each case of it
 unfoldable pub translated_answer : Translated → TranslateAnswer
-translated_answer (WrittenCase c) = translated (counts_in c)
-translated_answer (RefusedCase refusal) = refused (refusal_of refusal)
+translated_answer (Ok c) = translated (counts_in c)
+translated_answer (Err refusal) = refused (refusal_of refusal)
 
 -- the promise of translate: answer and buffers are those of the definition
 pub record TranslateDone (call : TranslateCall) (r : Translated) (lent : Buffers) : Type 0 where

@@ -1,37 +1,21 @@
-// What Translate answers, and both scans of one table. The definitions of translation and demand 3 stand in specs/; nothing here has a
-// body.
+// The counts of Translate, which answers Result<Counts, questions::Refusal>, and the ends of both scans of one table, which answer
+// Result<BothEnds, questions::Refusal>. The definitions of translation and demand 3 stand in specs/; nothing here has a body.
 #![tactic(auto)]
 
-use questions::Refusal;
+use table::Halt;
 
 // The instructions and rungs of a list, and L, the length of its longest rung.
-#[derive(Clone, Copy)]
+#[derive(Clone, Copy, PartialEq, Eq)]
 pub struct Counts {
     pub instructions: usize,
     pub rungs: usize,
     pub longest: usize,
 }
 
-// The answer of Translate.
-#[derive(Clone, Copy)]
-pub enum Translated {
-    Written(Counts),
-    Refused(Refusal),
-}
-
-// Translate's counts, and of each scan whether it ended (else it stopped), and its counts.
-#[derive(Clone, Copy)]
+// Translate's counts, and how each scan halted, with its counts.
+#[derive(Clone, Copy, PartialEq, Eq)]
 pub struct BothEnds {
     pub counts: Counts,
-    pub ladder_ended: bool,
-    pub ladder: ladder_definitions::Counts,
-    pub list_ended: bool,
-    pub list: list_definitions::Counts,
-}
-
-// The answer of both scans.
-#[derive(Clone, Copy)]
-pub enum BothScanned {
-    Scanned(BothEnds),
-    Refused(Refusal),
+    pub ladder: Halt<ladder_definitions::Counts>,
+    pub list: Halt<list_definitions::Counts>,
 }

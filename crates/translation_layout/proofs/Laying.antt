@@ -199,19 +199,18 @@ list_length vars gs = code_length vars (start_of (list_records vars gs)) gs
 
 -- ---- the loop: the rungs before place k are laid out
 
-pub record Laying (vars : ℕ) (ws ls os e x none : List ℕ) (k put most : ℕ) : Type 0 where
+pub record Laying (vars : ℕ) (ws ls os e x : List ℕ) (k put most : ℕ) : Type 0 where
   pub put_before : Before vars ws ls os k put
   pub longest_before : (gs : Ladder) → LadderHeld ws ls os gs → most ≡ longest (firsts vars gs k)
   pub starts : (gs : Ladder) → LadderHeld ws ls os gs → x ≡ sets e 0 (offsets (firsts vars gs k))
   pub long : length x ≡ length e
-  pub no_code : length none ≡ 0
 
-pub laying_first : (vars : ℕ) (ws ls os e : List ℕ) → Laying vars ws ls os e e [] 0 0 0
+pub laying_first : (vars : ℕ) (ws ls os e : List ℕ) → Laying vars ws ls os e e 0 0 0
 unfolding lay longest
 laying_first vars ws ls os e =
-    record { put_before = before_first vars ws ls os; longest_before = λ gs held. refl; starts = λ gs held. refl; long = refl; no_code = refl }
+    record { put_before = before_first vars ws ls os; longest_before = λ gs held. refl; starts = λ gs held. refl; long = refl }
 
-module _ (vars : ℕ) (ws ls os e x none : List ℕ) (k put most : ℕ) (l : Laying vars ws ls os e x none k put most) where
+module _ (vars : ℕ) (ws ls os e x : List ℕ) (k put most : ℕ) (l : Laying vars ws ls os e x k put most) where
   pub room : LadderReady vars ws ls os e → k < length os → (put ≤ 16384) × (k < length x) × (k < 256)
   room r h =
       let a = few_put vars ws ls os k put l.put_before e r in
@@ -221,8 +220,8 @@ module _ (vars : ℕ) (ws ls os e x none : List ℕ) (k put most : ℕ) (l : Lay
       (a, omega arith, omega arith)
 
   pub laying_more : k < length os → (at : ℕ) → at ≡ get_or os k 0 → (ms st : List ℕ) (r : Positions) (a b : List ℕ) → RungPut vars ws at ms st put r a b
-      → (most' : ℕ) → most' ≡ max most (r.put - put) → (none' : List ℕ) → length none' ≡ 0 → Laying vars ws ls os e (set x k put) none' (k + 1) r.put most'
-  laying_more h at here ms st r a b p most' m none' z = record {
+      → (most' : ℕ) → most' ≡ max most (r.put - put) → Laying vars ws ls os e (set x k put) (k + 1) r.put most'
+  laying_more h at here ms st r a b p most' m = record {
     put_before = before_more vars ws ls os k put h at here ms st r a b p l.put_before;
     longest_before = λ gs held.
         let n = next_of ws ls os k h gs held in
@@ -231,7 +230,6 @@ module _ (vars : ℕ) (ws ls os e x none : List ℕ) (k put most : ℕ) (l : Lay
     starts = λ gs held.
         stored_offset vars gs k (next_of ws ls os k h gs held) (in_ladder ws ls os k h gs held) e x put (l.starts gs held) (l.put_before.same gs held);
     long = length-set x k put ∙ l.long;
-    no_code = z;
   }
 
   pub laid_all : length os ≤ k → LaidOut vars ws ls os (record { instructions = put; longest = most }) e x

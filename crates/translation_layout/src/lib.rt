@@ -1,8 +1,11 @@
 // A ladder's list, rung by rung: first laid out, then written.
 #![tactic(auto)]
 
-ghost use Rattle.rungs.specs.Buffers.{columns};
+ghost use Rattle.std.specs.Prelude.{◌≡◌};
+ghost use Rattle.rungs.specs.Buffers.{columns_of, buffers_in, SameLoans};
 ghost use Rattle.translation_layout.specs.Parts.{LadderReady, LaidOut, ListPut};
+
+use rungs::{Buffers, Slices};
 
 // A list's instructions, and those of its longest rung.
 #[derive(Clone, Copy)]
@@ -12,38 +15,27 @@ pub struct Layout {
 }
 
 // Where each rung begins in the list, and what the list takes.
-pub fn lay_out(
-    vars: u32,
-    words: &[u32],
-    labels: &[u16],
-    offsets: &[u32],
-    starts: &mut [u16],
-) -> Layout
-    requires { LadderReady vars words.now labels.now offsets.now starts.old }
-    ensures { LaidOut vars words.now labels.now offsets.now result
+pub fn lay_out(vars: u32, ladder: Slices, starts: &mut [u16]) -> Layout
+    requires { LadderReady vars ladder.words.now ladder.labels.now ladder.offsets.now starts.old }
+    ensures { LaidOut vars ladder.entry.words.now ladder.entry.labels.now ladder.entry.offsets.now result
         starts.old starts.new }
 {
-    let mut none = [0u32; 0];
-    // A rung is as long wherever its jumps lead: no label is searched.
-    let no_labels = &labels[..0];
-    let mut instructions: usize = 0;
-    let mut longest: usize = 0;
-    let mut rung: usize = 0;
-    while rung < offsets.len() {
+    let mut instructions = 0;
+    let mut longest = 0;
+    for (rung, offset) in ladder.offsets.iter().enumerate() {
         starts[rung] = instructions as u16;
-        let at = offsets[rung] as usize;
+        // A rung is as long wherever its jumps lead: no label is searched.
         let after = translation_code::rung_code(
             vars,
-            words,
-            at,
-            no_labels,
-            starts,
-            &mut none,
+            ladder.words,
+            *offset as usize,
+            &[],
+            &[],
+            &mut [],
             instructions,
         );
-        longest = rungs::larger(longest, after.put - instructions);
+        longest = longest.max(after.put - instructions);
         instructions = after.put;
-        rung += 1;
     }
     Layout {
         instructions,
@@ -52,31 +44,28 @@ pub fn lay_out(
 }
 
 // The list's instructions and records.
-pub fn write_list(
-    vars: u32,
-    words: &[u32],
-    labels: &[u16],
-    offsets: &[u32],
-    starts: &[u16],
-    code: &mut [u32],
-    code_labels: &mut [u16],
-    code_offsets: &mut [u32],
-    code_lengths: &mut [u32],
-)
-    requires { LadderReady vars words.now labels.now offsets.now starts.now }
-    ensures { ListPut vars words.now labels.now offsets.now starts.now
-        (columns code.old code_labels.old code_offsets.old code_lengths.old)
-        (columns code.new code_labels.new code_offsets.new code_lengths.new) }
+pub fn write_list(vars: u32, ladder: Slices, starts: &[u16], list: &mut Buffers)
+    requires { LadderReady vars ladder.words.now ladder.labels.now ladder.offsets.now starts.now }
+    ensures put { ListPut vars ladder.entry.words.now ladder.entry.labels.now ladder.entry.offsets.now starts.now
+        (columns_of (buffers_in list.old)) (columns_of (buffers_in list.new)) }
+    ensures times { list.new.times.now ≡ list.old.times.now }
+    ensures same { SameLoans list.old list.new }
 {
-    let mut put: usize = 0;
-    let mut rung: usize = 0;
-    while rung < offsets.len() {
-        let at = offsets[rung] as usize;
-        let after = translation_code::rung_code(vars, words, at, labels, starts, code, put);
-        rungs::put_label(code_labels, rung, labels[rung]);
-        rungs::put_word(code_offsets, rung, put as u32);
-        rungs::put_word(code_lengths, rung, (after.put - put) as u32);
+    let mut put = 0;
+    for (rung, offset) in ladder.offsets.iter().enumerate() {
+        let at = *offset as usize;
+        let after = translation_code::rung_code(
+            vars,
+            ladder.words,
+            at,
+            ladder.labels,
+            starts,
+            list.words,
+            put,
+        );
+        rungs::put(list.labels, rung, ladder.labels[rung]);
+        rungs::put(list.offsets, rung, put as u32);
+        rungs::put(list.lengths, rung, (after.put - put) as u32);
         put = after.put;
-        rung += 1;
     }
 }

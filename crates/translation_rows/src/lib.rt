@@ -2,131 +2,84 @@
 // buffers; the rest stays".
 #![tactic(auto)]
 
-ghost use Rattle.std.specs.Prelude.{◌≡◌};
-ghost use Rattle.rungs.specs.Buffers.{as_buffers};
+ghost use Rattle.ladder_definitions.specs.Kept.{kept_in};
+ghost use Rattle.rungs.specs.Buffers.{buffers, as_buffers};
 ghost use Rattle.rows.specs.Rows.{records_of, times_of};
 ghost use Rattle.translation_definitions.specs.TranslateKept.{translate_kept, TranslateDone};
-ghost use Rattle.translation_rows.specs.Parts.{refused_fields, rungs_in, FieldsTranslated};
 
 use questions::Refusal;
 use rows::{Rows, Rung};
-use rungs::MOST_RECORDS;
-use translation_definitions::Translated;
+use rungs::{Buffers, MOST_RECORDS, Slices};
+use translation_definitions::Counts;
 
-// What Translate answers, and the fields of the records that it writes: as many as `rows` keeps. Their times are 0, which
-// `scatter` puts.
-#[derive(Clone, Copy)]
-pub struct TranslatedFields {
-    pub answer: Translated,
-    pub rows: Rows,
-}
-
-// Nothing is written.
-fn refused(refusal: Refusal, rows: Rows) -> TranslatedFields
-    ensures { result ≡ refused_fields refusal rows }
-{
-    let mut none = rows;
-    none.kept = 0;
-    TranslatedFields {
-        answer: Translated::Refused(refusal),
-        rows: none,
-    }
-}
-
-// As many records as were written.
-fn rungs_in(answer: Translated) -> usize
-    ensures { result ≡ rungs_in answer }
-{
-    match answer {
-        Translated::Written(counts) => counts.rungs,
-        Translated::Refused(_) => 0,
-    }
-}
-
-// Translate, from a copy of a row's fields into a copy of the fields of a row of `lent` records.
+// Translate, into the slices lent. They are lent one by one, since the beginning of an array, lent within a struct, is not known
+// afterwards.
 fn translate_fields(
     vars: u32,
-    words: &[u32],
-    rows: Rows,
-    long: bool,
-    code: &mut [u32],
-    lent: usize,
-) -> TranslatedFields
-    ensures { FieldsTranslated vars words.now rows long code.old lent result code.new }
+    ladder: Slices,
+    any: &[u32],
+    words: &mut [u32],
+    labels: &mut [u16],
+    offsets: &mut [u32],
+    lengths: &mut [u32],
+    times: &mut [u32],
+) -> Result<Counts, Refusal>
+    ensures { TranslateDone (translate_kept vars (kept_in ladder.entry any.now)
+        (buffers words.old labels.old offsets.old lengths.old times.old)) result
+        (buffers words.new labels.new offsets.new lengths.new times.new) }
 {
-    if MOST_RECORDS < rows.n {
-        return refused(ladder_rows::long_refusal(vars, long), rows);
-    }
-    let labels = rows.labels;
-    let offsets = rows.offsets;
-    let lengths = rows.lengths;
-    // 02, Req 04: "Any value is taken".
-    let times = [0u32; MOST_RECORDS];
-    let m = rows.n;
-    let mut code_labels = [0u16; MOST_RECORDS];
-    let mut code_offsets = [0u32; MOST_RECORDS];
-    let mut code_lengths = [0u32; MOST_RECORDS];
-    let mut code_times = [0u32; MOST_RECORDS];
-    let room = rows::room(lent);
-    let answer = translation::translate(
-        vars,
+    let mut list = Buffers {
         words,
-        &labels[..m],
-        &offsets[..m],
-        &lengths[..m],
-        &times[..m],
-        code,
-        &mut code_labels[..room],
-        &mut code_offsets[..room],
-        &mut code_lengths[..room],
-        &mut code_times[..room],
-    );
-    TranslatedFields {
-        answer,
-        rows: Rows {
-            labels: code_labels,
-            offsets: code_offsets,
-            lengths: code_lengths,
-            n: lent,
-            kept: rungs_in(answer),
-        },
-    }
+        labels,
+        offsets,
+        lengths,
+        times,
+    };
+    translation::translate(vars, ladder, any, &mut list)
 }
 
-fn rows_of(done: TranslatedFields) -> Rows
-    ensures { result ≡ done.rows }
-{
-    done.rows
-}
-
-fn kept_of(done: TranslatedFields) -> usize
-    ensures { result ≡ done.rows.kept }
-{
-    let rows = done.rows;
-    rows.kept
-}
-
-fn answer_of(done: TranslatedFields) -> Translated
-    ensures { result ≡ done.answer }
-{
-    done.answer
-}
-
-// Translate.
+// Translate, from a copy of a row's fields into a copy of the fields of as many records as the other row has, or 256: a refusal writes no
+// record. Their times are 0, which `scatter` puts.
 pub fn translate(
     vars: u32,
     words: &[u32],
     row: &[Rung],
     code: &mut [u32],
     code_row: &mut [Rung],
-) -> Translated
+) -> Result<Counts, Refusal>
     ensures { TranslateDone (translate_kept vars
         (record { words = words.now; records = records_of row.now })
         (as_buffers code.old (records_of code_row.old) (times_of code_row.old))) result
         (as_buffers code.new (records_of code_row.new) (times_of code_row.new)) }
 {
-    let long = ladder_rows::long_holds(row, words);
-    let done = translate_fields(vars, words, rows::gather(row), long, code, code_row.len());
-    rows::scatter(code_row, rows_of(done), kept_of(done));
-    answer_of(done)
+    if MOST_RECORDS < row.len() {
+        let holds = ladder_rows::long_holds(row, words);
+        return Err(ladder_rows::long_refusal(vars, holds));
+    }
+    let rows = rows::gather(row);
+    // 02, Req 04: "Any value is taken".
+    let any = [0; MOST_RECORDS];
+    let room = MOST_RECORDS.min(code_row.len());
+    let mut labels = [0; MOST_RECORDS];
+    let mut offsets = [0; MOST_RECORDS];
+    let mut lengths = [0; MOST_RECORDS];
+    let mut times = [0; MOST_RECORDS];
+    let counts = translate_fields(
+        vars,
+        rows.slices(words),
+        &any[..row.len()],
+        code,
+        &mut labels[..room],
+        &mut offsets[..room],
+        &mut lengths[..room],
+        &mut times[..room],
+    )?;
+    let written = Rows {
+        labels,
+        offsets,
+        lengths,
+        n: code_row.len(),
+    };
+    rows::scatter(code_row, &written, counts.rungs);
+    Ok(counts)
 }

@@ -116,7 +116,7 @@ put_output_lem k make h i o (trees [] rs) us e =
 put_output_lem k make h i o (trees (f ∷ fs) rs) us e = absurd (none_some e)
 
 put_rear_and_lem : (o : ℕ) (ts us : Trees) → put_rear_and o ts ≡ some us → Put (word 9 o) o ts us
-unfolding put_rear_and words_of flat_map rear_words TreesFit rear_all all
+unfolding put_rear_and words_of flat_map rear_words TreesFit rear_all
 put_rear_and_lem zero (trees (f ∷ []) (r ∷ rs)) us e =
     let z : trees [] (rear_and f r ∷ rs) ≡ us = cc in
     record {
@@ -177,7 +177,7 @@ record Decoded (ws : List ℕ) (us : Trees) : Type 0 where
   fit : TreesFit us
 
 decoded : (ws : List ℕ) (us : Trees) → decode_words ws ≡ some us → Decoded ws us
-unfolding decode_words words_of flat_map TreesFit all
+unfolding decode_words words_of flat_map TreesFit
 decoded [] us e = let z : trees [] [] ≡ us = cc in record { words = rw (← z) refl; fit = rw (← z) (tt, tt) }
 decoded (w ∷ ws) us e = go (decode_words ws) refl (λ ts. decoded ws ts)
   where
@@ -249,7 +249,7 @@ pub record Held (start : ℕ) (rs : List RungRecord) (ws : List ℕ) (gs : Ladde
   pub fit : T (all rung_fits gs)
 
 pub ladder_held : (start : ℕ) (rs : List RungRecord) (ws : List ℕ) (gs : Ladder) → decode_from start rs ws ≡ some gs → Held start rs ws gs
-unfolding decode_from lay flat_map all
+unfolding decode_from lay flat_map
 ladder_held start [] [] gs e = let z : ◌≡◌ {A = Ladder} [] gs = cc in record { words = rw (← z) refl; records = rw (← z) refl; fit = rw (← z) tt }
 ladder_held start [] (w ∷ ws) gs e = absurd (none_some e)
 ladder_held start (r ∷ rs) ws gs e = go (eqb r.offset start && leb r.length (length ws)) refl (λ ts. ladder_held (start + r.length) rs (drop r.length ws) ts)

@@ -1,22 +1,21 @@
 -- `ladder_kept::front_word` meets its contract: a law for each sort of word, and one for the words that begin no front. Assumes nothing.
-use Rattle.ladder_kinds.specs.Kinds.{sort_in}
-use Rattle.ladder_kinds.proofs.Arms.{told, not_front}
-use Rattle.ladder_kept.proofs.Holding.{front_taken, front_operand, front_split, front_past}
+use Rattle.std.proofs.Common.{◌≡◌, None, rules}
+use Rattle.ladder_kinds.specs.Kinds.{case_sort, sort_in}
+use Rattle.ladder_kinds.proofs.Arms.{told, arm, other_arm, not_front, none_fronts}
+use Rattle.ladder_kept.proofs.Holding.{front_taken, front_split, front_past}
 use Rattle.ladder_kept.proofs.front_word.Goals as goal
 
-pub returns-then-operand-ne0 : goal.returns-then-operand-ne0
-unfolding sort_in
-returns-then-operand-ne0 c = front_operand _ _ _ _ (told _ _ c.sort_of.ensures _ c.in-Joined.is) c.if-operand-ne0.true
+pub returns-in_err-sort_of : goal.returns-in_err-sort_of
+returns-in_err-sort_of c = let none : c.from_residual.result ≡ None = search rules in rw none (front_past _ _ _ _ (none_fronts _ c.in_err-sort_of.ensures) c.requires.0)
 
 pub returns-in-Contact : goal.returns-in-Contact
-unfolding sort_in
-returns-in-Contact c = front_taken _ _ _ _ (told _ _ c.sort_of.ensures _ c.in-Contact.is) c.requires.0
+unfolding case_sort sort_in
+returns-in-Contact c = front_taken _ _ _ _ (told _ _ c.in_ok-sort_of.ensures _ (arm c.in-Contact.is)) c.requires.0
 
-pub returns-else-operand-ne0 : goal.returns-else-operand-ne0
-unfolding sort_in
-returns-else-operand-ne0 c =
-    front_split _ _ _ _ (told _ _ c.sort_of.ensures _ c.in-Joined.is) c.if-operand-ne0.false
-    c.requires.0
+pub returns-in-Joined : goal.returns-in-Joined
+unfolding case_sort sort_in
+returns-in-Joined c = front_split _ _ _ _ (told _ _ c.in_ok-sort_of.ensures _ (arm c.in-Joined.is)) c.requires.0 _ c.then_some.ensures
 
 pub returns-in_default : goal.returns-in_default
-returns-in_default c = front_past _ _ _ _ (not_front _ _ c.sort_of.ensures c.in_default.not-Contact c.in_default.not-Joined) c.requires.0
+returns-in_default c =
+    front_past _ _ _ _ (not_front _ _ c.in_ok-sort_of.ensures (other_arm c.in_default.not-Contact) (other_arm c.in_default.not-Joined)) c.requires.0

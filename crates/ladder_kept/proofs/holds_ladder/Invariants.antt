@@ -1,13 +1,9 @@
--- `ladder_kept::holds_ladder` meets its contract. The loop's invariant: the records from `i` on and the words from `start` on hold rungs just when all do.
--- The measure is what is left of the records. A length is at most what is left of the words, so no sum wraps. Assumes nothing.
-use Prim.Native.Nat.{◌-◌}
-use lib.ListN.{length}
+-- `ladder_kept::holds_ladder` meets its contract. The loop's invariant: the records not yielded yet and the words left hold rungs just when all do.
+-- Assumes nothing.
+use Rattle.std.proofs.Common.{length}
 use Rattle.rungs.specs.Records.{fields_of}
 use Rattle.ladder_kept.proofs.Holding.{Walking}
 use Rattle.ladder_kept.proofs.holds_ladder.Given as goal
 
-abbrev pub invariant-loop-i : goal.invariant-loop-i
-invariant-loop-i l = Walking l.words (fields_of l.labels l.offsets l.lengths) l.start l.i
-
-abbrev pub decreases-loop-i : goal.decreases-loop-i
-decreases-loop-i l = length l.labels - l.i
+abbrev pub invariant-loop-offset : goal.invariant-loop-offset
+invariant-loop-offset l = Walking l.words (fields_of l.ladder.labels.now l.ladder.offsets.now l.ladder.lengths.now) l.rest (length l.yielded)

@@ -1,24 +1,23 @@
--- `ladder_kept::holds_rung` meets its contract. The loop's invariant: the words from `i` on are what is pending just when the rung's words are a front and a rear.
--- The measure is what is left of the rung. Assumes nothing.
-use native.Mathlib.Omega.{arith}
-use mathlib.Core.Path.{refl}
-use Rattle.ladder_kept.proofs.Holding.{word_misplaced, word_counted, fronts_left, rears_tell}
+-- `ladder_kept::holds_rung` meets its contract. The loop's invariant: the words from `word-index` on are what is pending just when all words are a front
+-- and a rear. Assumes nothing.
+use Rattle.std.proofs.Common.{refl, arith, ne_eqb}
+use Rattle.ladder_kept.proofs.Holding.{word_misplaced, word_counted, ended}
 use Rattle.ladder_kept.proofs.holds_rung.Goals as goal
 
-pub loop-i-init : goal.loop-i-init
-loop-i-init c = record { same = refl; within = c.requires.0; fronts = omega arith; rears = omega arith }
+pub loop-word-init : goal.loop-word-init
+loop-word-init c = record { same = refl; fronts = omega arith; rears = omega arith }
 
-pub after_word-pending-requires : goal.after_word-pending-requires
-after_word-pending-requires c = (omega arith, omega arith)
+pub after_word-requires : goal.after_word-requires
+after_word-requires c = let f = c.loop-word.invariant.fronts in let r = c.loop-word.invariant.rears in (omega arith, omega arith)
 
-pub returns-then-pending : goal.returns-then-pending
-returns-then-pending c = word_misplaced _ _ _ _ _ _ c.loop-i.invariant c.loop-i-test.true c.requires.1 _ c.after_word-pending.ensures c.if-pending.true
+pub returns-in_default : goal.returns-in_default
+returns-in_default c = word_misplaced c.loop-word.invariant c.loop-word-test.true c.in_default.ensures
 
-pub loop-i-preserved : goal.loop-i-preserved
-loop-i-preserved c = word_counted _ _ _ _ _ _ c.loop-i.invariant c.loop-i-test.true c.requires.1 _ c.after_word-pending.ensures c.if-pending.false
+pub loop-word-preserved : goal.loop-word-preserved
+loop-word-preserved c = word_counted c.loop-word.invariant c.loop-word-test.true _ c.in-Some.ensures
 
-pub returns-then-pending-ne0 : goal.returns-then-pending-ne0
-returns-then-pending-ne0 c = fronts_left _ _ _ _ _ _ c.loop-i.invariant c.loop-i-test.false c.if-pending-ne0.true
+pub returns-then-pending-eq0 : goal.returns-then-pending-eq0
+returns-then-pending-eq0 c = let e = ended c.loop-word.invariant (omega arith) in rw c.if-pending-eq0.true at e
 
-pub returns : goal.returns
-returns c = rears_tell _ _ _ _ _ _ c.loop-i.invariant c.loop-i-test.false c.if-pending-ne0.false
+pub returns-else-pending-eq0 : goal.returns-else-pending-eq0
+returns-else-pending-eq0 c = let e = ended c.loop-word.invariant (omega arith) in let n = ne_eqb _ _ c.if-pending-eq0.false in rw n (rw n at e)

@@ -1,11 +1,7 @@
--- `ladder_kept::holds_rung` meets its contract. The loop's invariant: the words from `i` on are what is pending just when the rung's words are a front and a rear.
--- The measure is what is left of the rung. Assumes nothing.
-use Prim.Native.Nat.{◌-◌}
+-- `ladder_kept::holds_rung` meets its contract. The loop's invariant: the words from `word-index` on are what is pending just when all words are a front
+-- and a rear. Assumes nothing.
 use Rattle.ladder_kept.proofs.Holding.{Counting}
 use Rattle.ladder_kept.proofs.holds_rung.Given as goal
 
-abbrev pub invariant-loop-i : goal.invariant-loop-i
-invariant-loop-i l = Counting l.words l.from l.to l.pending.fronts l.pending.rears l.i
-
-abbrev pub decreases-loop-i : goal.decreases-loop-i
-decreases-loop-i l = l.to - l.i
+abbrev pub invariant-loop-word : goal.invariant-loop-word
+invariant-loop-word l = Counting l.words l.pending.fronts l.pending.rears l.word-index

@@ -1,37 +1,23 @@
--- `ladder_rows::ask` meets its contract. More than 256 records are refused by what was found of the whole row; the fields of 256 or fewer are the row. Assumes nothing.
-use mathlib.Core.Path.{refl, sym, ◌∙◌}
-use lib.Seq.{length-take-le}
-use Rattle.std.proofs.Common.{arith}
-use Rattle.rows.proofs.Fields.{full}
-use Rattle.ladder_rows.proofs.Answers.{asked_long, asked_short}
+-- `ladder_rows::ask` meets its contract: a row of more than 256 records is refused, and else the slices hold the row.
+use Rattle.std.proofs.Common.{◌≤◌, length, take, replicate, sym, ◌∙◌, arith, length-take-le}
+use Rattle.questions.specs.Refusals.{verdict_answer}
+use Rattle.rungs.specs.Records.{most_records}
+use Rattle.rows.specs.Rows.{records_of}
+use Rattle.rows.proofs.Laws.Records.{records_length}
+use Rattle.rows.proofs.Laws.Gathered.{slices_row}
 use Rattle.ladder_rows.proofs.ask.Goals as goal
 
-pub returns-then-rows-gt-MOST_RECORDS : goal.returns-then-rows-gt-MOST_RECORDS
-returns-then-rows-gt-MOST_RECORDS c = (asked_long _ _ _ _ _ _ _ c.if-rows-gt-MOST_RECORDS.true _ c.long_scan_refusal.ensures, (refl, refl))
-
-pub slice_bounds-labels-end : goal.slice_bounds-labels-end
-slice_bounds-labels-end c = omega (arith, (full c.args.rows _ c.well_formed.1.1.0).labels, c.if-rows-gt-MOST_RECORDS.false)
-
-pub slice_bounds-scan_questions-end : goal.slice_bounds-scan_questions-end
-slice_bounds-scan_questions-end c = sym (length-take-le _ _ (omega (arith, (full c.args.rows _ c.well_formed.1.1.0).labels, c.if-rows-gt-MOST_RECORDS.false)))
-
-pub slice_bounds-offsets-end : goal.slice_bounds-offsets-end
-slice_bounds-offsets-end c = omega (arith, (full c.args.rows _ c.well_formed.1.1.0).offsets, c.if-rows-gt-MOST_RECORDS.false)
-
-pub slice_bounds-scan_questions-end-2 : goal.slice_bounds-scan_questions-end-2
-slice_bounds-scan_questions-end-2 c = sym (length-take-le _ _ (omega (arith, (full c.args.rows _ c.well_formed.1.1.0).offsets, c.if-rows-gt-MOST_RECORDS.false)))
-
-pub slice_bounds-lengths-end : goal.slice_bounds-lengths-end
-slice_bounds-lengths-end c = omega (arith, (full c.args.rows _ c.well_formed.1.1.0).lengths, c.if-rows-gt-MOST_RECORDS.false)
-
-pub slice_bounds-scan_questions-end-3 : goal.slice_bounds-scan_questions-end-3
-slice_bounds-scan_questions-end-3 c = sym (length-take-le _ _ (omega (arith, (full c.args.rows _ c.well_formed.1.1.0).lengths, c.if-rows-gt-MOST_RECORDS.false)))
-
-pub slice_bounds-times-end : goal.slice_bounds-times-end
-slice_bounds-times-end c = c.if-rows-gt-MOST_RECORDS.false
-
-pub slice_bounds-scan_questions-end-4 : goal.slice_bounds-scan_questions-end-4
-slice_bounds-scan_questions-end-4 c = sym (length-take-le _ _ c.if-rows-gt-MOST_RECORDS.false)
+pub returns-then-row-gt-MOST_RECORDS : goal.returns-then-row-gt-MOST_RECORDS
+unfolding verdict_answer
+returns-then-row-gt-MOST_RECORDS c =
+    let n = records_length c.args.row.now in
+    sym (c.long_scan_refusal.ensures.same c.args.words.now (records_of c.args.row.now) c.args.table.now c.args.watchdog (omega arith) c.long_holds-holds.ensures)
 
 pub returns : goal.returns
-returns c = (asked_short _ _ _ _ _ _ _ c.if-rows-gt-MOST_RECORDS.false _ _ (length-take-le _ _ (omega (arith, (full c.args.rows _ c.well_formed.1.1.0).labels, c.if-rows-gt-MOST_RECORDS.false)) ∙ sym (length-take-le _ _ c.if-rows-gt-MOST_RECORDS.false)) c.scan_questions.ensures, (refl, refl))
+returns c =
+    let n = records_length c.args.row.now in
+    let s = c.slices.ensures in
+    let lent : length c.args.row.now ≤ most_records = omega arith in
+    let row = slices_row c.gather-rows.result (records_of c.args.row.now) _ _ _ (take (length c.args.row.now) (replicate 256 0))
+    c.gather-rows.ensures.fields (omega arith) s.labels s.offsets s.lengths (length-take-le _ _ (omega arith) ∙ sym n) in
+    (rw (s.words, row) at c.scan_questions.ensures)

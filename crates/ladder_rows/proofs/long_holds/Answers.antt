@@ -1,40 +1,33 @@
--- `ladder_rows::long_holds` meets its contract. The loop's invariant: the first `i` records are laid as far as `laid` says. The measure is what is left of the records asked.
-use Rattle.std.proofs.Common.{◌≡◌, ℕ, length, ap, sym, ◌∙◌, arith}
-use Rattle.rungs.specs.Records.{RungRecord}
-use Rattle.rows.specs.Rows.{record_of, records_of}
-use Rattle.rows.proofs.Laws.Records.{records_at, records_length}
-use Rattle.ladder_rows.specs.Parts.{asked_to, laid_next, laid_whole}
-use Rattle.ladder_rows.specs.declared.Laid.{Laid}
-use Rattle.ladder_rows.proofs.Long.{asked_within, laid_upto, laid_zero, laid_next_lem, laid_start, laid_holds}
+-- `ladder_rows::long_holds` meets its contract. The loop's invariant: the records from `i` on and the words left hold rungs just when all do.
+use Rattle.std.proofs.Common.{refl, sym, ap, ◌∙◌}
+use Rattle.ladder_kept.specs.Pending.{completes}
+use Rattle.ladder_rows.proofs.Long.{few_hold, walk_end, record_long, record_off, rung_wrong, rung_right}
 use Rattle.ladder_rows.proofs.long_holds.Goals as goal
+use Rattle.ladder_rows.proofs.long_holds.Goals.{then-rung-words-via-then-rung-words, then-rung-words-via-else-rung-words+then-not-holds_rung}
 
-pub loop-i-init : goal.loop-i-init
-loop-i-init c = record { within = omega arith; so_far = c.laid_first-laid.ensures ∙ sym (laid_zero _ _) }
+pub returns-then-row-le-MOST_RECORDS : goal.returns-then-row-le-MOST_RECORDS
+returns-then-row-le-MOST_RECORDS c = few_hold _ _ c.if-row-le-MOST_RECORDS.true
 
-pub rung_at-requires : goal.rung_at-requires
-rung_at-requires c = let h = asked_within (length c.args.row.now) in omega arith
+pub returns-in_default : goal.returns-in_default
+returns-in_default c =
+    record_long _ _ c.if-row-le-MOST_RECORDS.false c.loop-rung.invariant c.loop-rung-test.true _ refl c.in_default.ensures.cases
 
-pub laid_next-laid-requires : goal.laid_next-laid-requires
-laid_next-laid-requires c = rw c.loop-i.invariant.so_far (laid_start c.args.words.now (records_of c.args.row.now) c.loop-i.i)
+pub returns-then-rung-words : goal.returns-then-rung-words
+returns-then-rung-words c =
+    let split = c.in-Some.ensures.cases in
+    elim c.then-rung-words.branch [
+      | then-rung-words-via-then-rung-words w ↦
+          record_off _ _ c.if-row-le-MOST_RECORDS.false c.loop-rung.invariant c.loop-rung-test.true _ refl w.if-rung-words.true
+      | then-rung-words-via-else-rung-words+then-not-holds_rung w ↦
+          rung_wrong _ _ c.if-row-le-MOST_RECORDS.false c.loop-rung.invariant c.loop-rung-test.true _ refl
+          (ap (completes 1 1) (sym split.1) ∙ sym w.holds_rung.ensures ∙ w.if-not-holds_rung.true)
+    ]
 
-pub loop-i-preserved : goal.loop-i-preserved
-loop-i-preserved c =
-    let ws = c.args.words.now in
-    let rs = records_of c.args.row.now in
-    let i = c.loop-i in
-    record {
-      within = omega arith;
-      so_far = c.laid_next-laid.ensures ∙ ap (λ (l : Laid). laid_next ws l (record_of c.rung_at.result)) i.invariant.so_far
-          ∙ ap (λ (r : RungRecord). laid_next ws (laid_upto ws i.i rs) r) (ap record_of c.rung_at.ensures ∙ sym (records_at c.args.row.now i.i)) ∙ sym (laid_next_lem ws rs i.i);
-    }
+pub loop-rung-preserved : goal.loop-rung-preserved
+loop-rung-preserved c =
+    let split = c.in-Some.ensures.cases in
+    rw split.2 (rung_right _ _ c.if-row-le-MOST_RECORDS.false c.loop-rung.invariant c.loop-rung-test.true _ refl c.if-rung-words.false split.0
+    (ap (completes 1 1) (sym split.1) ∙ sym c.holds_rung.ensures ∙ c.if-not-holds_rung.false))
 
 pub returns : goal.returns
-returns c =
-    let ws = c.args.words.now in
-    let rs = records_of c.args.row.now in
-    let i = c.loop-i in
-    let upto = c.asked_to-upto.result in
-    let all : i.i ≡ upto = omega arith in
-    let many : upto ≡ asked_to (length rs) = c.asked_to-upto.ensures ∙ ap asked_to (sym (records_length c.args.row.now)) in
-    c.laid_whole.ensures ∙ ap (λ (l : Laid). laid_whole upto (length ws) l) i.invariant.so_far ∙ ap (λ (j : ℕ). laid_whole upto (length ws) (laid_upto ws j rs)) (all ∙ many)
-    ∙ ap (λ (n : ℕ). laid_whole n (length ws) (laid_upto ws (asked_to (length rs)) rs)) many ∙ laid_holds ws rs
+returns c = c.is_empty.ensures ∙ walk_end _ _ c.if-row-le-MOST_RECORDS.false c.loop-rung.invariant c.loop-rung-test.false

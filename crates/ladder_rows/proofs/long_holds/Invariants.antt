@@ -1,11 +1,7 @@
--- `ladder_rows::long_holds` meets its contract. The loop's invariant: the first `i` records are laid as far as `laid` says. The measure is what is left of the records asked.
-use Rattle.std.proofs.Common.{◌-◌, ◌≤◌, ◌≡◌}
+-- `ladder_rows::long_holds` meets its contract. The loop's invariant: the records from `i` on and the words left hold rungs just when all do.
 use Rattle.rows.specs.Rows.{records_of}
-use Rattle.ladder_rows.proofs.Long.{laid_upto}
+use Rattle.ladder_kept.proofs.Holding.{Walking}
 use Rattle.ladder_rows.proofs.long_holds.Given as goal
 
-abbrev pub invariant-loop-i : goal.invariant-loop-i
-invariant-loop-i l = record { within : l.i ≤ l.upto; so_far : l.laid ≡ laid_upto l.words l.i (records_of l.row) }
-
-abbrev pub decreases-loop-i : goal.decreases-loop-i
-decreases-loop-i l = l.upto - l.i
+abbrev pub invariant-loop-rung : goal.invariant-loop-rung
+invariant-loop-rung l = Walking l.words (records_of l.row) l.rest l.rung-index

@@ -14,12 +14,11 @@ use Rattle.table.specs.State.{state_of}
 use Rattle.rungs.specs.Records.{labels, offsets}
 use Rattle.ladder_definitions.specs.Kept.{Kept, encode, decode}
 use Rattle.ladder_definitions.specs.Questions.{ladder_of, Accepted}
-use Rattle.ladder_definitions.specs.LadderScan.{scan_questions, call_ladder_scan, ladder_scanned_answer, LadderScanDone}
+use Rattle.ladder_definitions.specs.LadderScan.{scan_questions, call_ladder_scan, LadderScanned, ladder_scanned_answer, LadderScanDone}
 use Rattle.ladder_scanning.specs.Scanned.{WithinLimits, Scanned}
 use Rattle.ladder_definitions.proofs.Laws.Accepting.{encode_decode, accepted, scan_passed, sized}
 use Rattle.ladder_definitions.proofs.Laws.Held.{kept_held}
-use Rattle.ladder_definitions.specs.declared.LadderScanned.{LadderScanned}
-use Rattle.ladder_definitions.specs.declared.LadderScanned.TheVariants.{Refused as RefusedCase}
+use Rattle.std.specs.Prelude.{Err}
 
 module _ (vars : ℕ) (k : Kept) (t : List ℕ) (ts : List Timer) (w : ℕ) where
   -- every question got a "yes": the words and records hold a ladder
@@ -36,7 +35,7 @@ module _ (vars : ℕ) (k : Kept) (t : List ℕ) (ts : List Timer) (w : ℕ) wher
       record { words = omega (arith, most, same); rungs = watchdog_in_range most_rung_watchdog w (scan_passed vars k t ts w e).watchdog }
 
   module _ (now : ℕ) where
-    pub scan_refuses : (x : RefusalCase) → scan_questions vars k t ts w ≡ some (refusal_of x) → LadderScanDone (call_ladder_scan vars k t ts now w) (RefusedCase x) t ts
+    pub scan_refuses : (x : RefusalCase) → scan_questions vars k t ts w ≡ some (refusal_of x) → LadderScanDone (call_ladder_scan vars k t ts now w) (Err x) t ts
     unfolding call_ladder_scan ladder_scanned_answer
     scan_refuses x e = record { answer = rw (e, call_ladder_scan); same_table = rw (e, call_ladder_scan); same_timers = rw (e, call_ladder_scan) }
 

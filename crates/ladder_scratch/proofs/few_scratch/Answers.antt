@@ -5,5 +5,5 @@ use Rattle.ladder_scratch.proofs.few_scratch.Goals as goal
 pub returns-then-length-le-FEW_WORDS : goal.returns-then-length-le-FEW_WORDS
 returns-then-length-le-FEW_WORDS c = few_words _ _ _ c.if-length-le-FEW_WORDS.true
 
-pub returns : goal.returns
-returns c = many_words _ _ _ _ c.rung_scratch.ensures
+pub returns-else-length-le-FEW_WORDS : goal.returns-else-length-le-FEW_WORDS
+returns-else-length-le-FEW_WORDS c = many_words _ _ _ _ c.rung_scratch.ensures

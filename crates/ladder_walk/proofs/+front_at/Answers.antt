@@ -3,10 +3,10 @@
 use native.Mathlib.Omega.{arith}
 use Rattle.ladder_walk.proofs.Roots.{climbing_first, climbing_within, climbing_more, climbing_end}
 use Rattle.ladder_walk.proofs.+front_at.Goals as goal
-use Rattle.ladder_walk.proofs.+front_at.Goals.{then-first-contact, else-first-contact}
+use Rattle.ladder_walk.proofs.+front_at.Goals.{in-Some, in-None}
 
 pub loop-at-init : goal.loop-at-init
-loop-at-init t c = climbing_first c.first_contact-at.ensures c.contact_at-first.ensures
+loop-at-init t c = climbing_first c.first_contact-at.ensures c.contact_at.ensures c.unwrap_or-first.ensures
 
 pub front_at-second-requires : goal.front_at-second-requires
 front_at-second-requires t c =
@@ -15,10 +15,10 @@ front_at-second-requires t c =
 
 pub loop-at-preserved : goal.loop-at-preserved
 loop-at-preserved t c =
-    climbing_more c.loop-at.invariant c.loop-at-test.true _ c.word_at-kind.ensures _ _
-    (elim c.if-first-contact.branch [
-      | then-first-contact w ↦ rw w.second-is (c.contact_at-contact.ensures.worked w.if-first-contact.true)
-      | else-first-contact w ↦ rw w.second-is w.front_at-second.ensures
+    climbing_more c.loop-at.invariant c.loop-at-test.true _ c.at_or-kind.ensures _ _
+    (elim c.match-contact_at.branch [
+      | in-Some w ↦ rw w.second-is w.in-Some.ensures.cases
+      | in-None w ↦ rw w.second-is w.front_at-second.ensures
     ]) _ c.joined.ensures
 
 pub returns : goal.returns

@@ -9,7 +9,7 @@ abbrev pub decreases-front_at : goal.decreases-front_at
 decreases-front_at l = length l.words.now - l.from
 
 abbrev pub invariant-loop-at : goal.invariant-loop-at
-invariant-loop-at l = Climbing l.words l.from l.table l.at l.first l.table
+invariant-loop-at l = Climbing l.words l.from l.state.table.now l.at l.first l.state.table.now
 
 abbrev pub decreases-loop-at : goal.decreases-loop-at
 decreases-loop-at l = l.at

@@ -1,9 +1,11 @@
--- `list::row_in_range` meets its contract: slices of unequal lengths first, then question 10 of three of them. Assumes nothing.
+-- `list::row_in_range` meets its contract: slices of unequal lengths are no row, and others are three of them. Assumes nothing.
+use Rattle.std.proofs.Common.{◌∙◌}
+use borrow.Author.Tests.{ne_eqb}
 use Rattle.list.proofs.Answers.{uneven_row, even_row}
 use Rattle.list.proofs.row_in_range.Goals as goal
 
-pub returns-then-labels-times : goal.returns-then-labels-times
-returns-then-labels-times c = uneven_row _ _ _ _ _ _ c.if-labels-times.true
+pub returns-then-list-times : goal.returns-then-list-times
+returns-then-list-times c = even_row _ _ _ _ _ _ c.if-list-times.true _ c.list_in_range.ensures
 
-pub returns : goal.returns
-returns c = even_row _ _ _ _ _ _ c.if-labels-times.false _ c.list_in_range.ensures
+pub returns-else-list-times : goal.returns-else-list-times
+returns-else-list-times c = ne_eqb _ _ c.if-list-times.false ∙ uneven_row _ _ _ _ _ _ c.if-list-times.false

@@ -98,7 +98,7 @@ decode_code_lem [] h = refl
 decode_code_lem (i ∷ is) h = rw (decode_instr_lem i (all_head instr_fits i is h), decode_code) (rw (decode_code_lem is (all_tail instr_fits i is h)))
 
 pub code_decoded : (ws : List ℕ) (is : List Instr) → decode_code ws ≡ some is → (ws ≡ map instr_word is) × T (all instr_fits is)
-unfolding decode_code all
+unfolding decode_code
 code_decoded [] is e = let z : ◌≡◌ {A = List Instr} [] is = cc in rw (← z) (refl, tt)
 code_decoded (w ∷ ws) is e = go (decode_instr w) refl (decode_code ws) refl (λ js. code_decoded ws js)
   where

@@ -114,7 +114,6 @@ op_in_table (TON n) = omega arith
 -- ---- the question, in plain words
 
 get_all : {A : Type 0} (test : A → Bool) (xs : List A) (d : A) → ((i : ℕ) → i < length xs → T (test (get_or xs i d))) → T (all test xs)
-unfolding all
 get_all test [] d h = tt
 get_all test (x ∷ xs) d h = yes_and (test x) (all test xs) (h 0 (omega arith)) (get_all test xs d (λ i l. h (suc i) (omega arith)))
 
@@ -143,7 +142,6 @@ trimmed_letters (b ∷ w) n h =
     rw (ne_eqb b 0 (λ e. omega arith), trimmed) (ap (λ r. b ∷ r) (trimmed_letters w n (λ i k. h (suc i) (omega arith))))
 
 zeros_filled : (n : ℕ) → T (all (λ b. eqb b 0) (replicate n 0))
-unfolding all
 zeros_filled zero = tt
 zeros_filled (suc n) = zeros_filled n
 
@@ -204,5 +202,5 @@ unfolding fixed_table fixed_names flat_map names_from bytes
 fixed_names_lem = refl
 
 pub fixed_accepted : question14 fixed_table ≡ none
-unfolding fixed_table bytes fixed_names trimmed flat_map all ask names_from is_capital is_name same_bytes different is_name_table question14
+unfolding fixed_table bytes fixed_names trimmed flat_map ask names_from is_capital is_name same_bytes different is_name_table question14
 fixed_accepted = refl

@@ -1,6 +1,6 @@
 -- A "no" to question 1 or 10 is the answer of List scan, and after a "yes" to question 14 of Listing, whatever their later questions are; and what a refused
 -- List scan leaves. Assumes nothing.
-use Rattle.std.specs.Prelude.{ℕ, ◌≡◌, refl, true, false, List, [], ◌∷◌}
+use Rattle.std.specs.Prelude.{ℕ, ◌≡◌, refl, true, false, List, [], ◌∷◌, Err}
 use Rattle.std.proofs.Common.{◌∙◌}
 use Rattle.std.proofs.Math.Option.{none, some}
 use Rattle.std.proofs.Math.ListN.{length}
@@ -14,8 +14,6 @@ use Rattle.list_definitions.specs.Questions.{question10, list_answer}
 use Rattle.list_definitions.specs.ListScan.{list_of, scan_questions, call_list_scan, list_scanned_answer, ListScanDone}
 use Rattle.list_definitions.specs.Listing.{listing_text, listing, listed_answer, ListingDone}
 use Rattle.list_definitions.specs.Names.{names_in, is_name_table, question14}
-use Rattle.list_definitions.specs.declared.Listed.TheVariants.{Refused}
-use Rattle.list_definitions.specs.declared.ListScanned.TheVariants.{Refused as ScanRefused}
 
 first_refused : (a b : Answer) (later : List Answer) (r : Refusal) → first_no (a ∷ b ∷ []) ≡ some r → first_no (a ∷ b ∷ later) ≡ some r
 unfolding first_no
@@ -40,12 +38,12 @@ names_accepted table e later = rw e refl
 
 module _ (vars : ℕ) (ws : List ℕ) (rs : List RungRecord) where
   pub scan_refuses : (t : List ℕ) (timers : List Timer) (now w : ℕ) (refusal : RefusalCase) (times : List ℕ) → scan_questions vars ws rs t timers w ≡ some (refusal_of refusal)
-      → ListScanDone (call_list_scan vars ws rs t timers now w) (ScanRefused refusal) t timers times times
+      → ListScanDone (call_list_scan vars ws rs t timers now w) (Err refusal) t timers times times
   unfolding call_list_scan list_scanned_answer
   scan_refuses t timers now w refusal times e =
       record { answer = rw (e, call_list_scan); same_table = rw (e, call_list_scan); same_timers = rw (e, call_list_scan); same_times = rw (e, call_list_scan) }
 
-  pub listing_unnamed : (table out : List ℕ) → is_name_table table ≡ false → ListingDone (listing table vars ws rs out) (Refused NameTable) out
+  pub listing_unnamed : (table out : List ℕ) → is_name_table table ≡ false → ListingDone (listing table vars ws rs out) (Err NameTable) out
   unfolding listing listed_answer refusal_of
   listing_unnamed table out e =
       let room = question13 (record { needed = length (listing_text (names_in table) vars (list_of ws rs)); lent = length out } ∷ []) in
@@ -53,7 +51,7 @@ module _ (vars : ℕ) (ws : List ℕ) (rs : List RungRecord) where
       record { answer = rw (q, listing); same_buffer = rw (q, listing) }
 
   pub listing_refused_lem : (table out : List ℕ) (refusal : RefusalCase) → is_name_table table ≡ true → list_answer vars ws rs ≡ some (refusal_of refusal)
-      → ListingDone (listing table vars ws rs out) (Refused refusal) out
+      → ListingDone (listing table vars ws rs out) (Err refusal) out
   unfolding list_answer listing listed_answer
   listing_refused_lem table out refusal named e =
       let room = question13 (record { needed = length (listing_text (names_in table) vars (list_of ws rs)); lent = length out } ∷ []) in

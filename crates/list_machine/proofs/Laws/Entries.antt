@@ -1,13 +1,12 @@
 -- Laws of the times entered: one more for the first record that does not begin before the index is what an instruction enters, and no field is more than the
 -- instructions carried out (02, Req 04). Assumes nothing.
-use Rattle.std.specs.Prelude.{ℕ, suc, ◌+◌, ◌≤◌, ◌<◌, ◌≡◌, refl, length, get_or, set, replicate, eqb}
-use Rattle.std.proofs.Common.{arith, add-zero, zero-add, sym, ap, ◌∙◌, length-set, get_or-set_same, get_or-set_other, ne_eqb}
+use Rattle.std.specs.Prelude.{ℕ, suc, ◌+◌, ◌≤◌, ◌<◌, ◌≡◌, refl, length, get_or, set, eqb}
+use Rattle.std.proofs.Common.{arith, add-zero, sym, ap, length-set, get_or-set_same, get_or-set_other, ne_eqb}
 use Rattle.std.proofs.Math.Decide.{ℕ_discrete, dec_lt}
-use mathlib.Core.List.{List, [], ◌∷◌, zip_with, append-nil}
+use mathlib.Core.List.{List, [], ◌∷◌, zip_with}
 use Rattle.std.proofs.lemmas.List.{get_or-replicate, length-replicate}
 use Rattle.std.proofs.Math.ListN.{get_or-eq_default}
-use Rattle.std.proofs.lemmas.List.Edits.{sets, sets-eq}
-use Rattle.std.proofs.Math.Seq.{drop-length, set_out}
+use Rattle.std.proofs.Math.Seq.{set_out}
 use Rattle.questions.specs.Tests.{bit}
 use Rattle.rungs.specs.Records.{RungRecord, offsets, enter, none_entered}
 use Rattle.list_definitions.proofs.Laws.Times.{enter_none}
@@ -33,12 +32,6 @@ entered_here least (r ∷ rs) i (t ∷ ts) a e = go (dec_lt r.offset i) (entered
 pub counted_length : (ts : List ℕ) (next entered : ℕ) → length (counted ts next entered) ≡ length ts
 unfolding counted
 counted_length ts next entered = length-set ts next _
-
--- zeros stored over all of them
-pub all_zeros : (ts us : List ℕ) → us ≡ sets ts 0 (replicate (length ts) 0) → length us ≡ length ts → us ≡ none_entered (length us)
-all_zeros ts us e l =
-    let n = length-replicate {A = ℕ} (length ts) 0 in
-    rw l (e ∙ sets-eq (none_entered (length ts)) ts 0 (omega arith) ∙ rw (zero-add, n, drop-length) (append-nil (none_entered (length ts))))
 
 -- ---- no field is more than n
 

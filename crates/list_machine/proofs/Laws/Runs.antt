@@ -16,15 +16,19 @@ use Rattle.questions.specs.Tests.{bit, all}
 use Rattle.questions.proofs.Laws.Tests.{all_head, all_tail, bit_few}
 use Rattle.table.specs.Timer.{Timer}
 use Rattle.table.specs.State.{State}
+use Rattle.table.specs.TimerRecords.{timers_in}
+use Rattle.table.specs.Parts.{state_in}
+use Rattle.table.specs.declared.State.{State as StateStruct}
 use Rattle.rungs.specs.Records.{RungRecord, offsets, is_start, enter, none_entered}
 use Rattle.list_definitions.specs.Instruction.{Instr, instr_word, instr_fits, decode_instr, decode_code}
 use Rattle.list_definitions.specs.Machine.{InstructionList, fresh, begin, halted, scan_machine, scan_list}
 use Rattle.list_definitions.specs.ListScan.{counts_in, scan_ends, list_scanned_answer}
-use Rattle.list_machine.specs.Parts.{machine_counts, machine_of, Stepped, starts_here, counted, ascending, before, Sought, Followed, first_machine, runs_on, halted_at, Ran}
+use Rattle.list_machine.specs.Parts.{machine_of, Stepped, begins_here, starts_here, counted, ascending, before, Sought, Followed, first_machine, runs_on, counts_of, halted_at, Ran, Scanned}
 use Rattle.list_definitions.proofs.Laws.Decoding.{decode_instr_lem, code_decoded}
 use Rattle.list_definitions.proofs.Laws.Watchdog.{scan_end, scan_stop, scan_step}
-use Rattle.list_definitions.specs.declared.ListScanned.{ListScanned}
-use Rattle.list_definitions.specs.declared.ListScanned.TheVariants.{Ended as EndedCase, Stopped as StoppedCase}
+use Rattle.list_definitions.specs.declared.Counts.{Counts as CountsStruct}
+use Rattle.table.specs.declared.Halt.{Halt as HaltCase}
+use Rattle.table.specs.declared.Halt.TheVariants.{Ended as EndedCase, Stopped as StoppedCase}
 use Rattle.list_machine.specs.declared.Machine.{Machine as MachineStruct}
 use Rattle.list_machine.specs.declared.Place.{Place}
 use Rattle.list_machine.proofs.Laws.Seeks.{before_zero, carried_on}
@@ -96,22 +100,22 @@ count_here rs os i next ts o a q many = rw (q, ← o) (entered_here 0 rs i ts (r
 
 -- ---- the loop's invariant: with the times entered and the state, `b` and `s` at the start, `ts` and `u` now
 
-pub record Running (ws os b : List ℕ) (s : State) (w : ℕ) (ts : List ℕ) (u : ℕ → State) (m : MachineStruct) (next : ℕ) : Type 0 where
+pub record Running (ws os b : List ℕ) (s : StateStruct) (w : ℕ) (ts : List ℕ) (u : StateStruct) (m : MachineStruct) (next : ℕ) : Type 0 where
   pub same : (l : InstructionList) → decode_code ws ≡ some l.code → offsets l.records ≡ os → ascending 0 os
-      → scan_machine l (w - m.counts.instructions) (machine_of m ts) (u m.counts.moved) ≡ scan_list l w s
+      → scan_machine l (w - m.instructions) (machine_of m ts) (state_in u) ≡ scan_list l w (state_in s)
   pub next_is : ascending 0 os → next ≡ before os m.index
   pub next_within : next ≤ length os
-  pub carried : m.counts.instructions ≤ w
-  pub few_rungs : m.counts.rungs ≤ m.counts.instructions
-  pub few_moved : m.counts.moved ≤ m.counts.instructions
-  pub few_times : FewTimes ts m.counts.instructions
+  pub carried : m.instructions ≤ w
+  pub few_rungs : m.rungs ≤ m.instructions
+  pub few_moved : u.moved ≤ m.instructions
+  pub few_times : FewTimes ts m.instructions
   pub many : length ts ≡ length b
   pub even : length b ≡ length os
 
-pub running_first : (ws os b : List ℕ) (at : ℕ → State) (w : ℕ) → length b ≡ length os → b ≡ none_entered (length b)
-    → Running ws os b (at 0) w b at first_machine 0
-unfolding scan_list begin fresh machine_of machine_counts first_machine
-running_first ws os b at w e zeros = record {
+pub running_first : (ws os b : List ℕ) (at : StateStruct) (w : ℕ) → at.moved ≡ 0 → length b ≡ length os → b ≡ none_entered (length b)
+    → Running ws os b at w b at first_machine 0
+unfolding scan_list begin fresh machine_of first_machine
+running_first ws os b at w first e zeros = record {
   same = λ l d o a.
       let n = many_records l.records os b o e in
       let z : b ≡ none_entered (length l.records) = zeros ∙ ap (λ k. none_entered k) n in
@@ -126,40 +130,40 @@ running_first ws os b at w e zeros = record {
   even = e;
 }
 
-module _ (ws os b : List ℕ) (s : State) (w : ℕ) (ts : List ℕ) (u : ℕ → State) (m : MachineStruct) (next : ℕ) (r : Running ws os b s w ts u m next) where
-  pub ran_ended : (u m.counts.moved).moved ≡ m.counts.moved → length ws ≤ m.index → Ran ws os b s w (EndedCase m.counts) ts (u m.counts.moved).bytes (u m.counts.moved).timers
-  unfolding halted scan_ends counts_in list_scanned_answer machine_counts machine_of
-  ran_ended sum h = record {
+module _ (ws os b : List ℕ) (s : StateStruct) (w : ℕ) (ts : List ℕ) (u : StateStruct) (m : MachineStruct) (next : ℕ) (r : Running ws os b s w ts u m next) where
+  pub ran_ended : length ws ≤ m.index → Ran ws os b (state_in s) w (EndedCase (counts_of m u.moved)) ts u.table.now (timers_in u.timers.now)
+  unfolding halted scan_ends counts_in list_scanned_answer machine_of
+  ran_ended h = record {
     same = λ l d o a.
-        let e = sym (scan_end l (w - m.counts.instructions) (machine_of m ts) (u m.counts.moved) (at_end_lem ws l.code d m.index h)) ∙ r.same l d o a in
-        record { answer = rw sum at (ap (λ x. (scan_ends x).answer) e); same_table = ap (λ x. (scan_ends x).table) e; same_timers = ap (λ x. (scan_ends x).timers) e; same_times = ap (λ x. (scan_ends x).times b) e };
+        let e = sym (scan_end l (w - m.instructions) (machine_of m ts) (state_in u) (at_end_lem ws l.code d m.index h)) ∙ r.same l d o a in
+        record { answer = ap (λ x. (scan_ends x).answer) e; same_table = ap (λ x. (scan_ends x).table) e; same_timers = ap (λ x. (scan_ends x).timers) e; same_times = ap (λ x. (scan_ends x).times b) e };
   }
 
-  pub ran_stopped : (u m.counts.moved).moved ≡ m.counts.moved → m.index < length ws → m.counts.instructions ≡ w
-      → Ran ws os b s w (StoppedCase m.counts) ts (u m.counts.moved).bytes (u m.counts.moved).timers
-  unfolding halted scan_ends counts_in list_scanned_answer machine_counts machine_of
-  ran_stopped sum h z = record {
+  pub ran_stopped : m.index < length ws → m.instructions ≡ w
+      → Ran ws os b (state_in s) w (StoppedCase (counts_of m u.moved)) ts u.table.now (timers_in u.timers.now)
+  unfolding halted scan_ends counts_in list_scanned_answer machine_of
+  ran_stopped h z = record {
     same = λ l d o a.
         let k = word_at ws l.code d m.index h in
-        let n : w - m.counts.instructions ≡ 0 = omega arith in
-        let stop = scan_stop l (machine_of m ts) (u m.counts.moved) k.instr k.stands in
+        let n : w - m.instructions ≡ 0 = omega arith in
+        let stop = scan_stop l (machine_of m ts) (state_in u) k.instr k.stands in
         let e = sym stop ∙ (rw n at (r.same l d o a)) in
-        record { answer = rw sum at (ap (λ x. (scan_ends x).answer) e); same_table = ap (λ x. (scan_ends x).table) e; same_timers = ap (λ x. (scan_ends x).timers) e; same_times = ap (λ x. (scan_ends x).times b) e };
+        record { answer = ap (λ x. (scan_ends x).answer) e; same_table = ap (λ x. (scan_ends x).table) e; same_timers = ap (λ x. (scan_ends x).timers) e; same_times = ap (λ x. (scan_ends x).times b) e };
   }
 
-  module _ (h : m.index < length ws) (z : m.counts.instructions ≡ w → ⊥) (m' : MachineStruct) (ts' : List ℕ) (u' : ℕ → State)
+  module _ (h : m.index < length ws) (z : m.instructions ≡ w → ⊥) (m' : MachineStruct) (ts' : List ℕ) (u' : StateStruct)
       (entered : ℕ) (es : entered ≡ starts_here os next m.index) (counts : ts' ≡ counted ts next entered) (did : Stepped (get_or ws m.index 0) entered m u m' u') where
     same_after : (l : InstructionList) → decode_code ws ≡ some l.code → offsets l.records ≡ os → ascending 0 os
-        → scan_machine l (w - m'.counts.instructions) (machine_of m' ts') (u' m'.counts.moved) ≡ scan_list l w s
+        → scan_machine l (w - m'.instructions) (machine_of m' ts') (state_in u') ≡ scan_list l w (state_in s)
     unfolding machine_of
     same_after l d o a =
         let k = word_at ws l.code d m.index h in
         let c = did.carried in
         let q = r.carried in
-        let n : w - m.counts.instructions ≡ suc (w - m'.counts.instructions) = omega arith in
+        let n : w - m.instructions ≡ suc (w - m'.instructions) = omega arith in
         let times : ts' ≡ enter l.records m.index ts = counts ∙ rw es (count_here l.records os m.index next ts o a (r.next_is a) (many_records l.records os ts o (r.many ∙ r.even))) in
         let st = did.same k.instr k.decodes l.records (es ∙ start_here l.records os m.index next o a (r.next_is a)) ts in
-        let go = scan_step l (w - m'.counts.instructions) (machine_of m ts) (u m.counts.moved) k.instr k.stands in
+        let go = scan_step l (w - m'.instructions) (machine_of m ts) (state_in u) k.instr k.stands in
         rw times (sym (rw st at go) ∙ (rw n at (r.same l d o a)))
 
     next_after : (next' : ℕ) → next' ≤ length os → (ascending 0 os → next' ≡ before os m'.index) → Running ws os b s w ts' u' m' next'
@@ -172,7 +176,7 @@ module _ (ws os b : List ℕ) (s : State) (w : ℕ) (ts : List ℕ) (u : ℕ →
           carried = omega arith;
           few_rungs = omega arith;
           few_moved = omega arith;
-          few_times = rw (counts, c) (few_counted ts m.counts.instructions next entered r.few_times (omega arith));
+          few_times = rw (counts, c) (few_counted ts m.instructions next entered r.few_times (omega arith));
           many = rw counts (counted_length ts next entered) ∙ r.many;
           even = r.even;
         }
@@ -189,57 +193,66 @@ module _ (ws os b : List ℕ) (s : State) (w : ℕ) (ts : List ℕ) (u : ℕ →
 -- the machine is before the end, and the watchdog has not come
 pub record RunsOn (end w : ℕ) (m : MachineStruct) : Type 0 where
   pub inside : m.index < end
-  pub left : m.counts.instructions ≡ w → ⊥
+  pub left : m.instructions ≡ w → ⊥
 
 pub runs_on_lem : (end w : ℕ) (m : MachineStruct) → runs_on end w m ≡ true → RunsOn end w m
 unfolding runs_on
-runs_on_lem end w m e = go (leb end m.index) (eqb m.counts.instructions w) refl refl e
+runs_on_lem end w m e = go (leb end m.index) (eqb m.instructions w) refl refl e
   where
     no_path : ◌≡◌ {A = Bool} false true → RunsOn end w m
     no_path h = let z : ◌≡◌ {A = ℕ} 0 1 = cc in absurd (omega arith)
 
-    go : (a b : Bool) → leb end m.index ≡ a → eqb m.counts.instructions w ≡ b → (not a && not b) ≡ true → RunsOn end w m
+    go : (a b : Bool) → leb end m.index ≡ a → eqb m.instructions w ≡ b → (not a && not b) ≡ true → RunsOn end w m
     go true b p q h = no_path h
     go false true p q h = no_path h
     go false false p q h = record { inside = leb-false _ _ p; left = eqb-false _ _ q }
 
-pub halts : (end w : ℕ) (m : MachineStruct) → runs_on end w m ≡ false → m.index < end → m.counts.instructions ≡ w
+pub halts : (end w : ℕ) (m : MachineStruct) → runs_on end w m ≡ false → m.index < end → m.instructions ≡ w
 unfolding runs_on
-halts end w m e h = go (leb end m.index) (eqb m.counts.instructions w) refl refl e
+halts end w m e h = go (leb end m.index) (eqb m.instructions w) refl refl e
   where
-    go : (a b : Bool) → leb end m.index ≡ a → eqb m.counts.instructions w ≡ b → (not a && not b) ≡ false → m.counts.instructions ≡ w
+    go : (a b : Bool) → leb end m.index ≡ a → eqb m.instructions w ≡ b → (not a && not b) ≡ false → m.instructions ≡ w
     go true b p q k = let l = leb-true end m.index p in absurd (omega arith)
     go false true p q k = eqb-true _ _ q
     go false false p q k = cc
 
-pub record Standing (ws os b : List ℕ) (s : State) (w : ℕ) (ts : List ℕ) (u : ℕ → State) (m : MachineStruct) (place : Place) : Type 0 where
+pub record Standing (ws os b : List ℕ) (s : StateStruct) (w : ℕ) (ts : List ℕ) (u : StateStruct) (m : MachineStruct) (place : Place) : Type 0 where
   pub running : Running ws os b s w ts u m place.next
   pub same_index : place.index ≡ m.index
-  pub starts : place.entered ≡ starts_here os place.next m.index
+  pub starts : place.entered ≡ begins_here os place.next m.index
+  pub same_table : u.table.ghost_name ≡ s.table.ghost_name
+  pub same_timers : u.timers.ghost_name ≡ s.timers.ghost_name
 
-pub standing_first : (ws os b : List ℕ) (at : ℕ → State) (w : ℕ) (place : Place) → length b ≡ length os → b ≡ none_entered (length b) → place.index ≡ 0 → place.next ≡ 0 → place.entered ≡ starts_here os 0 0
-    → Standing ws os b (at 0) w b at first_machine place
+pub standing_first : (ws os b : List ℕ) (at : StateStruct) (w : ℕ) (place : Place) → at.moved ≡ 0 → length b ≡ length os → b ≡ none_entered (length b) → place.index ≡ 0 → place.next ≡ 0 → place.entered ≡ begins_here os 0 0
+    → Standing ws os b at w b at first_machine place
 unfolding first_machine
-standing_first ws os b at w place even zeros i n e = record { running = rw n (running_first ws os b at w even zeros); same_index = i; starts = rw n e }
+standing_first ws os b at w place first even zeros i n e = record {
+  running = rw n (running_first ws os b at w first even zeros);
+  same_index = i;
+  starts = rw n e;
+  same_table = refl;
+  same_timers = refl;
+}
 
 -- what one more instruction asks for
-pub record StandingNeeds (ws os ts : List ℕ) (m : MachineStruct) (place : Place) : Type 0 where
+pub record StandingNeeds (ws os ts : List ℕ) (u : StateStruct) (m : MachineStruct) (place : Place) : Type 0 where
   pub inside : m.index < length ws
-  pub instructions : m.counts.instructions + 1 < 2 ^ 32
-  pub rungs : m.counts.rungs + place.entered < 2 ^ 32
-  pub moved : m.counts.moved + 1 < 2 ^ 32
-  pub times_within : place.next + place.entered ≤ length ts
-  pub times : get_or ts place.next 0 + place.entered < 2 ^ 32
+  pub instructions : m.instructions + 1 < 2 ^ 32
+  pub rungs : m.rungs + bit place.entered < 2 ^ 32
+  pub moved : u.moved + 1 < 2 ^ 32
+  pub times_within : place.next + bit place.entered ≤ length ts
+  pub times : get_or ts place.next 0 + bit place.entered < 2 ^ 32
   pub same_index : place.index ≡ m.index
-  pub next_within : place.next + place.entered ≤ length os
+  pub next_within : place.next + bit place.entered ≤ length os
 
-module _ (ws os b : List ℕ) (s : State) (w : ℕ) (ts : List ℕ) (u : ℕ → State) (m : MachineStruct) (place : Place) (standing : Standing ws os b s w ts u m place) where
-  pub standing_needs : w < 2 ^ 32 → runs_on (length ws) w m ≡ true → StandingNeeds ws os ts m place
+module _ (ws os b : List ℕ) (s : StateStruct) (w : ℕ) (ts : List ℕ) (u : StateStruct) (m : MachineStruct) (place : Place) (standing : Standing ws os b s w ts u m place) where
+  pub standing_needs : w < 2 ^ 32 → runs_on (length ws) w m ≡ true → StandingNeeds ws os ts u m place
+  unfolding starts_here
   standing_needs fits on =
       let r = standing.running in
       let o = runs_on_lem (length ws) w m on in
       let z = o.left in
-      let e = standing.starts in
+      let e = ap bit standing.starts in
       let carried = r.carried in
       let few_rungs = r.few_rungs in
       let few_moved = r.few_moved in
@@ -259,43 +272,48 @@ module _ (ws os b : List ℕ) (s : State) (w : ℕ) (ts : List ℕ) (u : ℕ →
         next_within = omega arith;
       }
 
-  pub standing_next : runs_on (length ws) w m ≡ true → (m' : MachineStruct) (ts' : List ℕ) (u' : ℕ → State) → ts' ≡ counted ts place.next place.entered
-      → Stepped (get_or ws m.index 0) place.entered m u m' u' → (place' : Place) → Followed os place m'.index place' → Standing ws os b s w ts' u' m' place'
+  pub standing_next : runs_on (length ws) w m ≡ true → (m' : MachineStruct) (ts' : List ℕ) (u' : StateStruct) → ts' ≡ counted ts place.next (bit place.entered)
+      → Stepped (get_or ws m.index 0) (bit place.entered) m u m' u' → (place' : Place) → Followed os place m'.index place' → Standing ws os b s w ts' u' m' place'
+  unfolding starts_here
   standing_next on m' ts' u' c did place' f = record {
     running = go (ℕ_discrete m'.index (place.index + 1));
     same_index = f.here;
     starts = f.starts;
+    same_table = did.same_table ∙ standing.same_table;
+    same_timers = did.same_timers ∙ standing.same_timers;
   }
     where
       o : RunsOn (length ws) w m
       o = runs_on_lem (length ws) w m on
 
+      entered : bit place.entered ≡ starts_here os place.next m.index
+      entered = ap bit standing.starts
+
       go : Dec (m'.index ≡ place.index + 1) → Running ws os b s w ts' u' m' place'.next
       go (yes q) = rw (f.straight q)
-          (run_straight ws os b s w ts u m place.next standing.running o.inside o.left m' ts' u' place.entered standing.starts c did (q ∙ ap (λ i. i + 1) standing.same_index))
-      go (no n) = run_jump ws os b s w ts u m place.next standing.running o.inside o.left m' ts' u' place.entered standing.starts c did place'.next (f.found n)
+          (run_straight ws os b s w ts u m place.next standing.running o.inside o.left m' ts' u' (bit place.entered) entered c did (q ∙ ap (λ i. i + 1) standing.same_index))
+      go (no n) = run_jump ws os b s w ts u m place.next standing.running o.inside o.left m' ts' u' (bit place.entered) entered c did place'.next (f.found n)
 
-  pub standing_less : runs_on (length ws) w m ≡ true → (m' : MachineStruct) (u' : ℕ → State) → Stepped (get_or ws m.index 0) place.entered m u m' u'
-      → w - m'.counts.instructions < w - m.counts.instructions
+  pub standing_less : runs_on (length ws) w m ≡ true → (m' : MachineStruct) (u' : StateStruct) → Stepped (get_or ws m.index 0) (bit place.entered) m u m' u'
+      → w - m'.instructions < w - m.instructions
   standing_less on m' u' did =
       let z = (runs_on_lem (length ws) w m on).left in
       let c = did.carried in
       let carried = standing.running.carried in
       omega arith
 
-  -- the state has the machine's sum
-  pub standing_ends : (u m.counts.moved).moved ≡ m.counts.moved → runs_on (length ws) w m ≡ false → Ran ws os b s w (halted_at (length ws) m) ts (u m.counts.moved).bytes (u m.counts.moved).timers
+  pub standing_ends : runs_on (length ws) w m ≡ false → Scanned ws os b s w (halted_at (length ws) u.moved m) ts u
   unfolding halted_at
-  standing_ends sum off = go (leb (length ws) m.index) refl
+  standing_ends off = record { ran = go (leb (length ws) m.index) refl; same_table = standing.same_table; same_timers = standing.same_timers }
     where
-      go : (q : Bool) → leb (length ws) m.index ≡ q → Ran ws os b s w (halted_at (length ws) m) ts (u m.counts.moved).bytes (u m.counts.moved).timers
-      go true e = rw (e, halted_at) (ran_ended ws os b s w ts u m place.next standing.running sum (leb-true _ _ e))
+      go : (q : Bool) → leb (length ws) m.index ≡ q → Ran ws os b (state_in s) w (halted_at (length ws) u.moved m) ts u.table.now (timers_in u.timers.now)
+      go true e = rw (e, halted_at) (ran_ended ws os b s w ts u m place.next standing.running (leb-true _ _ e))
       go false e = rw (e, halted_at)
-          (ran_stopped ws os b s w ts u m place.next standing.running sum (leb-false _ _ e) (halts (length ws) w m off (leb-false _ _ e)))
+          (ran_stopped ws os b s w ts u m place.next standing.running (leb-false _ _ e) (halts (length ws) w m off (leb-false _ _ e)))
 
 -- ---- a scan from zeros, over times entered of which any value is taken
 
-pub ran_over : (ws os before zeros : List ℕ) (s : State) (w : ℕ) (r : ListScanned) (after u : List ℕ) (ts : List Timer) → Ran ws os zeros s w r after u ts
+pub ran_over : (ws os before zeros : List ℕ) (s : State) (w : ℕ) (r : HaltCase CountsStruct) (after u : List ℕ) (ts : List Timer) → Ran ws os zeros s w r after u ts
     → Ran ws os before s w r after u ts
 unfolding scan_ends
 ran_over ws os before zeros s w r after u ts ran = record {

@@ -1,5 +1,5 @@
 -- The call List scan from its scan, for any records that its questions took. Assumes nothing.
-use Rattle.std.specs.Prelude.{ℕ, ◌≡◌, List, length}
+use Rattle.std.specs.Prelude.{Ok, ℕ, ◌≡◌, List, length}
 use Rattle.std.proofs.Math.Path.{refl}
 use Rattle.std.proofs.Math.Option.{none}
 use Rattle.questions.proofs.Laws.Answers.{ask_passed}
@@ -9,7 +9,8 @@ use Rattle.rungs.specs.Records.{RungRecord, offsets}
 use Rattle.list_definitions.specs.Questions.{list_in_range, question10}
 use Rattle.list_definitions.specs.ListScan.{list_of, scan_questions, call_list_scan, ListScanDone}
 use Rattle.list_machine.specs.Parts.{Ran}
-use Rattle.list_definitions.specs.declared.ListScanned.{ListScanned}
+use Rattle.list_definitions.specs.declared.Counts.{Counts as CountsStruct}
+use Rattle.table.specs.declared.Halt.{Halt as HaltCase}
 use Rattle.list_definitions.proofs.Laws.Answers.{scan_passed}
 use Rattle.list_definitions.proofs.Laws.InRange.{InRange, list_in_range_lem}
 use Rattle.list_machine.proofs.Laws.Seeks.{laid_ascend}
@@ -20,8 +21,8 @@ module _ (vars : ℕ) (ws : List ℕ) (rs : List RungRecord) (t : List ℕ) (tim
   unfolding question10
   scan_in_range e = list_in_range_lem vars ws rs (ask_passed 10 (list_in_range vars ws rs) (scan_passed vars ws rs t timers w e).list)
 
-  pub scan_scans : (now : ℕ) (before : List ℕ) (r : ListScanned) (after u : List ℕ) (left : List Timer) → scan_questions vars ws rs t timers w ≡ none
-      → Ran ws (offsets rs) before (state_of vars t timers now) w r after u left → ListScanDone (call_list_scan vars ws rs t timers now w) r u left before after
+  pub scan_scans : (now : ℕ) (before : List ℕ) (r : HaltCase CountsStruct) (after u : List ℕ) (left : List Timer) → scan_questions vars ws rs t timers w ≡ none
+      → Ran ws (offsets rs) before (state_of vars t timers now) w r after u left → ListScanDone (call_list_scan vars ws rs t timers now w) (Ok r) u left before after
   unfolding call_list_scan list_of
   scan_scans now before r after u left e ran =
       let a = scan_in_range e in

@@ -1,10 +1,12 @@
 -- Laws of the first record that does not begin before an index: found by halving, and carried along straight runs. Assumes nothing.
-use Rattle.std.specs.Prelude.{ℕ, zero, suc, ◌+◌, ◌≤◌, ◌<◌, ◌≡◌, refl, Bool, true, false, List, [], ◌∷◌, T, eqb, ltb, length, get_or}
-use Rattle.std.proofs.Common.{arith, ltb→lt, eqb→eq}
+use Rattle.std.specs.Prelude.{ℕ, zero, suc, ◌+◌, ◌-◌, ◌≤◌, ◌<◌, ◌≡◌, refl, Bool, true, false, List, [], ◌∷◌, T, eqb, ltb, length, get_or}
+use Rattle.std.proofs.Common.{arith, ltb→lt, eqb→eq, ltb-true, ltb-false}
 use Rattle.std.proofs.Math.Decide.{ℕ_discrete, dec_lt}
 use Rattle.std.proofs.Math.Dec.{leb-suc-suc}
 use borrow.Author.Tests.{eq-eqb, ne_eqb, lt-ltb, le-ltb}
 use Rattle.std.proofs.Math.Facts.{and_yes}
+use Rattle.std.specs.List.Sorted.{IsPartitionPoint, IsPartitionedBy, IsNonDecreasingBy}
+use Rattle.std.proofs.lemmas.List.Sorted.{IsPartitionedBy-ltb}
 use Rattle.questions.specs.Tests.{bit, all}
 use Rattle.rungs.specs.Records.{RungRecord, offsets, laid, is_start}
 use Rattle.list_machine.specs.Parts.{starts_here, ascending, before, Sought}
@@ -20,18 +22,26 @@ before_most (o ∷ os) i = go (ltb o i) refl (before_most os i)
     go true e h = rw (e, before) (omega arith)
     go false e h = rw (e, before) (omega arith)
 
-least_at : (least : ℕ) (os : List ℕ) (k : ℕ) → ascending least os → k < length os → least ≤ get_or os k 0
+least_at : (least : ℕ) (os : List ℕ) (k d : ℕ) → ascending least os → k < length os → least ≤ get_or os k d
 unfolding ascending
-least_at least [] k a h = absurd (omega arith)
-least_at least (o ∷ os) zero a h = a.0
-least_at least (o ∷ os) (suc k) a h = let r = least_at (suc o) os k a.1 (omega arith) in let s = a.0 in omega arith
+least_at least [] k d a h = absurd (omega arith)
+least_at least (o ∷ os) zero d a h = a.0
+least_at least (o ∷ os) (suc k) d a h = let r = least_at (suc o) os k d a.1 (omega arith) in let s = a.0 in omega arith
+
+rising : (least : ℕ) (os : List ℕ) → ascending least os → IsNonDecreasingBy (λ o. o) os
+unfolding ascending
+rising least [] a i j d o l = absurd (omega arith)
+rising least (o ∷ os) a zero zero d h l = omega arith
+rising least (o ∷ os) a zero (suc j) d h l = let r = least_at (suc o) os j d a.1 (omega arith) in omega arith
+rising least (o ∷ os) a (suc i) zero d h l = absurd (omega arith)
+rising least (o ∷ os) a (suc i) (suc j) d h l = rising (suc o) os a.1 i j d (omega arith) (omega arith)
 
 below_at : (least : ℕ) (os : List ℕ) (k i : ℕ) → ascending least os → k < length os → get_or os k 0 < i → k + 1 ≤ before os i
 unfolding ascending before
 below_at least [] k i a h l = absurd (omega arith)
 below_at least (o ∷ os) zero i a h l = rw (lt-ltb o i l, before) (omega arith)
 below_at least (o ∷ os) (suc k) i a h l =
-    let r = least_at (suc o) os k a.1 (omega arith) in
+    let r = least_at (suc o) os k 0 a.1 (omega arith) in
     let s = below_at (suc o) os k i a.1 (omega arith) l in
     rw (lt-ltb o i (omega arith), before) (omega arith)
 
@@ -45,37 +55,29 @@ above_at (o ∷ os) (suc k) i h l = go (ltb o i) refl (above_at os k i (omega ar
     go true e r = rw (e, before) (omega arith)
     go false e r = rw (e, before) (omega arith)
 
--- the loop's invariant: the place lies between `low` and `high`
-pub record Between (os : List ℕ) (index low high : ℕ) : Type 0 where
-  pub ordered : low ≤ high
-  pub within : high ≤ length os
-  pub least : ascending 0 os → low ≤ before os index
-  pub most : ascending 0 os → before os index ≤ high
+-- offsets that ascend are parted by an index: those before it come first
+pub parted : (os : List ℕ) (index : ℕ) → ascending 0 os → IsPartitionedBy (λ o. ltb o index) os
+parted os index a = IsPartitionedBy-ltb (λ o. o) os index (rising 0 os a)
 
-pub between_all : (os : List ℕ) (index : ℕ) → Between os index 0 (length os)
-between_all os index = record { ordered = omega arith; within = omega arith; least = λ a. omega arith; most = λ a. before_most os index }
+-- where they are parted
+parted_at : (os : List ℕ) (index r : ℕ) → r ≤ length os → ascending 0 os → IsPartitionPoint (λ o. ltb o index ≡ true) (λ o. ltb o index ≡ false) os r → r ≡ before os index
+parted_at os index r within a parts =
+    let least = from_below r (dec_lt 0 r) within parts.0 in
+    let most = from_above (dec_lt r (length os)) in
+    omega arith
+  where
+    from_below : (r : ℕ) → Dec (0 < r) → r ≤ length os → ((k : ℕ) (d : ℕ) → 0 ≤ k → k < r → ltb (get_or os k d) index ≡ true) → r ≤ before os index
+    from_below r (no z) w p = omega arith
+    from_below r (yes z) w p =
+        let below = below_at 0 os (r - 1) index a (omega arith) (ltb-true _ _ (p (r - 1) 0 (omega arith) (omega arith))) in
+        omega arith
 
-module _ (os : List ℕ) (index low high middle : ℕ) (b : Between os index low high) (lo : low ≤ middle) (hi : middle < high) where
-  pub go_up : get_or os middle 0 < index → Between os index (middle + 1) high
-  go_up h = let w = b.within in record {
-    ordered = omega arith;
-    within = w;
-    least = λ a. below_at 0 os middle index a (omega arith) h;
-    most = b.most;
-  }
+    from_above : Dec (r < length os) → before os index ≤ r
+    from_above (yes l) = above_at os r index l (ltb-false _ _ (parts.1 r 0 (omega arith) l))
+    from_above (no l) = let most = before_most os index in omega arith
 
-  pub go_down : index ≤ get_or os middle 0 → Between os index low middle
-  go_down h = let w = b.within in record {
-    ordered = lo;
-    within = omega arith;
-    least = b.least;
-    most = λ a. above_at os middle index (omega arith) h;
-  }
-
-pub sought : (os : List ℕ) (index low high : ℕ) → Between os index low high → high ≤ low → Sought os index low
-sought os index low high b h =
-    let o = b.ordered in let w = b.within in
-    record { same = λ a. let l = b.least a in let m = b.most a in omega arith; within = omega arith }
+pub sought : (os : List ℕ) (index r : ℕ) → r ≤ length os → (ascending 0 os → IsPartitionPoint (λ o. ltb o index ≡ true) (λ o. ltb o index ≡ false) os r) → Sought os index r
+sought os index r within parts = record { same = λ a. parted_at os index r within a (parts a); within = within }
 
 -- ---- straight runs
 
@@ -167,7 +169,7 @@ weaken least lower [] h a = tt
 weaken least lower (o ∷ os) h a = let s = a.0 in (omega arith, a.1)
 
 pub laid_ascend : (start end : ℕ) (rs : List RungRecord) → T (laid start end rs) → T (all (λ r. ltb 0 r.length) rs) → ascending start (offsets rs)
-unfolding ascending laid all
+unfolding ascending laid
 laid_ascend start end [] h k = tt
 laid_ascend start end (r ∷ rs) h k =
     let hh = and_yes (eqb r.offset start) (laid (start + r.length) end rs) h in

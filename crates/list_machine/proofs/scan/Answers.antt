@@ -6,7 +6,7 @@ use Rattle.list_machine.proofs.scan.Goals as goal
 
 pub loop-place-init : goal.loop-place-init
 unfolding first_place
-loop-place-init c = rw (c.first_machine-m.ensures, c.first_place-place.ensures) (standing_first _ _ _ _ _ _ c.requires.0 c.requires.1 refl refl refl)
+loop-place-init c = rw (c.first_machine-m.ensures, c.first_place-place.ensures) (standing_first _ _ _ _ _ _ c.requires.2 c.requires.0 c.requires.1 refl refl refl)
 
 pub count_entry-requires : goal.count_entry-requires
 count_entry-requires c = let n = standing_needs _ _ _ _ _ _ _ _ _ c.loop-place.invariant c.ranges.watchdog.fits (sym c.runs_on.ensures ∙ c.loop-place-test.true) in (n.times_within, n.times)
@@ -26,4 +26,4 @@ pub loop-place-preserved : goal.loop-place-preserved
 loop-place-preserved c = standing_next _ _ _ _ _ _ _ _ _ c.loop-place.invariant (sym c.runs_on.ensures ∙ c.loop-place-test.true) _ _ _ c.count_entry.ensures c.step.ensures _ c.follow-place.ensures
 
 pub returns : goal.returns
-returns c = rw c.halted_at.ensures (standing_ends _ _ _ _ _ _ _ _ _ c.loop-place.invariant refl (sym c.runs_on.ensures ∙ c.loop-place-test.false))
+returns c = rw c.halted_at.ensures (standing_ends _ _ _ _ _ _ _ _ _ c.loop-place.invariant (sym c.runs_on.ensures ∙ c.loop-place-test.false))

@@ -1,26 +1,13 @@
--- `list_machine::seek` meets its contract. The loop's invariant: the place lies between `low` and `high`, which come nearer by halves. Assumes nothing.
-use Prim.Native.Nat.{◌+◌, ◌-◌, ◌/◌}
-use native.Mathlib.Omega.{arith}
-use Rattle.list_machine.proofs.Laws.Seeks.{between_all, go_up, go_down, sought}
+-- `list_machine::seek` meets its contract: where offsets that ascend are parted is the first that is not below the index. Assumes nothing.
+use Rattle.std.proofs.Common.{rules, ltb}
+use Rattle.std.proofs.lemmas.List.Sorted.{IsPartitionPoint-from_clause}
+use Rattle.list_machine.proofs.Laws.Seeks.{parted, sought}
 use Rattle.list_machine.proofs.seek.Goals as goal
 
-pub loop-low-init : goal.loop-low-init
-loop-low-init c = between_all _ _
-
-pub offset_bounds-offsets-middle : goal.offset_bounds-offsets-middle
-offset_bounds-offsets-middle c = omega (arith, c.loop-low.invariant.within)
-
-pub bounds-offsets-middle : goal.bounds-offsets-middle
-bounds-offsets-middle c = omega (arith, c.loop-low.invariant.within)
-
-pub overflow_cast-offsets : goal.overflow_cast-offsets
-overflow_cast-offsets c = omega (arith, c.type_inv.offsets (c.loop-low.low + (c.loop-low.high - c.loop-low.low) / 2))
-
-pub loop-low-preserved-then-offsets-middle : goal.loop-low-preserved-then-offsets-middle
-loop-low-preserved-then-offsets-middle c = go_up _ _ _ _ _ c.loop-low.invariant (omega arith) (omega arith) c.if-offsets-middle.true
-
-pub loop-low-preserved : goal.loop-low-preserved
-loop-low-preserved c = go_down _ _ _ _ _ c.loop-low.invariant (omega arith) (omega arith) c.if-offsets-middle.false
-
 pub returns : goal.returns
-returns c = sought _ _ _ _ c.loop-low.invariant c.loop-low-test.false
+returns c =
+    let os = c.args.offsets.now in
+    let index = c.args.index in
+    let found = c.partition_point.ensures in
+    sought os index _ found.bound
+    (λ a. IsPartitionPoint-from_clause (λ o. ltb o index) os _ found.partitioned (parted os index a) (λ x r f k. search rules))

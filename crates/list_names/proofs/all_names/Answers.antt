@@ -1,23 +1,12 @@
--- `list_names::all_names` meets its contract. The loop's invariant: the entries from `at` on are names just when all are. Assumes nothing.
-use native.Mathlib.Omega.{arith}
-use Rattle.list_definitions.specs.Names.{most_op}
-use Rattle.list_names.proofs.Tables.{testing_start, testing_stop, testing_more, testing_end}
+-- `list_names::all_names` meets its contract: the chunks of six bytes are the names. Assumes nothing.
+use Rattle.std.proofs.Common.{◌≡◌, length, arith, ◌/◌, rules}
+use Rattle.std.proofs.lemmas.Iterator.Search.{all_from_yields_List}
+use Rattle.list_definitions.specs.Names.{is_name}
+use Rattle.list_names.proofs.Chunks.{names_yielded}
 use Rattle.list_names.proofs.all_names.Goals as goal
 
-pub loop-left-init : goal.loop-left-init
-loop-left-init c = testing_start _ _ 0 most_op (omega (arith, c.requires))
-
-pub is_name-requires : goal.is_name-requires
-is_name-requires c = omega (arith, c.loop-left.invariant.place, c.loop-left-test.true)
-
-pub returns-then-not-is_name : goal.returns-then-not-is_name
-returns-then-not-is_name c = testing_stop _ _ _ _ _ c.loop-left.invariant c.loop-left-test.true _ c.is_name.ensures c.if-not-is_name.true
-
-pub overflow_add-at : goal.overflow_add-at
-overflow_add-at c = omega (arith, c.loop-left.invariant.place, c.loop-left-test.true)
-
-pub loop-left-preserved : goal.loop-left-preserved
-loop-left-preserved c = testing_more _ _ _ _ _ c.loop-left.invariant c.loop-left-test.true _ c.is_name.ensures c.if-not-is_name.false
-
 pub returns : goal.returns
-returns c = testing_end _ _ _ _ _ c.loop-left.invariant c.loop-left-test.false
+returns c =
+    let many : length c.args.table.now / 6 ≡ 17 = omega (arith, c.requires) in
+    let names = rw many at (names_yielded {s = c.chunks_exact.result} c.args.table.now c.chunks_exact.ensures.rest c.chunks_exact.ensures.size) in
+    all_from_yields_List is_name _ _ _ c.all.ensures.ran names (λ x b q k. search rules)

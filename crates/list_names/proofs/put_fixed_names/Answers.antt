@@ -10,13 +10,10 @@ loop-op-init c = filling_start _
 
 pub put_fixed_name-end-requires : goal.put_fixed_name-end-requires
 unfolding fixed_names bytes
-put_fixed_name-end-requires c = let p = c.loop-op.invariant.place in let f = c.loop-op.invariant.from in let t = c.loop-op-test.true in (omega arith, f, t)
+put_fixed_name-end-requires c = (omega (arith, c.loop-op.invariant.place, c.loop-op-test.true), c.loop-op.invariant.from, c.loop-op-test.true)
 
 pub loop-op-preserved : goal.loop-op-preserved
 loop-op-preserved c = filling_more c.loop-op.invariant c.loop-op-test.true c.put_fixed_name-end.ensures
-
-pub shape_of-table : goal.shape_of-table
-shape_of-table c = c.loop-op.invariant.left.long
 
 pub returns : goal.returns
 returns c = filling_end c.loop-op.invariant c.loop-op-test.false

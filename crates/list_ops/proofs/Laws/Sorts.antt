@@ -1,5 +1,5 @@
 -- Sorts of operands by tests of an op's number, and words in range by the sort of their op. Assumes nothing.
-use Rattle.std.specs.Prelude.{ℕ, zero, suc, ◌≤◌, ◌<◌, ◌≡◌, refl, Bool, true, false, ◌&&◌, eqb, leb, ltb, length, get_or}
+use Rattle.std.specs.Prelude.{Option as OptionCase, ℕ, zero, suc, ◌≤◌, ◌<◌, ◌≡◌, refl, Bool, true, false, eqb, leb, ltb, length, get_or}
 use Rattle.std.proofs.Common.{arith, sym, ◌∙◌, true≢false, leb→le, le-leb}
 use Rattle.std.proofs.Math.Decide.{ℕ_discrete, dec_le, dec_lt}
 use Rattle.std.proofs.Math.Option.{Option, none, some}
@@ -10,7 +10,7 @@ use Rattle.rungs.specs.Words.{number_of, operand_of}
 use Rattle.rungs.proofs.Laws.Numbers.{Firsts, ◌then◌, past, every}
 use Rattle.list_definitions.specs.Instruction.{Instr, operand, no_op, only_not, ops, decode_instr, OperandSort, table_sort, nothing_sort, instruction_sort, timer_sort, no_sort, sort_of, operand_sort}
 use Rattle.list_definitions.specs.Questions.{operand_in_range, instr_in_range, word_in_range}
-use Rattle.list_ops.specs.Sorts.{sort_in}
+use Rattle.list_ops.specs.Sorts.{sort_in, within}
 use Rattle.list_ops.specs.declared.OperandSort.{OperandSort as OperandSortCase}
 
 table_sort_lem : (k : ℕ) → 1 ≤ k → k ≤ 10 → table_sort ≡ operand_sort k
@@ -48,13 +48,12 @@ no_sort_lem (suc k) h = go (dec_lt (suc k) (length ops))
 
 -- ---- by a test of both bounds of a range
 
-abbrev within : ℕ → ℕ → ℕ → Bool
-within a b k = leb a k && leb k b
-
 within_bounds : (a b k : ℕ) → within a b k ≡ true → (a ≤ k) × (k ≤ b)
+unfolding within
 within_bounds a b k e = let h = and_yes (leb a k) (leb k b) (rw e tt) in (leb→le a k h.0, leb→le k b h.1)
 
 without : (a b k : ℕ) → within a b k ≡ false → a ≤ k → k ≤ b → ⊥
+unfolding within
 without a b k e l h = true≢false (sym (rw (le-leb a k l, le-leb k b h) refl) ∙ e)
 
 pub table_tested : (k : ℕ) → within 1 10 k ≡ true → table_sort ≡ operand_sort k
@@ -76,7 +75,7 @@ none_tested k a n b c t = no_sort_lem k (λ l h. go l h (dec_le k 10) (dec_le k 
     go l h (no p) (no q) = without 15 16 k c (omega arith) (omega (arith, t))
 
 -- an answer that is known to be one case
-pub sort_told : {r x : OperandSortCase} {s : OperandSort} → sort_in r ≡ s → r ≡ x → sort_in x ≡ s
+pub sort_told : {r x : OptionCase OperandSortCase} {s : OperandSort} → sort_in r ≡ s → r ≡ x → sort_in x ≡ s
 sort_told e q = rw q at e
 
 -- ---- words in range
@@ -112,5 +111,5 @@ word_by_sort size n w = go (decode_instr w) refl ∙ of_op size n (number_of w) 
     go none e = rw (e, word_in_range)
     go (some i) e = rw (e, word_in_range)
 
-pub word_told : (size n w : ℕ) {r x : OperandSortCase} → sort_in r ≡ operand_sort (number_of w) → r ≡ x → sort_in_range size n (sort_in x) (operand_of w) ≡ word_in_range size n w
+pub word_told : (size n w : ℕ) {r x : OptionCase OperandSortCase} → sort_in r ≡ operand_sort (number_of w) → r ≡ x → sort_in_range size n (sort_in x) (operand_of w) ≡ word_in_range size n w
 word_told size n w e q = rw (sort_told e q) (sym (word_by_sort size n w))

@@ -5,14 +5,15 @@ use Rattle.printing.proofs.Laws.Puts.{put_then, decimal_long}
 use Rattle.list_printing.proofs.put_label.Goals as goal
 
 pub put_byte-colon-requires : goal.put_byte-colon-requires
-put_byte-colon-requires c = omega (arith, c.put_byte-sign.ensures.end, c.put_number-number.ensures.end, decimal_long c.args.label (omega arith))
+put_byte-colon-requires c = omega (arith, c.put_byte-sign.ensures.end, rw c.from.ensures at c.put_number-number.ensures.end, decimal_long c.args.label (omega arith))
 
 pub put_byte-requires : goal.put_byte-requires
-put_byte-requires c = omega (arith, c.put_byte-sign.ensures.end, c.put_number-number.ensures.end, c.put_byte-colon.ensures.end, decimal_long c.args.label (omega arith))
+put_byte-requires c =
+    omega (arith, c.put_byte-sign.ensures.end, rw c.from.ensures at c.put_number-number.ensures.end, c.put_byte-colon.ensures.end, decimal_long c.args.label (omega arith))
 
 pub returns : goal.returns
 unfolding ended label_line
 returns c =
     put_then
-    (put_then (put_then c.put_byte-sign.ensures c.put_number-number.ensures) c.put_byte-colon.ensures)
+    (put_then (put_then c.put_byte-sign.ensures (rw c.from.ensures at c.put_number-number.ensures)) c.put_byte-colon.ensures)
     c.put_byte.ensures

@@ -1,12 +1,12 @@
--- `list_questions::timers_known` meets its contract. The loop's invariant: no word so far is unknown, and none from `i` on, just when none is. Assumes nothing.
-use Rattle.list_questions.proofs.Timers.{asking_start, asking_more, asking_end}
+-- `list_questions::timers_known` meets its contract: no word is past the last whose timer has a record. Assumes nothing.
+use Rattle.std.proofs.Common.{rules, ◌&&◌, true, leb}
+use Rattle.std.proofs.lemmas.Iterator.{YieldsList-from_slice}
+use Rattle.std.proofs.lemmas.Iterator.Consumers.{fold_from_yields_List}
+use Rattle.list_questions.proofs.Timers.{asked}
 use Rattle.list_questions.proofs.timers_known.Goals as goal
 
-pub loop-i-init : goal.loop-i-init
-loop-i-init c = asking_start _ _
-
-pub loop-i-preserved : goal.loop-i-preserved
-loop-i-preserved c = asking_more c.loop-i.invariant c.loop-i-test.true
-
 pub returns : goal.returns
-returns c = asking_end c.loop-i.invariant _ c.last_known-last.ensures c.loop-i-test.false
+returns c =
+    let last = c.last_known-last.result in
+    asked _ _ last c.last_known-last.ensures
+    (fold_from_yields_List _ (λ known word. known && leb word last) true _ c.fold.ensures.ran (YieldsList-from_slice c.args.code.now (cc)) (λ a x b q k. search rules))

@@ -35,7 +35,6 @@ among_cases v x xs h = go (or_yes (eqb x v) (among v xs) h)
 
 -- each of some variables is among them
 pub all_among : (xs : List ℕ) → T (all (λ v. among v xs) xs)
-unfolding all
 all_among [] = tt
 all_among (x ∷ xs) =
     all_cons (λ v. among v (x ∷ xs)) x xs (among_head x xs) (all_weaker (λ v. among v xs) (λ v. among v (x ∷ xs)) (λ v h. among_tail v x xs h) xs (all_among xs))
@@ -55,7 +54,7 @@ abbrev pub contacts_pass : (ℕ → Bool) → Rung → Bool
 contacts_pass test g = all test (rung_contacts g)
 
 pub rungs_pass : (test : ℕ → Bool) (gs : Ladder) → T (all test (ladder_contacts gs)) → T (all (contacts_pass test) gs)
-unfolding ladder_contacts all flat_map
+unfolding ladder_contacts flat_map
 rungs_pass test [] h = tt
 rungs_pass test (g ∷ gs) h =
     let later = flat_map rung_contacts gs in

@@ -81,7 +81,7 @@ module _ (vars : ℕ) where
       all_append below (front_contacts f) (front_contacts g) (front_below_lem f b.0) (front_below_lem g b.1)
 
   rear_below_lem : (r : Rear) → T (rear_all (input_below vars) (output_below vars) r) → T (all below (rear_contacts r))
-  unfolding rear_all rear_contacts all
+  unfolding rear_all rear_contacts
   rear_below_lem (output o) h = tt
   rear_below_lem (rear_and f r) h =
       let b = and_yes (front_all (input_below vars) f) (rear_all (input_below vars) (output_below vars) r) h in
@@ -91,7 +91,7 @@ module _ (vars : ℕ) where
       all_append below (rear_contacts a) (rear_contacts c) (rear_below_lem a b.0) (rear_below_lem c b.1)
 
   rungs_below : (gs : Ladder) → T (all (rung_below vars) gs) → T (all below (ladder_contacts gs))
-  unfolding ladder_contacts rung_contacts rung_all flat_map all
+  unfolding ladder_contacts rung_contacts rung_all flat_map
   rungs_below [] h = tt
   rungs_below (g ∷ gs) h =
       let b = and_yes (front_all (input_below vars) g.front) (rear_all (input_below vars) (output_below vars) g.rear) (all_head (rung_below vars) g gs h) in

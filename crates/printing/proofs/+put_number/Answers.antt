@@ -2,16 +2,16 @@
 use Rattle.std.proofs.Common.{◌/◌, arith}
 use Rattle.printing.proofs.Laws.Puts.{decimal_most, number_one, number_more}
 use Rattle.printing.proofs.+put_number.Goals as goal
-use Rattle.printing.proofs.+put_number.Goals.{then-n-ge10, else-n-ge10}
+use Rattle.printing.proofs.+put_number.Goals.{else-n-lt10, then-n-lt10}
 
 pub put_byte-requires : goal.put_byte-requires
-put_byte-requires t c = elim c.if-n-ge10.branch [
-  | then-n-ge10 w ↦ omega (arith, w.put_number-end.ensures.end, decimal_most (c.args.n / 10) (omega arith))
-  | else-n-ge10 w ↦ omega arith
+put_byte-requires t c = elim c.if-n-lt10.branch [
+  | else-n-lt10 w ↦ omega (arith, w.put_number-end.ensures.end, decimal_most (c.args.n / 10) (omega arith))
+  | then-n-lt10 w ↦ omega arith
 ]
 
 pub returns : goal.returns
-returns t c = elim c.if-n-ge10.branch [
-  | then-n-ge10 w ↦ number_more c.put_byte.ensures w.if-n-ge10.true w.put_number-end.ensures w.end-is w.out-is
-  | else-n-ge10 w ↦ number_one c.put_byte.ensures w.if-n-ge10.false w.end-is w.out-is
+returns t c = elim c.if-n-lt10.branch [
+  | else-n-lt10 w ↦ number_more c.put_byte.ensures w.if-n-lt10.false w.put_number-end.ensures w.end-is w.out-is
+  | then-n-lt10 w ↦ number_one c.put_byte.ensures w.if-n-lt10.true w.end-is w.out-is
 ]

@@ -102,13 +102,13 @@ module _ {l : List ℕ} {i : ℕ} {r : ℕ} {x : List ℕ} where
   number_reach v most p h g = omega (arith, p.end, decimal_most v h)
 
 -- a number's last digit, after the digits before it
-module _ {l : List ℕ} {i n r : ℕ} {y : List ℕ} {m : ℕ} {x : List ℕ} (last : Put x m ((n % 10 + 48) ∷ []) r y) where
+module _ {l : List ℕ} {i n r : ℕ} {y : List ℕ} {m : ℕ} {x : List ℕ} (last : Put x m ((48 + n % 10) ∷ []) r y) where
   pub number_one : n < 10 → m ≡ i → x ≡ l → Put l i (decimal n) r y
   number_one h p q =
-      let e : n % 10 + 48 ≡ byte "0" + n = omega arith in
+      let e : 48 + n % 10 ≡ byte "0" + n = omega arith in
       rw (decimal_one n h, ← e, ← p, ← q) last
 
   pub number_more : {m' : ℕ} {x' : List ℕ} → 10 ≤ n → Put l i (decimal (n / 10)) m' x' → m ≡ m' → x ≡ x' → Put l i (decimal n) r y
   number_more h first p q =
-      let e : n % 10 + 48 ≡ byte "0" + n % 10 = omega arith in
+      let e : 48 + n % 10 ≡ byte "0" + n % 10 = omega arith in
       rw (decimal_more n h, ← e) (put_then first (rw (← p, ← q) last))

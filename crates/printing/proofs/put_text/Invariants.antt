@@ -1,11 +1,6 @@
--- `printing::put_text` meets its contract. The loop's invariant: the bytes from i on are left.
-use Prim.Native.Nat.{◌-◌}
-use lib.ListN.{length}
+-- `printing::put_text` meets its contract. The loop's invariant: the bytes from the loop's index on are left.
 use Rattle.printing.proofs.Texts.{Putting}
 use Rattle.printing.proofs.put_text.Given as goal
 
-abbrev pub invariant-loop-i : goal.invariant-loop-i
-invariant-loop-i l = Putting l.initial.out l.at l.text l.out l.end l.i
-
-abbrev pub decreases-loop-i : goal.decreases-loop-i
-decreases-loop-i l = length l.text - l.i
+abbrev pub invariant-loop-byte : goal.invariant-loop-byte
+invariant-loop-byte l = Putting l.initial.out l.at l.text l.out l.end l.byte-index

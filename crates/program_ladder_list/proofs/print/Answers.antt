@@ -12,7 +12,7 @@ slice_bounds-out-end c =
     let within = c.finish-placed.ensures.1 most_output (omega arith) (placed_within _ most_output (list_output_short _ _) _ _ _ c.print-printed.ensures) in
     omega (arith, within, c.finish-placed.auto.out)
 
-pub slice_bounds-write_output-end : goal.slice_bounds-write_output-end
-slice_bounds-write_output-end c =
+pub slice_bounds-write_output-end-2 : goal.slice_bounds-write_output-end-2
+slice_bounds-write_output-end-2 c =
     let within = c.finish-placed.ensures.1 most_output (omega arith) (placed_within _ most_output (list_output_short _ _) _ _ _ c.print-printed.ensures) in
     sym (length-take-le _ _ (omega (arith, within, c.finish-placed.auto.out)))

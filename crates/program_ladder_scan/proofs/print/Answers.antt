@@ -10,7 +10,7 @@ slice_bounds-out-end c =
     let within = c.finish-placed.ensures.1 most_report (omega arith) c.report_rest-printed.ensures.1 in
     omega (arith, within, c.finish-placed.auto.out)
 
-pub slice_bounds-write_output-end : goal.slice_bounds-write_output-end
-slice_bounds-write_output-end c =
+pub slice_bounds-write_output-end-2 : goal.slice_bounds-write_output-end-2
+slice_bounds-write_output-end-2 c =
     let within = c.finish-placed.ensures.1 most_report (omega arith) c.report_rest-printed.ensures.1 in
     sym (length-take-le _ _ (omega (arith, within, c.finish-placed.auto.out)))

@@ -17,30 +17,6 @@ pub returns-in-Text : goal.returns-in-Text
 unfolding refusal_of explanation explanations bytes
 returns-in-Text c = explanation_put _ c.in-Text.is c.put_placed.ensures
 
-pub returns-in-Kept : goal.returns-in-Kept
-unfolding refusal_of explanation explanations bytes
-returns-in-Kept c = explanation_put _ c.in-Kept.is c.put_text-in-Kept.ensures
-
-pub returns-in-Sizes : goal.returns-in-Sizes
-unfolding refusal_of explanation explanations bytes
-returns-in-Sizes c = explanation_put _ c.in-Sizes.is c.put_text-in-Sizes.ensures
-
-pub returns-in-Variable : goal.returns-in-Variable
-unfolding refusal_of explanation explanations bytes
-returns-in-Variable c = explanation_put _ c.in-Variable.is c.put_rung.ensures
-
-pub returns-in-Label : goal.returns-in-Label
-unfolding refusal_of explanation explanations bytes
-returns-in-Label c = explanation_put _ c.in-Label.is c.put_rung-in-Label.ensures
-
-pub returns-in-Jump : goal.returns-in-Jump
-unfolding refusal_of explanation explanations bytes
-returns-in-Jump c = explanation_put _ c.in-Jump.is c.put_rung-in-Jump.ensures
-
-pub returns-in-Scratch : goal.returns-in-Scratch
-unfolding refusal_of explanation explanations bytes
-returns-in-Scratch c = explanation_put _ c.in-Scratch.is c.put_text-in-Scratch.ensures
-
 pub returns-in-List : goal.returns-in-List
 unfolding refusal_of explanation explanations bytes
 returns-in-List c = explanation_put _ c.in-List.is c.put_text-in-List.ensures
@@ -48,10 +24,6 @@ returns-in-List c = explanation_put _ c.in-List.is c.put_text-in-List.ensures
 pub returns-in-Table : goal.returns-in-Table
 unfolding refusal_of explanation explanations bytes
 returns-in-Table c = explanation_put _ c.in-Table.is c.put_text-in-Table.ensures
-
-pub returns-in-Watchdog : goal.returns-in-Watchdog
-unfolding refusal_of explanation explanations bytes
-returns-in-Watchdog c = explanation_put _ c.in-Watchdog.is c.put_text-in-Watchdog.ensures
 
 pub returns-in-Buffer : goal.returns-in-Buffer
 unfolding refusal_of explanation explanations bytes
@@ -61,14 +33,6 @@ pub returns-in-NameTable : goal.returns-in-NameTable
 unfolding refusal_of explanation explanations bytes
 returns-in-NameTable c = explanation_put _ c.in-NameTable.is c.put_text-in-NameTable.ensures
 
-pub returns-in-ListText : goal.returns-in-ListText
-unfolding refusal_of explanation explanations bytes
-returns-in-ListText c = explanation_put _ c.in-ListText.is c.put_text-in-ListText.ensures
-
 pub returns-in-Timers : goal.returns-in-Timers
 unfolding refusal_of explanation explanations bytes
 returns-in-Timers c = explanation_put _ c.in-Timers.is c.put_text-in-Timers.ensures
-
-pub returns-in-TimerNumber : goal.returns-in-TimerNumber
-unfolding refusal_of explanation explanations bytes
-returns-in-TimerNumber c = explanation_put _ c.in-TimerNumber.is c.put_text-in-TimerNumber.ensures

@@ -1,11 +1,6 @@
 -- `program_scan_lines::take_variables` meets its contract. The loop's invariant: what is left of the line leads where the whole line does. Assumes nothing.
-use Prim.Native.Nat.{◌-◌}
-use lib.ListN.{length}
 use Rattle.program_scan_lines.proofs.Fills.{Filling}
 use Rattle.program_scan_lines.proofs.take_variables.Given as goal
 
 abbrev pub invariant-loop-i : goal.invariant-loop-i
 invariant-loop-i l = Filling l.input l.from l.vars l.initial.table l.table l.variables l.i
-
-abbrev pub decreases-loop-i : goal.decreases-loop-i
-decreases-loop-i l = length l.input - l.i

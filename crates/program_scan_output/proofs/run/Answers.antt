@@ -16,5 +16,5 @@ slice_bounds-report_rest-end c = sym (length-take-le _ _ (omega (arith, bytes_ro
 pub returns : goal.returns
 returns c =
     same_done _ _ _ (run_same _ _ _ _ _ _ _ _ _ _ c.take_number-first.ensures c.variables-vars.ensures c.take_number-second.ensures
-    c.watchdog.ensures c.take_variables-third.ensures refl c.table_bytes-bytes.ensures c.rest_end-to.ensures)
+    c.watchdog.ensures c.take_variables-third.ensures refl c.table_bytes-bytes.ensures c.kept_end-to.ensures)
     c.report_rest.ensures.0

@@ -1,56 +1,40 @@
--- `program_scan_report::put_rungs` meets its contract: the loop passes the rungs one by one, and the lines from `i` on are left. Assumes nothing.
+-- `program_scan_report::put_rungs` meets its contract. Assumes nothing.
 use native.Mathlib.Omega.{arith}
-use Rattle.program_scan_report.proofs.Rungs.{entering_start, entering_none, entering_more, entering_end, entering_no_times}
+use Rattle.std.proofs.Common.{length}
+use Rattle.std.proofs.lemmas.List.{length_push}
+use Rattle.std.proofs.lemmas.Slice.Zip.{zip_turn, zip_end}
+use Rattle.program_scan_report.proofs.Rungs.{entering_start, entering_none, entering_more, entering_end}
 use Rattle.program_scan_report.proofs.put_rungs.Goals as goal
-use Rattle.program_scan_report.proofs.put_rungs.Goals.{then-entered, else-entered}
 
-pub loop-i-init : goal.loop-i-init
-loop-i-init c = entering_start _ _ _ _
-
-pub shape_of-out-then-times-i : goal.shape_of-out-then-times-i
-shape_of-out-then-times-i c = c.loop-i.invariant.left.long
-
-pub returns-then-times-i : goal.returns-then-times-i
-returns-then-times-i c = entering_no_times c.loop-i.invariant c.if-times-i.true
-
-pub offset_bounds-times-i : goal.offset_bounds-times-i
-offset_bounds-times-i c = omega (arith, c.loop-i-test.true, c.requires.1)
-
-pub bounds-times-i : goal.bounds-times-i
-bounds-times-i c = c.if-times-i.false
-
-pub offset_bounds-labels-i : goal.offset_bounds-labels-i
-offset_bounds-labels-i c = omega (arith, c.loop-i-test.true, c.requires.1)
-
-pub bounds-labels-i : goal.bounds-labels-i
-bounds-labels-i c = c.loop-i-test.true
-
-pub offset_bounds-times-i-then-entered : goal.offset_bounds-times-i-then-entered
-offset_bounds-times-i-then-entered c = omega (arith, c.loop-i-test.true, c.requires.1)
-
-pub bounds-times-i-then-entered : goal.bounds-times-i-then-entered
-bounds-times-i-then-entered c = c.if-times-i.false
+pub loop-label-init : goal.loop-label-init
+loop-label-init c = ((tt, tt), tt, entering_start _ _ _ _)
 
 pub put_entered-end-requires : goal.put_entered-end-requires
-put_entered-end-requires c = omega (arith, c.loop-i-test.true, c.requires.1, c.loop-i.invariant.room, c.requires.0)
+put_entered-end-requires c = omega (arith, c.loop-label.invariant.2.room, c.loop-label.invariant.2.within, c.requires.0, c.requires.1)
 
-pub overflow_add-i : goal.overflow_add-i
-overflow_add-i c = omega (arith, c.loop-i-test.true, c.requires.1)
+pub loop-label-preserved-then-entered : goal.loop-label-preserved-then-entered
+loop-label-preserved-then-entered c =
+    let gives = c.into_iter-label-iterator.ensures.into_iter_gives in
+    let turn = zip_turn c.args.labels.now c.args.times.now c.loop-label.yielded c.into_iter-label-iterator.result c.loop-label.label-iterator c.next.new.self _
+    (rw (gives, c.zip-label-items.ensures.first) c.iter.ensures.rest) (rw gives c.zip-label-items.ensures.second.0)
+    c.loop-label.yielded_by _ c.in-Some.is c.next.ensures.steps in
+    let i = length c.loop-label.yielded in
+    let more = entering_more c.loop-label.invariant.2 turn.0 turn.1 (rw (turn.3 0) at c.if-entered.true)
+    (omega (arith, c.type_inv.labels i)) (omega (arith, c.type_inv.times i)) (rw (turn.2 0, turn.3 0) at c.put_entered-end.ensures) in
+    ((tt, tt), tt, rw (length_push c.loop-label.yielded) more)
 
-pub loop-i-smaller : goal.loop-i-smaller
-loop-i-smaller c = omega (arith, c.loop-i-test.true)
-
-pub loop-i-preserved : goal.loop-i-preserved
-loop-i-preserved c =
-    let i = c.loop-i.i in
-    elim c.if-entered.branch [
-      | then-entered w ↦ rw (w.out-is, w.end-is) (entering_more c.loop-i.invariant c.loop-i-test.true c.if-times-i.false w.if-entered.true
-          (omega (arith, c.type_inv.labels i)) (omega (arith, c.type_inv.times i)) w.put_entered-end.ensures)
-      | else-entered w ↦ rw (w.out-is, w.end-is) (entering_none c.loop-i.invariant c.loop-i-test.true c.if-times-i.false w.if-entered.false)
-    ]
-
-pub shape_of-out : goal.shape_of-out
-shape_of-out c = c.loop-i.invariant.left.long
+pub loop-label-preserved : goal.loop-label-preserved
+loop-label-preserved c =
+    let gives = c.into_iter-label-iterator.ensures.into_iter_gives in
+    let turn = zip_turn c.args.labels.now c.args.times.now c.loop-label.yielded c.into_iter-label-iterator.result c.loop-label.label-iterator c.next.new.self _
+    (rw (gives, c.zip-label-items.ensures.first) c.iter.ensures.rest) (rw gives c.zip-label-items.ensures.second.0)
+    c.loop-label.yielded_by _ c.in-Some.is c.next.ensures.steps in
+    ((tt, tt), tt, rw (length_push c.loop-label.yielded) (entering_none c.loop-label.invariant.2 turn.0 turn.1 (rw (turn.3 0) at c.if-entered.false)))
 
 pub returns : goal.returns
-returns c = entering_end c.loop-i.invariant c.loop-i-test.false
+returns c =
+    let gives = c.into_iter-label-iterator.ensures.into_iter_gives in
+    let ends = zip_end c.args.labels.now c.args.times.now c.loop-label.yielded c.into_iter-label-iterator.result c.loop-label.label-iterator c.next.new.self _
+    (rw (gives, c.zip-label-items.ensures.first) c.iter.ensures.rest) (rw gives c.zip-label-items.ensures.second.0)
+    c.loop-label.yielded_by c.in-None.is c.next.ensures.steps in
+    entering_end c.loop-label.invariant.2 ends

@@ -1,11 +1,10 @@
--- `program_scan_report::put_rungs` meets its contract: the loop passes the rungs one by one, and the lines from `i` on are left. Assumes nothing.
-use Prim.Native.Nat.{◌-◌}
+-- The loop passes the rungs one by one, and the lines of those that are left are left.
 use lib.ListN.{length}
 use Rattle.program_scan_report.proofs.Rungs.{Entering}
 use Rattle.program_scan_report.proofs.put_rungs.Given as goal
 
-abbrev pub invariant-loop-i : goal.invariant-loop-i
-invariant-loop-i l = Entering l.from l.labels l.times l.initial.out l.out l.end l.i
-
-abbrev pub decreases-loop-i : goal.decreases-loop-i
-decreases-loop-i l = length l.labels - l.i
+abbrev pub invariant-loop-label : goal.invariant-loop-label
+invariant-loop-label l =
+    (goal.iterator-loop-label).can_next l.label-iterator
+    × (goal.iterator-loop-label).is_finite l.label-iterator
+    × Entering l.from l.labels l.times l.initial.out l.out l.end (length l.yielded)

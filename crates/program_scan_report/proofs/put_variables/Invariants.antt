@@ -1,10 +1,6 @@
--- `program_scan_report::put_variables` meets its contract: the loop passes the variables one by one, and the lines from `i` on are left. Assumes nothing.
-use Prim.Native.Nat.{◌-◌}
+-- The loop passes the variables one by one, and the lines from `i` on are left.
 use Rattle.program_scan_report.proofs.Printing.{Changing}
 use Rattle.program_scan_report.proofs.put_variables.Given as goal
 
 abbrev pub invariant-loop-i : goal.invariant-loop-i
 invariant-loop-i l = Changing l.from l.vars l.before l.ladder l.list l.initial.out l.out l.end l.i
-
-abbrev pub decreases-loop-i : goal.decreases-loop-i
-decreases-loop-i l = l.vars - l.i

@@ -1,49 +1,16 @@
--- `program_timer_lines::take_field` meets its contract. The loop's invariant: what is left of the field leads where the whole field does. Assumes nothing.
-use native.Mathlib.Omega.{arith}
-use Rattle.program_timer_lines.proofs.Fields.{fielding_first, fielding_more, fielding_break, fielding_space, fielding_end}
+-- `program_timer_lines::take_field` meets its contract. Assumes nothing.
+use Rattle.program_timer_lines.proofs.Fields.{fielding_more, fielding_break, fielding_space, fielding_end}
+use Rattle.std.proofs.Common.{arith}
 use Rattle.program_timer_lines.proofs.take_field.Goals as goal
 
-pub loop-i-init : goal.loop-i-init
-loop-i-init c = fielding_first _ _ _
+pub returns-in-10 : goal.returns-in-10
+returns-in-10 c = fielding_break c.loop-i.invariant _ c.loop-i-test.true c.in-10.is c.field.ensures
 
-pub bounds-input-i : goal.bounds-input-i
-bounds-input-i c = c.loop-i-test.true
-
-pub ended_field-requires : goal.ended_field-requires
-ended_field-requires c = tt
-
-pub returns-then-input-i-eq10 : goal.returns-then-input-i-eq10
-returns-then-input-i-eq10 c = fielding_break c.loop-i.invariant _ c.loop-i-test.true c.if-input-i-eq10.true c.ended_field.ensures
-
-pub bounds-input-i-in-loop-i : goal.bounds-input-i-in-loop-i
-bounds-input-i-in-loop-i c = c.loop-i-test.true
-
-pub overflow_add-i : goal.overflow_add-i
-overflow_add-i c = omega (arith, c.loop-i-test.true)
-
-pub ended_field-requires-then-input-i-eq32 : goal.ended_field-requires-then-input-i-eq32
-ended_field-requires-then-input-i-eq32 c = tt
-
-pub returns-then-input-i-eq32 : goal.returns-then-input-i-eq32
-returns-then-input-i-eq32 c = fielding_space c.loop-i.invariant _ c.loop-i-test.true c.if-input-i-eq10.false c.if-input-i-eq32.true c.ended_field-then-input-i-eq32.ensures
-
-pub bounds-input-i-in-loop-i-2 : goal.bounds-input-i-in-loop-i-2
-bounds-input-i-in-loop-i-2 c = c.loop-i-test.true
-
-pub next_byte-digits-requires : goal.next_byte-digits-requires
-next_byte-digits-requires c = tt
-
-pub overflow_add-i-in-loop-i : goal.overflow_add-i-in-loop-i
-overflow_add-i-in-loop-i c = omega (arith, c.loop-i-test.true)
-
-pub loop-i-smaller : goal.loop-i-smaller
-loop-i-smaller c = omega (arith, c.loop-i-test.true)
+pub returns-in-32 : goal.returns-in-32
+returns-in-32 c = fielding_space c.loop-i.invariant _ c.loop-i-test.true (λ e. omega (arith, c.in-32.is, e)) c.in-32.is c.field-in-32.ensures
 
 pub loop-i-preserved : goal.loop-i-preserved
-loop-i-preserved c = fielding_more c.loop-i.invariant _ c.loop-i-test.true c.if-input-i-eq10.false c.if-input-i-eq32.false c.next_byte-digits.ensures
-
-pub ended_field-requires-2 : goal.ended_field-requires-2
-ended_field-requires-2 c = tt
+loop-i-preserved c = fielding_more c.loop-i.invariant _ c.loop-i-test.true (λ e. omega arith) (λ e. omega arith) c.next-digits.ensures
 
 pub returns : goal.returns
-returns c = fielding_end c.loop-i.invariant _ c.loop-i-test.false c.ended_field-2.ensures
+returns c = fielding_end c.loop-i.invariant _ c.loop-i-test.false (cc)

@@ -1,30 +1,20 @@
 -- `program_timer_lines::take_now` meets its contract. Assumes nothing.
-use native.Mathlib.Omega.{arith}
 use Rattle.questions.specs.Bytes.{bytes}
-use Rattle.program_timer_lines.proofs.Words.{stands, stands_not}
-use Rattle.program_timer_lines.proofs.Timers.{now_other, now_room, now_illegal, now_spaced, now_taken_lem}
+use Rattle.program_timer_lines.proofs.Timers.{now_other, now_illegal, now_spaced, now_taken_lem}
 use Rattle.program_timer_lines.proofs.take_now.Goals as goal
 
-pub returns-then-not-begins : goal.returns-then-not-begins
+pub returns-in_default : goal.returns-in_default
 unfolding bytes
-returns-then-not-begins c = now_other _ _ (stands_not c.begins.ensures c.if-not-begins.true)
+returns-in_default c = now_other c.args.input.now c.args.from c.in_default.ensures
 
-pub overflow_add-from : goal.overflow_add-from
+pub returns-in_default-take_field : goal.returns-in_default-take_field
 unfolding bytes
-overflow_add-from c =
-    let a = c.args in
-    omega (arith, now_room a.input.now a.from (stands c.begins.ensures c.if-not-begins.false))
-
-pub returns-then-not-number : goal.returns-then-not-number
-unfolding bytes
-returns-then-not-number c = now_illegal _ _ (stands c.begins.ensures c.if-not-begins.false) c.take_field-number.ensures c.if-not-number.true
+returns-in_default-take_field c = now_illegal c.args.input.now c.args.from c.in-Some.ensures.0 (rw c.in-Some.ensures.1 at c.in_default-take_field.ensures)
 
 pub returns-then-number : goal.returns-then-number
 unfolding bytes
-returns-then-number c = now_spaced _ _ (stands c.begins.ensures c.if-not-begins.false) c.take_field-number.ensures c.if-not-number.false c.if-number.true
+returns-then-number c = now_spaced c.args.input.now c.args.from c.in-Some.ensures.0 (rw c.in-Some.ensures.1 at c.in-Some-take_field.ensures) c.if-number.true
 
 pub returns : goal.returns
 unfolding bytes
-returns c =
-    now_taken_lem _ _ (stands c.begins.ensures c.if-not-begins.false) c.take_field-number.ensures _ c.if-not-number.false c.if-number.false
-    c.after_break.ensures
+returns c = now_taken_lem c.args.input.now c.args.from c.in-Some.ensures.0 (rw c.in-Some.ensures.1 at c.in-Some-take_field.ensures) _ c.if-number.false c.after_break.ensures

@@ -1,14 +1,13 @@
 -- A "yes" and the test behind it, each from the other.
-use Rattle.std.specs.Prelude.{ℕ, ◌≤◌, ◌≡◌, refl, Bool, true, false, List, [], ◌∷◌, ◌++◌, map, T, leb}
+use Rattle.std.specs.Prelude.{ℕ, ◌≤◌, ◌≡◌, refl, Bool, true, false, List, [], ◌∷◌, ◌++◌, map, T, leb, Result, Ok, Err, IsErrAnd}
 use Rattle.std.proofs.Common.{sym, ap, ◌∙◌, arith, leb→le, le→leb}
+use Rattle.std.proofs.lemmas.Result.{err_from_is_err_and}
 use Rattle.std.proofs.Math.Option.{none, some, map-eq-none_iff}
 use Rattle.std.proofs.Math.Facts.{and_yes}
 use Rattle.questions.specs.Tests.{all, first_failed}
 use Rattle.questions.specs.Questions.{Answer, ask, ask_each, first_no, vars_in_range, question1, most_variables, question12}
 use Rattle.questions.specs.Refusals.{refusal_of, verdict_answer}
 use Rattle.questions.specs.declared.Refusal.{Refusal as RefusalCase}
-use Rattle.questions.specs.declared.Verdict.{Verdict}
-use Rattle.questions.specs.declared.Verdict.TheVariants.{Accepted, Refused}
 use Rattle.questions.proofs.Laws.Tests.{none_failed, failed_none}
 
 pub ask_passed : (number : ℕ) (test : Bool) → ask number test ≡ none → T test
@@ -61,11 +60,15 @@ pub in_range_watchdog : (most watchdog : ℕ) → watchdog ≤ most → question
 unfolding question12
 in_range_watchdog most watchdog h = passed_ask 12 _ (le→leb watchdog most h)
 
+-- the refusal that `?` passes on
+pub err_passed : {A : Type 0} {r : Result A RefusalCase} {x : RefusalCase} → IsErrAnd r (λ y. y ≡ x) → r ≡ Err x
+err_passed {r = r} {x = x} h = let p = err_from_is_err_and {Q = λ y. y ≡ x} r h in p.1 ∙ ap Err p.2
+
 -- a verdict's answer, by its cases
-pub verdict_refused : {v : Verdict} {a : Answer} (refusal : RefusalCase) → verdict_answer v ≡ a → v ≡ Refused refusal → a ≡ some (refusal_of refusal)
+pub verdict_refused : {v : Result (Unit {0}) RefusalCase} {a : Answer} (refusal : RefusalCase) → verdict_answer v ≡ a → v ≡ Err refusal → a ≡ some (refusal_of refusal)
 unfolding verdict_answer
 verdict_refused refusal e q = sym e ∙ ap verdict_answer q
 
-pub verdict_accepted : {v : Verdict} {a : Answer} → verdict_answer v ≡ a → v ≡ Accepted → a ≡ none
+pub verdict_accepted : {v : Result (Unit {0}) RefusalCase} {a : Answer} → verdict_answer v ≡ a → v ≡ Ok tt → a ≡ none
 unfolding verdict_answer
 verdict_accepted e q = sym e ∙ ap verdict_answer q

@@ -90,7 +90,6 @@ module _ {vars : ℕ} where
     code_prints (more_line x y) = rw (← (code_prints y), ← (instruction_prints x)) refl
 
     code_ranged : vars ≤ 1024 → {w : List ℕ} {is : List Instr} → IsCode names vars w is → T (all (instr_in_form vars) is)
-    unfolding all
     code_ranged few no_line = tt
     code_ranged few (more_line {i = i} {is = is} x y) = all_cons (instr_in_form vars) i is (instruction_ranged few x) (code_ranged few y)
 

@@ -40,7 +40,7 @@ range_more size n m l i h = go (operand i) h
 
 -- instructions in range whose operands have 16 bits are in the form
 all_in_form : (vars : ℕ) (is : List Instr) → T (all (instr_in_range (table_size vars) most_number) is) → T (all instr_fits is) → T (all (instr_in_form vars) is)
-unfolding all instr_in_form
+unfolding instr_in_form
 all_in_form vars [] h f = tt
 all_in_form vars (i ∷ is) h f =
     all_cons (instr_in_form vars) i is
@@ -58,7 +58,7 @@ in_range_form names vars few gs l h = rw (listing_text_lem names vars (list_of_r
 
 -- the instructions of a text have 16 bits
 pub code_fits : (vars : ℕ) (gs : List ListRung) → T (all (rung_in_form vars) gs) → T (all instr_fits (list_of_rungs gs).code)
-unfolding list_of_rungs flat_map all rung_in_form instr_in_form
+unfolding list_of_rungs flat_map rung_in_form instr_in_form
 code_fits vars [] h = tt
 code_fits vars (g ∷ gs) h =
     let p = and_yes (leb g.label most_number) (all (instr_in_form vars) g.code) (all_head (rung_in_form vars) g gs h) in

@@ -3,17 +3,17 @@ use native.Mathlib.Omega.{arith}
 use Rattle.reader_lines.proofs.Capitals.{letters_start, letters_stop, letters_inside, letters_more, letters_end}
 use Rattle.reader_lines.proofs.letters.Goals as goal
 
-pub loop-left-init : goal.loop-left-init
-loop-left-init c = letters_start _ _
+pub loop-init : goal.loop-init
+loop-init c = letters_start _ _
 
 pub returns-then-not-is_capital : goal.returns-then-not-is_capital
-returns-then-not-is_capital c = letters_stop _ _ _ _ c.loop-left.invariant _ c.byte_at-b.ensures _ c.is_capital.ensures c.if-not-is_capital.true c.loop-left-test.true
+returns-then-not-is_capital c = letters_stop _ _ _ _ c.loop.invariant _ c.at_or.ensures _ c.is_capital.ensures c.if-not-is_capital.true (omega arith)
 
 pub overflow_add-next : goal.overflow_add-next
-overflow_add-next c = omega (arith, letters_inside _ _ _ _ c.loop-left.invariant _ c.byte_at-b.ensures _ c.is_capital.ensures c.if-not-is_capital.false)
+overflow_add-next c = omega (arith, letters_inside _ _ _ _ c.loop.invariant _ c.at_or.ensures _ c.is_capital.ensures c.if-not-is_capital.false)
 
-pub loop-left-preserved : goal.loop-left-preserved
-loop-left-preserved c = letters_more _ _ _ _ c.loop-left.invariant _ c.byte_at-b.ensures _ c.is_capital.ensures c.if-not-is_capital.false c.loop-left-test.true
+pub loop-preserved : goal.loop-preserved
+loop-preserved c = letters_more _ _ _ _ c.loop.invariant _ c.at_or.ensures _ c.is_capital.ensures c.if-not-is_capital.false _ (omega arith)
 
-pub returns : goal.returns
-returns c = letters_end _ _ _ _ c.loop-left.invariant c.loop-left-test.false
+pub returns-after-loop : goal.returns-after-loop
+returns-after-loop c = letters_end _ _ _ _ c.loop.invariant (omega arith)

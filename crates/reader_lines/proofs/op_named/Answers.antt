@@ -1,19 +1,16 @@
--- `reader_lines::op_named` meets its contract: the first name that is the same tells the op. Assumes nothing.
-use native.Mathlib.Omega.{arith}
+-- `reader_lines::op_named` meets its contract: the first name that is the word tells the op. Assumes nothing.
+use Rattle.std.proofs.Common.{arith}
 use Rattle.reader_lines.proofs.Names.{search_start, search_found, search_more, search_end}
 use Rattle.reader_lines.proofs.op_named.Goals as goal
 
-pub loop-op-init : goal.loop-op-init
-loop-op-init c = search_start _ _
+pub loop-place-init : goal.loop-place-init
+loop-place-init c = search_start _ _
 
-pub same_name-requires : goal.same_name-requires
-same_name-requires c = let i = c.loop-op.invariant in let t = c.loop-op-test.true in let p = i.place in (omega arith, c.requires.0, c.requires.1)
+pub returns-then-is_named : goal.returns-then-is_named
+returns-then-is_named c = search_found _ _ _ c.loop-place.invariant (omega arith) _ c.name_at.ensures _ c.is_named.ensures c.if-is_named.true _ c.of.ensures
 
-pub returns-then-same_name : goal.returns-then-same_name
-returns-then-same_name c = search_found _ _ _ _ c.loop-op.invariant c.loop-op-test.true _ c.same_name.ensures c.if-same_name.true
-
-pub loop-op-preserved : goal.loop-op-preserved
-loop-op-preserved c = search_more _ _ _ _ c.loop-op.invariant c.loop-op-test.true _ c.same_name.ensures c.if-same_name.false
+pub loop-place-preserved : goal.loop-place-preserved
+loop-place-preserved c = search_more _ _ _ c.loop-place.invariant (omega arith) _ c.name_at.ensures _ c.is_named.ensures c.if-is_named.false
 
 pub returns : goal.returns
-returns c = search_end _ _ _ _ c.loop-op.invariant c.loop-op-test.false
+returns c = search_end _ _ _ c.loop-place.invariant (omega arith)

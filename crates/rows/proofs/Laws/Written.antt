@@ -1,6 +1,6 @@
 -- Records written from the start of a row of structs are those written into a copy of its fields. Assumes nothing.
-use Rattle.std.specs.Prelude.{◌≡◌, refl, ℕ, ◌+◌, ◌≤◌, min, leb, length, take, drop}
-use Rattle.std.proofs.Common.{ap, ◌∙◌, arith, le-leb, length-append}
+use Rattle.std.specs.Prelude.{◌≡◌, refl, ℕ, ◌+◌, ◌≤◌, min, leb, length, take, drop, replicate}
+use Rattle.std.proofs.Common.{ap, ◌∙◌, arith, le-leb, length-append, length-take-le}
 use Rattle.std.proofs.Math.Path.{sym}
 use Rattle.std.proofs.Math.Decide.{dec_le}
 use Rattle.std.proofs.Math.Option.{none, some}
@@ -9,7 +9,6 @@ use Rattle.std.proofs.lemmas.Bool.{lt-leb}
 use Rattle.std.proofs.lemmas.List.{length-map, length-replicate}
 use Rattle.std.proofs.Math.Seq.{take-append_seam, drop-length}
 use Rattle.questions.proofs.Laws.Maps.{drop_map}
-use Rattle.questions.specs.Tests.{all}
 use Rattle.questions.specs.Questions.{Answer, first_no, long_enough, question13}
 use Rattle.questions.proofs.Laws.Answers.{first_yes, later_yes}
 use Rattle.rungs.specs.Records.{RungRecord, labels, offsets, fields_of, most_records, none_entered}
@@ -35,7 +34,7 @@ same_room m n l h e = go (dec_le m n)
 pub needs_same : (nw : List ℕ) (ks : List RungRecord) (ws : List ℕ) (rs : List RungRecord) (ts ls os ns zt : List ℕ) → length ks ≤ most_records → length ts ≡ length rs
     → length ls ≡ min most_records (length rs) → length os ≡ min most_records (length rs) → length ns ≡ min most_records (length rs) → length zt ≡ min most_records (length rs)
     → question13 (needs (new_buffers nw ks) (buffers ws ls os ns zt)) ≡ question13 (needs (new_buffers nw ks) (as_buffers ws rs ts))
-unfolding question13 all long_enough needs as_buffers
+unfolding question13 long_enough needs as_buffers
 needs_same nw ks ws rs ts ls os ns zt h e a b c d = rw (
   length-map ks (λ (r : RungRecord). r.label),
   length-map ks (λ (r : RungRecord). r.offset),
@@ -104,9 +103,9 @@ pub times_put_all : (times old : List ℕ) → times_put (length old) times old 
 unfolding times_put
 times_put_all times old = ap (λ (l : List ℕ). take (length old) times ++ l) (drop-length old) ∙ append-nil (take (length old) times)
 
--- a copy of the fields has room for no more than are copied
-pub room_few : (room lent : ℕ) → room ≡ min most_records lent → room ≤ most_records
-room_few room lent e = omega (arith, e)
+-- a copy's fields: zeros, as many as there is room for
+pub copied : (room lent : ℕ) → room ≡ min most_records lent → length {A = ℕ} (take room (replicate most_records 0)) ≡ min most_records lent
+copied room lent e = let n = length-replicate {A = ℕ} most_records 0 in length-take-le room (replicate {A = ℕ} most_records 0) (omega (arith, e)) ∙ e
 
 -- ---- a call whose last question is 13, and which writes words and records, done on a copy of the fields of a row of `lent` records
 
@@ -131,11 +130,11 @@ module _ (before : Answer) (nw : List ℕ) (ks : List RungRecord) (few : before 
       omega (arith, y.labels, el)
 
   module _ (words' ls os ns times' rest : List ℕ) where
-    abbrev pub fields : ℕ → Rows
-    fields k = record { labels = ls ++ rest; offsets = os ++ rest; lengths = ns ++ rest; n = lent; kept = k }
+    abbrev pub fields : Rows
+    fields = record { labels = ls ++ rest; offsets = os ++ rest; lengths = ns ++ rest; n = lent }
 
-    pub same_refused : buffers words' ls os ns times' ≡ copy → (rs : List RungRecord) (ts : List ℕ) → as_buffers words' (scattered 0 (fields 0) rs) (written (none_entered 0) ts) ≡ as_buffers words rs ts
-    same_refused e rs ts i = as_buffers (e i).words (scattered_none (fields 0) rs i) (none_written ts i)
+    pub same_refused : buffers words' ls os ns times' ≡ copy → (rs : List RungRecord) (ts : List ℕ) → as_buffers words' (scattered 0 fields rs) (written (none_entered 0) ts) ≡ as_buffers words rs ts
+    same_refused e rs ts i = as_buffers (e i).words (scattered_none fields rs i) (none_written ts i)
 
     module _ (after : buffers words' ls os ns times' ≡ written_over (new_buffers nw ks) copy) (same-l : length ls ≡ length zl) (same-o : length os ≡ length zo) (same-n : length ns ≡ length zn) where
       first_field : (xs zs ys : List ℕ) → length ks ≡ length xs → ys ≡ written xs zs → take (length ks) (ys ++ rest) ≡ xs
@@ -145,7 +144,7 @@ module _ (before : Answer) (nw : List ℕ) (ks : List RungRecord) (few : before 
       length_both : (xs ys : List ℕ) → length xs ≡ length ys → length (xs ++ rest) ≡ length (ys ++ rest)
       length_both xs ys e = length-append xs rest ∙ ap (λ n. n + length rest) e ∙ sym (length-append ys rest)
 
-      begins : Begins (fields (length ks)) ks
+      begins : Begins fields ks
       unfolding as_buffers written_over
       begins = record {
         even = record { first = length_both ls os (same-l ∙ el ∙ sym (same-o ∙ eo)); second = length_both os ns (same-o ∙ eo ∙ sym (same-n ∙ en)) };
@@ -155,6 +154,6 @@ module _ (before : Answer) (nw : List ℕ) (ks : List RungRecord) (few : before 
       }
 
       pub same_written : (rs : List RungRecord) (ts : List ℕ)
-          → as_buffers words' (scattered (length ks) (fields (length ks)) rs) (written (none_entered (length ks)) ts) ≡ written_over (new_buffers nw ks) (as_buffers words rs ts)
+          → as_buffers words' (scattered (length ks) fields rs) (written (none_entered (length ks)) ts) ≡ written_over (new_buffers nw ks) (as_buffers words rs ts)
       unfolding as_buffers written_over
-      same_written rs ts = (λ i. as_buffers (after i).words (scattered_begins (fields (length ks)) ks rs begins i) (written (none_entered (length ks)) ts)) ∙ written_row nw words ks rs ts
+      same_written rs ts = (λ i. as_buffers (after i).words (scattered_begins fields ks rs begins i) (written (none_entered (length ks)) ts)) ∙ written_row nw words ks rs ts

@@ -1,10 +1,7 @@
 -- The loop's invariant: the times before `i` are stored.
-use Rattle.std.proofs.Common.{◌-◌, ◌≡◌, ◌≤◌}
+use Rattle.std.proofs.Common.{◌≡◌}
 use Rattle.rows.proofs.Times.{timed_to}
 use Rattle.rows.proofs.put_times.Given as goal
 
 abbrev pub invariant-loop-i : goal.invariant-loop-i
-invariant-loop-i l = record { within : l.i ≤ l.n; stored : l.row ≡ timed_to l.i l.times_lent l.fn.row }
-
-abbrev pub decreases-loop-i : goal.decreases-loop-i
-decreases-loop-i l = l.n - l.i
+invariant-loop-i l = l.row ≡ timed_to l.i l.times l.fn.row

@@ -1,12 +1,8 @@
 -- `rungs::place_of` meets its contract.
-use borrow.Author.Rules.{rules}
+use Rattle.std.proofs.Common.{rules}
 use Rattle.rungs.specs.Parts.{place_of}
 use Rattle.rungs.proofs.place_of.Goals as goal
 
-pub returns-in-Found : goal.returns-in-Found
+pub returns : goal.returns
 unfolding place_of
-returns-in-Found c = search rules
-
-pub returns-in-Missing : goal.returns-in-Missing
-unfolding place_of
-returns-in-Missing c = search rules
+returns c = search rules

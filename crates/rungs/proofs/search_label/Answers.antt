@@ -1,19 +1,16 @@
--- `rungs::search_label` meets its contract. The loop's invariant: the search from `looked` on is the whole search.
-use native.Mathlib.Omega.{arith}
-use Rattle.rungs.proofs.Searches.{search_start, search_found, search_more, search_end}
+-- `rungs::search_label` meets its contract.
+use Rattle.std.proofs.Common.{rules, ◌==◌}
+use Rattle.std.proofs.lemmas.Iterator.{YieldsList-from_slice}
+use Rattle.std.proofs.lemmas.Iterator.Search.{position_from_yields_List}
+use Rattle.rungs.proofs.Laws.Search.{position_found, position_none}
 use Rattle.rungs.proofs.search_label.Goals as goal
 
-pub loop-looked-init : goal.loop-looked-init
-loop-looked-init c = search_start _ _
+pub returns-in-Some : goal.returns-in-Some
+returns-in-Some c =
+    let p = position_from_yields_List (λ m. m == c.args.label) _ _ _ c.position.ensures.ran (YieldsList-from_slice c.args.labels.now (cc)) (λ x b q k. search rules) in
+    position_found c.args.label c.args.labels.now c.in-Some.place (cc)
 
-pub overflow_cast-labels : goal.overflow_cast-labels
-overflow_cast-labels c = omega (arith, c.type_inv.labels c.loop-looked.looked)
-
-pub returns-then-labels-looked : goal.returns-then-labels-looked
-returns-then-labels-looked c = search_found c.loop-looked.invariant c.loop-looked-test.true c.if-labels-looked.true
-
-pub loop-looked-preserved : goal.loop-looked-preserved
-loop-looked-preserved c = search_more c.loop-looked.invariant c.loop-looked-test.true c.if-labels-looked.false
-
-pub returns : goal.returns
-returns c = search_end c.loop-looked.invariant c.loop-looked-test.false
+pub returns-in-None : goal.returns-in-None
+returns-in-None c =
+    let p = position_from_yields_List (λ m. m == c.args.label) _ _ _ c.position.ensures.ran (YieldsList-from_slice c.args.labels.now (cc)) (λ x b q k. search rules) in
+    position_none c.args.label c.args.labels.now (cc)

@@ -1,27 +1,30 @@
 -- What a write turns over: one variable at most, and none past V or where the value stands there. Assumes nothing.
-use Rattle.std.specs.Prelude.{ℕ, ◌+◌, ◌≤◌, ◌<◌, ◌≡◌, Bool, true, false, List, []}
+use Rattle.std.specs.Prelude.{ℕ, ◌+◌, ◌≤◌, ◌<◌, ◌≡◌, Bool, true, false, not, List, ltb, refl}
+use mathlib.Core.Bool.{beq}
 use Rattle.std.proofs.Common.{arith, ap, lt-ltb, le-ltb}
-use Rattle.std.specs.Bool.{xor}
-use Rattle.questions.specs.Tests.{bit}
+use mathlib.Core.Bool.{xor}
 use Rattle.questions.proofs.Laws.Tests.{bit_few}
-use Rattle.table.specs.State.{State, state_with, value_at, turns, write, write_if}
-use Rattle.table.specs.Parts.{TableChanged}
+use Rattle.table.specs.State.{State, value_at, turns, write, write_if}
+use Rattle.table.specs.Parts.{state_in, Changed}
+use Rattle.table.specs.declared.State.{State as StateStruct}
+
+differs : (v b : Bool) → not (beq v b) ≡ xor v b
+unfolding xor
+differs true true = refl
+differs true false = refl
+differs false true = refl
+differs false false = refl
 
 module _ (vars : ℕ) (bytes : List ℕ) (i : ℕ) (b : Bool) where
-  -- a variable of the other value
-  pub turns_one : i < vars → xor (value_at bytes i) b ≡ true → bit (turns vars bytes i b) ≡ 1
+  -- a variable, by its value
+  pub turns_below : (v : Bool) → i < vars → v ≡ value_at bytes i → not (beq v b) ≡ turns vars bytes i b
   unfolding turns
-  turns_one h e = rw (lt-ltb i vars h, e)
-
-  -- a variable of this value
-  pub turns_same : i < vars → xor (value_at bytes i) b ≡ false → bit (turns vars bytes i b) ≡ 0
-  unfolding turns
-  turns_same h e = rw (lt-ltb i vars h, e)
+  turns_below v h e = rw (lt-ltb i vars h, ← e) (differs v b)
 
   -- no variable
-  pub turns_none : vars ≤ i → bit (turns vars bytes i b) ≡ 0
+  pub turns_beyond : vars ≤ i → ltb i vars ≡ turns vars bytes i b
   unfolding turns
-  turns_none h = rw (le-ltb i vars h)
+  turns_beyond h = rw (le-ltb i vars h)
 
 pub write_few : (s : State) (i : ℕ) (b : Bool) → (write s i b).moved ≤ s.moved + 1
 unfolding write
@@ -32,10 +35,10 @@ unfolding write_if
 write_if_few true s i b = write_few s i b
 write_if_few false s i b = omega arith
 
--- the same of the sum that a write gives, where it leaves the bytes u
-module _ (vars : ℕ) (t u : List ℕ) (moved sum i : ℕ) (b : Bool) where
-  pub sum_few : TableChanged vars t moved (λ s. write s i b) sum u → sum ≤ moved + 1
-  sum_few h = let few = write_few (state_with vars t [] 0 moved) i b in let is = ap (λ s. s.moved) (h.same [] 0) in omega arith
+-- the same of a state that is lent
+module _ (old new : StateStruct) (i : ℕ) (b : Bool) where
+  pub sum_few : Changed old new (λ s. write s i b) → new.moved ≤ old.moved + 1
+  sum_few h = let few = write_few (state_in old) i b in let is = ap (λ s. s.moved) h.same in omega arith
 
-  pub sum_if_few : (q : Bool) → TableChanged vars t moved (λ s. write_if q s i b) sum u → sum ≤ moved + 1
-  sum_if_few q h = let few = write_if_few q (state_with vars t [] 0 moved) i b in let is = ap (λ s. s.moved) (h.same [] 0) in omega arith
+  pub sum_if_few : (q : Bool) → Changed old new (λ s. write_if q s i b) → new.moved ≤ old.moved + 1
+  sum_if_few q h = let few = write_if_few q (state_in old) i b in let is = ap (λ s. s.moved) h.same in omega arith

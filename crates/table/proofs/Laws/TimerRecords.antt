@@ -36,7 +36,7 @@ asked_few vars ts e = leb→le (length ts) most_timers (and_yes (leb (length ts)
 
 -- a test of start and flags, from a test of all numbers
 pub timers_pass : (small : ℕ → Bool) (ns : List ℕ) → T (all small ns) → T (all (λ t. small t.start && (small t.running && small t.done)) (timers_in ns))
-unfolding timers_in all
+unfolding timers_in
 timers_pass small (p ∷ s ∷ v ∷ r ∷ d ∷ later) h =
     let test : Timer → Bool = λ t. small t.start && (small t.running && small t.done) in
     let h1 = all_tail small p (s ∷ v ∷ r ∷ d ∷ later) h in

@@ -60,7 +60,6 @@ length_same [] = refl
 length_same (t ∷ ts) = ap suc (length_same ts)
 
 below_same : (vars : ℕ) (ts : List Timer) → all (below vars) (timer_variables ts) ≡ all (timer_below vars) ts
-unfolding all
 below_same vars [] = refl
 below_same vars (t ∷ ts) = ap (λ b. below vars t.variable && b) (below_same vars ts)
 

@@ -1,32 +1,14 @@
--- `digit_at` meets its contract: each return rewrites with the tests that led there. Assumes nothing.
-use borrow.Author.Tests.{lt-ltb, le-ltb}
+-- `digit_at` meets its contract: a byte that is a digit, or none. Assumes nothing.
 use native.Mathlib.Omega.{arith}
-use Rattle.text_grammar.proofs.Bytes.{past_end}
-use Rattle.text_grammar.specs.Reader.{digit_of}
+use Rattle.text_grammar.proofs.Numbers.{digit_is, no_digit, digit_past}
 use Rattle.text_grammar.proofs.digit_at.Goals as goal
 
-pub returns-then-text-at : goal.returns-then-text-at
-unfolding digit_of
-returns-then-text-at c = record { same = simp (past_end c.args.text.now c.args.at c.if-text-at.true); small = omega arith; inside = omega arith }
+pub returns-in_err-byte : goal.returns-in_err-byte
+returns-in_err-byte c = rw c.from_residual.ensures (digit_past _ _ (omega (arith, c.in_err-byte.ensures.lookup)))
 
-pub returns-then-b-lt48 : goal.returns-then-b-lt48
-unfolding digit_of
-returns-then-b-lt48 c = record { same = simp (lt-ltb _ _ c.if-b-lt48.true); small = omega arith; inside = omega arith }
+pub returns-then-is_ascii_digit : goal.returns-then-is_ascii_digit
+returns-then-is_ascii_digit c =
+    digit_is _ _ _ (omega (arith, c.in_ok-byte.ensures.lookup)) c.in_ok-byte.ensures.lookup.1 _ c.if-is_ascii_digit.ensures.cases c.from.ensures
 
-pub returns-then-b-gt57 : goal.returns-then-b-gt57
-unfolding digit_of
-returns-then-b-gt57 c =
-    record {
-      same = simp (le-ltb _ _ c.if-b-lt48.false, lt-ltb _ _ c.if-b-gt57.true);
-      small = omega arith;
-      inside = omega arith;
-    }
-
-pub returns : goal.returns
-unfolding digit_of
-returns c =
-    record {
-      same = simp (le-ltb _ _ c.if-b-lt48.false, le-ltb _ _ c.if-b-gt57.false);
-      small = omega arith;
-      inside = omega arith;
-    }
+pub returns-else-is_ascii_digit : goal.returns-else-is_ascii_digit
+returns-else-is_ascii_digit c = no_digit _ _ _ (omega (arith, c.in_ok-byte.ensures.lookup)) c.in_ok-byte.ensures.lookup.1 c.if-is_ascii_digit.ensures.cases

@@ -1,9 +1,7 @@
 -- `number` meets its contract. Assumes nothing.
+use Prim.Native.Nat.{◌-◌}
 use Rattle.text_grammar.proofs.Numbers.{Reading}
 use Rattle.text_grammar.proofs.number.Given as goal
 
-abbrev pub invariant-loop-left : goal.invariant-loop-left
-invariant-loop-left l = Reading l.text l.at l.value l.next l.left
-
-abbrev pub decreases-loop-left : goal.decreases-loop-left
-decreases-loop-left l = l.left
+abbrev pub invariant-loop : goal.invariant-loop
+invariant-loop l = Reading l.text l.at l.value l.next (4 - l.counter)

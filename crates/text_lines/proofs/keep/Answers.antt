@@ -1,9 +1,9 @@
 -- `text_lines::keep` meets its contract. Assumes nothing.
+use Rattle.std.proofs.lemmas.List.{take_min}
 use Rattle.text_lines.proofs.Keeping.{stored}
 use Rattle.text_lines.proofs.keep.Goals as goal
 
-pub returns : goal.returns
-returns c =
-    stored _ _ _ _ _ _ _ _ _ c.copy_words.ensures
-    c.put_label.ensures c.put_word.ensures
-    c.put_word-2.ensures
+pub returns-clause-kept : goal.returns-clause-kept
+returns-clause-kept c =
+    stored _ _ _ _ _ _ _ _ _ (rw (c.min.ensures, take_min) at c.copy_into.ensures)
+    c.put.ensures c.put-2.ensures c.put-3.ensures

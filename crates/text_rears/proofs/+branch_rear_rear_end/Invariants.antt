@@ -21,8 +21,8 @@ invariant-branch-loop-rung l = Prefixed (branch_by (factor_of l.depth l.text) (e
 abbrev pub decreases-branch-loop-rung : goal.decreases-branch-loop-rung
 decreases-branch-loop-rung l = length l.text - l.next
 
-abbrev pub invariant-rear-loop-n : goal.invariant-rear-loop-n
-invariant-rear-loop-n l = Prefixed (rear_by (branch_of l.depth l.text) l.text) l.text (rear_of l.depth l.text l.at) l.at l.next l.count l.put l.initial.rung l.rung
+abbrev pub invariant-rear-loop-part : goal.invariant-rear-loop-part
+invariant-rear-loop-part l = Prefixed (rear_by (branch_of l.depth l.text) l.text) l.text (rear_of l.depth l.text l.at) l.at l.next l.count l.put l.initial.rung l.rung
 
-abbrev pub decreases-rear-loop-n : goal.decreases-rear-loop-n
-decreases-rear-loop-n l = length l.text - l.next
+abbrev pub decreases-rear-loop-part : goal.decreases-rear-loop-part
+decreases-rear-loop-part l = length l.text - l.next

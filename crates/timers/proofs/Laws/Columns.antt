@@ -8,8 +8,9 @@ use Rattle.std.proofs.Math.Facts.{and_yes}
 use Rattle.questions.proofs.Laws.Tests.{T→true}
 use Rattle.table.specs.Timer.{Timer}
 use Rattle.table.specs.Questions.{most_timers, timers_in_range}
-use Rattle.table.specs.TimerRecords.{Columns, one_length, joined, too_many, column_timers, timer_columns, columns_after}
-use Rattle.timers.specs.Parts.{can_pack}
+use Rattle.table.specs.TimerRecords.{Columns, columns, one_length, joined, too_many, column_timers, timer_columns, columns_after}
+use Rattle.timers.specs.Parts.{can_pack, columns_in, SameSlices}
+use Rattle.timers.specs.declared.Columns.{Columns as ColumnsStruct}
 
 true→T : {b : Bool} → b ≡ true → T b
 true→T e = rw e tt
@@ -105,6 +106,14 @@ timers_back ts = column_timers_lem (timer_columns ts) (lengths_one (timer_column
 pub columns_after_lem : (c : Columns) (ts : List Timer) → one_length c ≡ true → columns_after c ts ≡ timer_columns ts
 unfolding columns_after
 columns_after_lem c ts e = rw e refl
+
+-- slices that nothing was stored into
+pub same_slices : (c : ColumnsStruct) → SameSlices c c
+same_slices c = record { preset = refl; variable = refl; start = refl; running = refl; done = refl }
+
+-- slices into which others than presets and variables were stored
+pub columns_stored : (a b : ColumnsStruct) → SameSlices a b → columns_in b ≡ columns a.preset.now b.start.now a.variable.now b.running.now b.done.now
+columns_stored a b same = rw (same.preset, same.variable) refl
 
 -- ---- what question 16 says of slices
 

@@ -43,7 +43,7 @@ timer_bytes s n p h = go (get_elem? s.timers n) refl
     go (some t) e = rw (timer_some s n p t s.now e refl) (set_bytes s.timers n (powered s.now p t) h (powered_bytes s.now p t))
 
 pub joined_bytes : (ps ss vs rs ds : List ℕ) → ((i : ℕ) → slice_index rs i < 256) → ((i : ℕ) → slice_index ds i < 256) → T (all flag_bytes (joined ps ss vs rs ds))
-unfolding joined all
+unfolding joined
 joined_bytes [] ss vs rs ds f g = tt
 joined_bytes (p ∷ ps) ss vs rs ds f g =
     let t : Timer = record { preset = p; start = slice_index ss 0; variable = slice_index vs 0; running = slice_index rs 0; done = slice_index ds 0 } in

@@ -6,7 +6,7 @@ use Rattle.table.specs.Timer.{Timer}
 use Rattle.table.specs.TimerRecords.{numbers_of, timer_numbers, timers_in, whole, numbers_after}
 use Rattle.timers.specs.Parts.{timer_at}
 
-false_true : {A : Type 0} → ◌≡◌ {A = Bool} false true → A
+pub false_true : {A : Type 0} → ◌≡◌ {A = Bool} false true → A
 false_true e = let z : ◌≡◌ {A = ℕ} 0 1 = cc in absurd (omega arith)
 
 pub numbers_whole : (ts : List Timer) → whole (timer_numbers ts) ≡ true

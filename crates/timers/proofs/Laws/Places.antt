@@ -2,19 +2,17 @@
 use Rattle.std.specs.Prelude.{◌≡◌, ℕ, zero, suc, ◌+◌, ◌*◌, ◌<◌, ◌≤◌, List, [], ◌∷◌, length, slice_index, slice_set, refl}
 use Rattle.std.proofs.Common.{arith, sym, ap, ◌∙◌}
 use Rattle.std.proofs.Math.Option.{none, some}
+use Rattle.std.proofs.lemmas.List.Edits.{sets}
 use Rattle.std.proofs.Math.ListN.{get_elem?}
 use Rattle.table.specs.Timer.{Timer}
-use Rattle.table.specs.TimerRecords.{timers_in}
-use Rattle.timers.specs.Parts.{timer_at, put_timer}
+use Rattle.table.specs.TimerRecords.{numbers_of, timers_in}
+use Rattle.timers.specs.Parts.{timer_at}
 
 -- ---- past the first record
 
 module _ (p s v r d : ℕ) (later : List ℕ) where
   later_at : (i j : ℕ) → j ≡ i + 5 → slice_index (p ∷ s ∷ v ∷ r ∷ d ∷ later) j ≡ slice_index later i
   later_at i j e = let z : j ≡ suc (suc (suc (suc (suc i)))) = omega arith in rw z refl
-
-  later_set : (i j x : ℕ) → j ≡ i + 5 → slice_set (p ∷ s ∷ v ∷ r ∷ d ∷ later) j x ≡ p ∷ s ∷ v ∷ r ∷ d ∷ slice_set later i x
-  later_set i j x e = let z : j ≡ suc (suc (suc (suc (suc i)))) = omega arith in rw z refl
 
   later_timer : (n : ℕ) → timer_at (p ∷ s ∷ v ∷ r ∷ d ∷ later) (suc n * 5) ≡ timer_at later (n * 5)
   later_timer n i = record {
@@ -25,17 +23,9 @@ module _ (p s v r d : ℕ) (later : List ℕ) where
     done = later_at (n * 5 + 4) (suc n * 5 + 4) (omega arith) i;
   }
 
-  later_put : (n : ℕ) (t : Timer) → put_timer (p ∷ s ∷ v ∷ r ∷ d ∷ later) (suc n * 5) t ≡ p ∷ s ∷ v ∷ r ∷ d ∷ put_timer later (n * 5) t
-  later_put n t =
-      rw (later_set (n * 5 + 1) (suc n * 5 + 1) t.start (omega arith))
-      (later_set_again n t)
-    where
-      later_set_again : (n : ℕ) (t : Timer) → slice_set (slice_set (p ∷ s ∷ v ∷ r ∷ d ∷ slice_set later (n * 5 + 1) t.start) (suc n * 5 + 3) t.running) (suc n * 5 + 4) t.done
-          ≡ p ∷ s ∷ v ∷ r ∷ d ∷ put_timer later (n * 5) t
-      later_set_again n t =
-          let z : suc n * 5 + 3 ≡ suc (suc (suc (suc (suc (n * 5 + 3))))) = omega arith in
-          let y : suc n * 5 + 4 ≡ suc (suc (suc (suc (suc (n * 5 + 4))))) = omega arith in
-          rw (z, y) refl
+  later_sets : (n : ℕ) (t : Timer) → sets (p ∷ s ∷ v ∷ r ∷ d ∷ later) (suc n * 5) (numbers_of t) ≡ p ∷ s ∷ v ∷ r ∷ d ∷ sets later (n * 5) (numbers_of t)
+  unfolding numbers_of
+  later_sets n t = let z : suc n * 5 ≡ suc (suc (suc (suc (suc (n * 5))))) = omega arith in rw z refl
 
 -- ---- the record of a number
 
@@ -59,18 +49,14 @@ record_none (p ∷ s ∷ []) n h = refl
 record_none (p ∷ []) n h = refl
 record_none [] n h = refl
 
--- a record that keeps preset and variable, put there
-pub record_put : (ns : List ℕ) (n : ℕ) (t : Timer) → n * 5 + 5 ≤ length ns → t.preset ≡ slice_index ns (n * 5) → t.variable ≡ slice_index ns (n * 5 + 2)
-    → timers_in (put_timer ns (n * 5) t) ≡ slice_set (timers_in ns) n t
-unfolding timers_in
-record_put (p ∷ s ∷ v ∷ r ∷ d ∷ later) zero t h e f =
-    ap (λ x. x ∷ timers_in later) (λ i. record { preset = sym e i; start = t.start; variable = sym f i; running = t.running; done = t.done })
-record_put (p ∷ s ∷ v ∷ r ∷ d ∷ later) (suc n) t h e f =
-    rw (later_put p s v r d later n t)
-    (ap (λ ts. record { preset = p; start = s; variable = v; running = r; done = d } ∷ ts)
-    (record_put later n t (omega arith) (e ∙ later_at p s v r d later (n * 5) (suc n * 5) (omega arith)) (f ∙ later_at p s v r d later (n * 5 + 2) (suc n * 5 + 2) (omega arith))))
-record_put (p ∷ s ∷ v ∷ r ∷ []) n t h e f = absurd (omega arith)
-record_put (p ∷ s ∷ v ∷ []) n t h e f = absurd (omega arith)
-record_put (p ∷ s ∷ []) n t h e f = absurd (omega arith)
-record_put (p ∷ []) n t h e f = absurd (omega arith)
-record_put [] n t h e f = absurd (omega arith)
+-- a record, put there
+pub record_put : (ns : List ℕ) (n : ℕ) (t : Timer) → n * 5 + 5 ≤ length ns → timers_in (sets ns (n * 5) (numbers_of t)) ≡ slice_set (timers_in ns) n t
+unfolding timers_in numbers_of
+record_put (p ∷ s ∷ v ∷ r ∷ d ∷ later) zero t h = refl
+record_put (p ∷ s ∷ v ∷ r ∷ d ∷ later) (suc n) t h =
+    ap timers_in (later_sets p s v r d later n t) ∙ ap (λ ts. record { preset = p; start = s; variable = v; running = r; done = d } ∷ ts) (record_put later n t (omega arith))
+record_put (p ∷ s ∷ v ∷ r ∷ []) n t h = absurd (omega arith)
+record_put (p ∷ s ∷ v ∷ []) n t h = absurd (omega arith)
+record_put (p ∷ s ∷ []) n t h = absurd (omega arith)
+record_put (p ∷ []) n t h = absurd (omega arith)
+record_put [] n t h = absurd (omega arith)

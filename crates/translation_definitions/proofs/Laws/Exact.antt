@@ -80,7 +80,7 @@ module _ (vars n : ℕ) where
       go (inr p) = omega arith
 
   pub codes_within : (start : ℕ → ℕ) (gs : Ladder) → InRange (table_size vars) n (flat_map (rung_code vars start) gs) → T (all (λ g. leb (rung_scratch g) scratch_bytes) gs)
-  unfolding flat_map all
+  unfolding flat_map
   codes_within start [] h = tt
   codes_within start (g ∷ gs) h = all_cons (λ k. leb (rung_scratch k) scratch_bytes) g gs
       (le→leb (rung_scratch g) scratch_bytes (rung_within start g (all_first test (rung_code vars start g) _ h)))

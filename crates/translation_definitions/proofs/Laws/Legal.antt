@@ -130,7 +130,6 @@ unfolding word_in_range
 in_word size n i f k = rw (decode_instr_lem i f, word_in_range) k
 
 words_in_range : (size n : ℕ) (is : List Instr) → T (all instr_fits is) → InRange size n is → T (all (word_in_range size n) (map instr_word is))
-unfolding all
 words_in_range size n [] f h = tt
 words_in_range size n (i ∷ is) f h =
     all_cons (word_in_range size n) (instr_word i) (map instr_word is) (in_word size n i (all_head instr_fits i is f) (all_head (instr_in_range size n) i is h))
@@ -183,7 +182,7 @@ module _ (vars : ℕ) (gs : Ladder) (a : Accepted vars gs) where
   laid_records = lay label_of (size_by (code vars gs)) 0 gs
 
   some_length : (hs : Ladder) (from : ℕ) → T (all (λ r. ltb 0 r.length) (lay label_of (size_by (code vars gs)) from hs))
-  unfolding lay all
+  unfolding lay
   some_length [] from = tt
   some_length (g ∷ hs) from =
       let l = rung_long vars (start vars gs) g in

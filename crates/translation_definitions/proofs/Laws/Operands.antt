@@ -101,7 +101,7 @@ module _ (vars : ℕ) (start : ℕ → ℕ) (ok : Operand → Bool) (passes : Ou
 
   pub codes_pass : (gs : Ladder) → T (all (rung_below vars) gs) → T (all (rung_all (λ i. true) passes) gs) → T (all scratch_fits gs)
       → T (all (λ i. ok (operand i)) (flat_map (rung_code vars start) gs))
-  unfolding flat_map all
+  unfolding flat_map
   codes_pass [] b k h = tt
   codes_pass (g ∷ gs) b k h = all_append test (rung_code vars start g) _
       (rung_ok g (all_head (rung_below vars) g gs b) (all_head (rung_all (λ i. true) passes) g gs k) (leb→le (rung_scratch g) scratch_bytes (all_head scratch_fits g gs h)))
@@ -124,7 +124,7 @@ rear_outputs inputs passes (rear_or a b) h =
     yes_and (rear_all (λ i. true) passes a) (rear_all (λ i. true) passes b) (rear_outputs inputs passes a hh.0) (rear_outputs inputs passes b hh.1)
 
 pub rungs_outputs : (inputs : Input → Bool) (passes : Output → Bool) (gs : Ladder) → T (all (rung_all inputs passes) gs) → T (all (rung_all (λ i. true) passes) gs)
-unfolding all rung_all
+unfolding rung_all
 rungs_outputs inputs passes [] h = tt
 rungs_outputs inputs passes (g ∷ gs) h = all_cons (rung_all (λ i. true) passes) g gs
     (yes_and (front_all (λ i. true) g.front) (rear_all (λ i. true) passes g.rear) (front_any g.front)
@@ -138,7 +138,7 @@ rear_any (rear_and f r) = yes_and (front_all (λ i. true) f) (rear_all (λ i. tr
 rear_any (rear_or a b) = yes_and (rear_all (λ i. true) (λ o. true) a) (rear_all (λ i. true) (λ o. true) b) (rear_any a) (rear_any b)
 
 pub rungs_any : (gs : Ladder) → T (all (rung_all (λ i. true) (λ o. true)) gs)
-unfolding all rung_all
+unfolding rung_all
 rungs_any [] = tt
 rungs_any (g ∷ gs) = all_cons (rung_all (λ i. true) (λ o. true)) g gs
     (yes_and (front_all (λ i. true) g.front) (rear_all (λ i. true) (λ o. true) g.rear) (front_any g.front) (rear_any g.rear)) (rungs_any gs)

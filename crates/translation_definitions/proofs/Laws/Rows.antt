@@ -1,6 +1,6 @@
 -- Demand 3 over rows of rung records, from demand 3 over the calls' definitions: the first records of a row that Translate left are those that it wrote.
 -- Assumes nothing.
-use Rattle.std.specs.Prelude.{ℕ, min, ◌≡◌, refl, List, length, take}
+use Rattle.std.specs.Prelude.{ℕ, min, ◌≡◌, refl, List, length, take, Ok, Err}
 use Rattle.std.proofs.Math.Path.{sym}
 use Rattle.std.proofs.Common.{ap, ◌∙◌, length-take}
 use Rattle.std.proofs.lemmas.List.{length-map}
@@ -12,9 +12,7 @@ use Rattle.rows.specs.declared.Rung.{Rung}
 use Rattle.rows.specs.Rows.{record_of, records_of, times_of}
 use Rattle.table.specs.Timer.{Timer}
 use Rattle.ladder_definitions.specs.Kept.{Kept}
-use Rattle.translation_definitions.specs.declared.Translated.{Translated}
-use Rattle.translation_definitions.specs.declared.Translated.TheVariants.{Written, Refused}
-use Rattle.translation_definitions.specs.TranslateKept.{Counts, counts_in, translate_kept, translated_answer, TranslateDone}
+use Rattle.translation_definitions.specs.TranslateKept.{Counts, counts_in, translate_kept, Translated, translated_answer, TranslateDone}
 use Rattle.translation_definitions.specs.Calls.{Given, ScansAgree, CallsAgree}
 use Rattle.translation_definitions.specs.RowsAgree.{RowsAgree}
 use Rattle.translation_definitions.proofs.Laws.Answers.{not_both, same_counts}
@@ -51,7 +49,7 @@ module _ (vars : ℕ) (kept : Kept) (lent : Buffers) (table : List ℕ) (timers 
   pub rows_alike : (answer : Translated) → TranslateDone (translate_kept vars kept lent) answer (as_buffers code (records_of row) (times_of row))
       → RowsAgree vars kept answer code row table timers now n
   unfolding translated_answer
-  rows_alike (Written d) done =
+  rows_alike (Ok d) done =
       let e : c ≡ counts_in d = same_counts (sym agree.translated ∙ sym done.answer) in
       record { counts = d; translated = refl; scans = rw e at (left_agree done.same_buffers) }
-  rows_alike (Refused refusal) done = absurd (not_both c _ (sym agree.translated ∙ sym done.answer))
+  rows_alike (Err refusal) done = absurd (not_both c _ (sym agree.translated ∙ sym done.answer))

@@ -62,7 +62,7 @@ module _ (vars records : ℕ) (start : ℕ → ℕ) where
       (rear_out b d (all_tail test (LD (vars + d)) second (all_second test first (LD (vars + d) ∷ second) rest)))
 
   codes_out : (gs : Ladder) → T (all test (flat_map (rung_code vars start) gs)) → T (all (rung_all (λ i. true) passes) gs)
-  unfolding flat_map all rung_code rung_all
+  unfolding flat_map rung_code rung_all
   codes_out [] h = tt
   codes_out (g ∷ gs) h =
       let front = F vars g.front 0 in

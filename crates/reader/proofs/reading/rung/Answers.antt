@@ -1,36 +1,14 @@
 -- `reader::reading::rung` meets its contract: by its label and its code. Assumes nothing.
-use native.Mathlib.Omega.{arith}
-use Rattle.list_definitions.specs.Names.{names_in}
-use Rattle.reader.proofs.Keeping.{label_bounds, code_bounds, rung_kept, rung_stuck, rung_no_label}
+use Rattle.reader.proofs.Keeping.{rung_kept, rung_stuck, rung_no_label}
 use Rattle.reader.proofs.reading.rung.Goals as goal
 
-pub code-requires : goal.code-requires
-code-requires c =
-    let bounds = label_bounds (names_in c.args.table.now) c.args.vars _ _ c.label.ensures c.args.sizes _ _ c.in-Read.is in
-    let before = bounds.0 in
-    let few = c.requires.1 in
-    (c.requires.0, bounds.1, omega arith)
+pub returns-in_err-label-clause-kept : goal.returns-in_err-label-clause-kept
+returns-in_err-label-clause-kept c = rw c.from_residual.ensures (rung_no_label _ _ _ _ _ c.in_err-label.ensures _ _)
 
-pub keep_record-requires : goal.keep_record-requires
-keep_record-requires c = (label_bounds (names_in c.args.table.now) c.args.vars _ _ c.label.ensures c.args.sizes _ _ c.in-Read.is).2
+pub returns-in_err-code-clause-kept : goal.returns-in_err-code-clause-kept
+returns-in_err-code-clause-kept c = rw c.from_residual-in_err-code.ensures (rung_stuck _ _ _ _ _ _ c.in_ok-label.ensures _ _ c.in_err-code.ensures _ _)
 
-pub grown-requires : goal.grown-requires
-grown-requires c =
-    let before = (label_bounds (names_in c.args.table.now) c.args.vars _ _ c.label.ensures c.args.sizes _ _ c.in-Read.is).0 in
-    let bounds = code_bounds _ _ _ _ c.label.ensures c.args.sizes _ _ c.in-Read.is _ _ c.code.ensures _ _ c.in-Read-code.is in
-    let end = bounds.0 in
-    let within = bounds.1 in
-    let few = c.requires.1 in
-    let fewer = c.requires.2 in
-    (omega arith, omega arith)
-
-pub returns-in-Read-code : goal.returns-in-Read-code
-returns-in-Read-code c =
-    rung_kept _ _ _ _ c.label.ensures c.args.sizes _ _ c.in-Read.is _ _ c.code.ensures _ _ c.in-Read-code.is
-    c.requires.1 c.requires.2 _ _ _ _ _ _ c.keep_record.ensures _ c.grown.ensures
-
-pub returns-in-Stuck-code : goal.returns-in-Stuck-code
-returns-in-Stuck-code c = rung_stuck _ _ _ _ c.label.ensures c.args.sizes _ _ c.in-Read.is _ _ c.code.ensures c.in-Stuck-code.is _ _
-
-pub returns-in-Stuck : goal.returns-in-Stuck
-returns-in-Stuck c = rung_no_label _ _ _ _ c.label.ensures c.args.sizes c.in-Stuck.is _ _
+pub returns-clause-kept : goal.returns-clause-kept
+returns-clause-kept c =
+    rung_kept _ _ _ _ _ _ c.in_ok-label.ensures _ _ _ c.in_ok-code.ensures c.requires.1 c.requires.2 _ _ _ _ _ _ _ _ c.narrow.ensures c.narrow-2.ensures
+    c.put.ensures c.put-2.ensures c.put-3.ensures _ c.with_rung.ensures

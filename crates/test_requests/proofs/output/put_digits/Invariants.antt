@@ -1,9 +1,0 @@
--- The place goes down.
-use Rattle.std.proofs.Common.{◌≤◌}
-use Rattle.test_requests.proofs.output.put_digits.Given as goal
-
-abbrev pub invariant-loop-at : goal.invariant-loop-at
-invariant-loop-at l = l.at ≤ 20
-
-abbrev pub decreases-loop-at : goal.decreases-loop-at
-decreases-loop-at l = l.at

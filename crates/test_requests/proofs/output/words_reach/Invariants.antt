@@ -1,9 +1,0 @@
--- The place goes down.
-use Rattle.std.proofs.Common.{length, ◌≤◌}
-use Rattle.test_requests.proofs.output.words_reach.Given as goal
-
-abbrev pub invariant-loop-k : goal.invariant-loop-k
-invariant-loop-k l = l.k ≤ length l.words
-
-abbrev pub decreases-loop-k : goal.decreases-loop-k
-decreases-loop-k l = l.k
