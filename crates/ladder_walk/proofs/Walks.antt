@@ -240,13 +240,13 @@ module _ {ws : List ℕ} {from : ℕ} {given : Bool} {begun : State} {at : ℕ} 
 -- ---- the state that is lent
 
 pub same_lent : (s : StateStruct) → SameLent s s
-same_lent s = record { table = refl; timers = refl }
+same_lent s = record { table = refl; timers = refl; vars = refl; tick = refl }
 
 pub lent_after : {a b c : StateStruct} → SameLent a b → SameLent b c → SameLent a c
-lent_after h k = record { table = k.table ∙ h.table; timers = k.timers ∙ h.timers }
+lent_after h k = record { table = k.table ∙ h.table; timers = k.timers ∙ h.timers; vars = k.vars ∙ h.vars; tick = k.tick ∙ h.tick }
 
 pub lent_changed : {a b : StateStruct} {change : State → State} → Changed a b change → SameLent a b
-lent_changed h = record { table = h.same_table; timers = h.same_timers }
+lent_changed h = record { table = h.same_table; timers = h.same_timers; vars = h.vars; tick = h.tick }
 
 -- ---- rungs
 

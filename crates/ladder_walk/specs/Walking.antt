@@ -67,7 +67,9 @@ pub record RungRun (ws : List ℕ) (at : ℕ) (s : State) (r : Ran) (u : State) 
   pub few : u.moved ≤ s.moved + (length ws - at)
   pub done : (g : Rung) → RungAt ws at g → RunDone at (length (rung_words g)) (run_rung g) s r u
 
--- the same table and timer records are lent, whatever stands in them
+-- the same table and timer records are lent, whatever stands in them; V and the tick are as they were
 pub record SameLent (before after : StateStruct) : Type 0 where
   pub table : after.table.ghost_name ≡ before.table.ghost_name
   pub timers : after.timers.ghost_name ≡ before.timers.ghost_name
+  pub vars : after.vars ≡ before.vars
+  pub tick : after.tick ≡ before.tick

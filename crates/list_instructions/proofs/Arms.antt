@@ -49,6 +49,8 @@ module _ {w : ℕ} {v : Bool} {straight : ℕ} {before after : StateStruct} {r :
     few = few;
     same_table = changed.same_table;
     same_timers = changed.same_timers;
+    vars = changed.vars;
+    tick = changed.tick;
   }
 
 module _ {w : ℕ} {v : Bool} {straight : ℕ} {state : StateStruct} {r : Effect} where
@@ -58,7 +60,7 @@ module _ {w : ℕ} {v : Bool} {straight : ℕ} {state : StateStruct} {r : Effect
       → ((pc : ℕ) → straight ≡ pc + 1 → does (make (operand_of w)) v (state_in state) pc ≡ record { accumulator = a; state = state_in state; index = j })
       → Did w v straight state r state
   arm_keeps e make m f h =
-      let kept : Changed state state (λ s. s) = record { same = refl; same_table = refl; same_timers = refl } in
+      let kept : Changed state state (λ s. s) = record { same = refl; same_table = refl; same_timers = refl; vars = refl; tick = refl } in
       arm e make m f kept (omega arith) h
 
   pub arm_not : number_of w ≡ 11 → r ≡ record { accumulator = not v; index = straight } → Did w v straight state r state
@@ -68,6 +70,8 @@ module _ {w : ℕ} {v : Bool} {straight : ℕ} {state : StateStruct} {r : Effect
     few = omega arith;
     same_table = refl;
     same_timers = refl;
+    vars = refl;
+    tick = refl;
   }
     where
       is_not : (i : Instr) (x : ℕ) → only_not x ≡ some i → i ≡ NOT
@@ -82,6 +86,8 @@ module _ {w : ℕ} {v : Bool} {straight : ℕ} {state : StateStruct} {r : Effect
     few = omega arith;
     same_table = refl;
     same_timers = refl;
+    vars = refl;
+    tick = refl;
   }
 
 -- a timer's run turns one variable over at most

@@ -39,15 +39,15 @@ module _ (tick : ℕ) (t : Timer) where
 
 module _ (old new : StateStruct) (number : ℕ) (power : Bool) where
   pub runs_none : length old.timers.now < number * 5 + 5 → Changed old old (λ s. run_timer s number power)
-  runs_none h = record { same = sym (timer_none (state_in old) number power (record_none old.timers.now number h)); same_table = refl; same_timers = refl }
+  runs_none h = record { same = sym (timer_none (state_in old) number power (record_none old.timers.now number h)); same_table = refl; same_timers = refl; vars = refl; tick = refl }
 
   pub runs : (u : Timer) (ms : List ℕ) → number * 5 + 5 ≤ length old.timers.now
       → u ≡ powered old.tick power (timer_at old.timers.now (number * 5)) → ms ≡ sets old.timers.now (number * 5) (numbers_of u)
       → state_in new ≡ write (state_with old.vars old.table.now (timers_in ms) old.tick old.moved) u.variable (truth u.done)
-      → new.table.ghost_name ≡ old.table.ghost_name → new.timers.ghost_name ≡ old.timers.ghost_name
+      → new.table.ghost_name ≡ old.table.ghost_name → new.timers.ghost_name ≡ old.timers.ghost_name → new.vars ≡ old.vars → new.tick ≡ old.tick
       → Changed old new (λ s. run_timer s number power)
   unfolding set_timer
-  runs u ms h is put wrote a b =
+  runs u ms h is put wrote a b v n =
       let was = timer_at old.timers.now (number * 5) in
       let s = state_in old in
       let same : timers_in ms ≡ slice_set s.timers number u = ap timers_in put ∙ record_put old.timers.now number u h in
@@ -61,4 +61,6 @@ module _ (old new : StateStruct) (number : ℕ) (power : Bool) where
             ∙ sym (timer_some s number power was old.tick (record_there old.timers.now number h) refl);
         same_table = a;
         same_timers = b;
+        vars = v;
+        tick = n;
       }

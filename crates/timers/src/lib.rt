@@ -8,10 +8,10 @@ ghost use Rattle.questions.specs.Tests.{all, different, truth};
 ghost use Rattle.table.specs.Timer.{started, tested, powered};
 ghost use Rattle.table.specs.State.{run_timer};
 ghost use Rattle.table.specs.Questions.{timer_below, timer_variables, timers_in_range};
-ghost use Rattle.table.specs.TimerRecords.{timers_in, whole, number_timers};
+ghost use Rattle.table.specs.TimerRecords.{columns, timers_in, whole, number_timers};
 ghost use Rattle.table.specs.Parts.{Changed};
 ghost use Rattle.timers.specs.Parts.{timer_of, timer_at, other_variable};
-ghost use Rattle.timers.specs.Parts.{columns_in, packs, Packable, Packed, Unpackable, Unpacked, SameSlices};
+ghost use Rattle.timers.specs.Parts.{can_pack, columns_in, packs, Packable, Packed, Unpackable, Unpacked, SameSlices};
 
 use table::State;
 
@@ -199,6 +199,36 @@ pub fn timers_in_range(vars: u32, timers: &[u32]) -> bool
     all_below(vars, timers) && none_shared(timers)
 }
 
+// Whether slices of these lengths are of one length and hold at most 32 records.
+pub fn can_pack(preset: usize, start: usize, variable: usize, running: usize, done: usize) -> bool
+    ensures { result ≡ can_pack preset start variable running done }
+{
+    start == preset
+        && variable == preset
+        && running == preset
+        && done == preset
+        && preset <= MOST_TIMERS
+}
+
+// The records of five slices as numbers, and how many numbers they are.
+pub fn pack(
+    preset: &[u32],
+    start: &[u32],
+    variable: &[u16],
+    running: &[u8],
+    done: &[u8],
+    timers: &mut [u32],
+) -> usize
+    requires { Packable (columns preset.now start.now variable.now running.now done.now) timers.old }
+    ensures { Packed (columns preset.now start.now variable.now running.now done.now) result timers.new }
+{
+    for i in 0..preset.len() {
+        let timer = Timer::of(preset[i], start[i], variable[i], running[i], done[i]);
+        put_timer(timers, i * NUMBERS, timer);
+    }
+    preset.len() * NUMBERS
+}
+
 // The five slices that callers lend, an entry for each record.
 #[derive(Drop)]
 pub struct Columns<'a> {
@@ -214,12 +244,13 @@ impl Columns<'_> {
     pub fn can_pack(&self) -> bool
         ensures { result ≡ packs (columns_in self.now) }
     {
-        let records = self.preset.len();
-        self.start.len() == records
-            && self.variable.len() == records
-            && self.running.len() == records
-            && self.done.len() == records
-            && records <= MOST_TIMERS
+        can_pack(
+            self.preset.len(),
+            self.start.len(),
+            self.variable.len(),
+            self.running.len(),
+            self.done.len(),
+        )
     }
 
     // The records as numbers, and how many numbers they are.
@@ -227,17 +258,14 @@ impl Columns<'_> {
         requires { Packable (columns_in self.now) timers.old }
         ensures { Packed (columns_in self.now) result timers.new }
     {
-        for i in 0..self.preset.len() {
-            let timer = Timer::of(
-                self.preset[i],
-                self.start[i],
-                self.variable[i],
-                self.running[i],
-                self.done[i],
-            );
-            put_timer(timers, i * NUMBERS, timer);
-        }
-        self.preset.len() * NUMBERS
+        pack(
+            self.preset,
+            self.start,
+            self.variable,
+            self.running,
+            self.done,
+            timers,
+        )
     }
 
     // What a scan changes of records, back into three of the slices.

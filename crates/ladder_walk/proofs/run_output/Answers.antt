@@ -14,19 +14,19 @@ returns-in_default c = record { ran = no_output _ _ _ _ (no_output_sort _ c.in_d
 
 pub returns-in-Coil : goal.returns-in-Coil
 unfolding output_kind kind_number
-returns-in-Coil c = let e = c.write.ensures in record { ran = ran_coil _ _ _ _ _ (sym c.in-Some.ensures ∙ ap kind_number c.in-Coil.is) e.same; same = lent_changed e }
+returns-in-Coil c = let e = c.write.ensures.changed in record { ran = ran_coil _ _ _ _ _ (sym c.in-Some.ensures ∙ ap kind_number c.in-Coil.is) e.same; same = lent_changed e }
 
 pub returns-in-NegatedCoil : goal.returns-in-NegatedCoil
 unfolding output_kind kind_number
-returns-in-NegatedCoil c = let e = c.write-in-NegatedCoil.ensures in record { ran = ran_coiln _ _ _ _ _ (sym c.in-Some.ensures ∙ ap kind_number c.in-NegatedCoil.is) e.same; same = lent_changed e }
+returns-in-NegatedCoil c = let e = c.write-in-NegatedCoil.ensures.changed in record { ran = ran_coiln _ _ _ _ _ (sym c.in-Some.ensures ∙ ap kind_number c.in-NegatedCoil.is) e.same; same = lent_changed e }
 
 pub returns-in-SetCoil : goal.returns-in-SetCoil
 unfolding output_kind kind_number
-returns-in-SetCoil c = let e = c.write_if.ensures in record { ran = ran_set _ _ _ _ _ (sym c.in-Some.ensures ∙ ap kind_number c.in-SetCoil.is) e.same; same = lent_changed e }
+returns-in-SetCoil c = let e = c.write_if.ensures.changed in record { ran = ran_set _ _ _ _ _ (sym c.in-Some.ensures ∙ ap kind_number c.in-SetCoil.is) e.same; same = lent_changed e }
 
 pub returns-in-ResetCoil : goal.returns-in-ResetCoil
 unfolding output_kind kind_number
-returns-in-ResetCoil c = let e = c.write_if-in-ResetCoil.ensures in record { ran = ran_reset _ _ _ _ _ (sym c.in-Some.ensures ∙ ap kind_number c.in-ResetCoil.is) e.same; same = lent_changed e }
+returns-in-ResetCoil c = let e = c.write_if-in-ResetCoil.ensures.changed in record { ran = ran_reset _ _ _ _ _ (sym c.in-Some.ensures ∙ ap kind_number c.in-ResetCoil.is) e.same; same = lent_changed e }
 
 pub returns-in-Timer : goal.returns-in-Timer
 unfolding output_kind kind_number

@@ -20,11 +20,11 @@ returns-in-Ldn c = arm_keeps (op_told c.of.ensures c.in-Some.is c.in-Ldn.is) LDN
 
 pub returns-in-St : goal.returns-in-St
 unfolding op_number ops does
-returns-in-St c = let wrote = c.write.ensures in arm (op_told c.of.ensures c.in-Some.is c.in-St.is) ST refl c.after-in-St.ensures wrote (sum_few _ _ _ _ wrote) (λ pc q. rw q refl)
+returns-in-St c = let wrote = c.write.ensures.changed in arm (op_told c.of.ensures c.in-Some.is c.in-St.is) ST refl c.after-in-St.ensures wrote (sum_few _ _ _ _ wrote) (λ pc q. rw q refl)
 
 pub returns-in-Stn : goal.returns-in-Stn
 unfolding op_number ops does
-returns-in-Stn c = let wrote = c.write-in-Stn.ensures in arm (op_told c.of.ensures c.in-Some.is c.in-Stn.is) STN refl c.after-in-Stn.ensures wrote (sum_few _ _ _ _ wrote) (λ pc q. rw q refl)
+returns-in-Stn c = let wrote = c.write-in-Stn.ensures.changed in arm (op_told c.of.ensures c.in-Some.is c.in-Stn.is) STN refl c.after-in-Stn.ensures wrote (sum_few _ _ _ _ wrote) (λ pc q. rw q refl)
 
 pub returns-in-And : goal.returns-in-And
 unfolding op_number ops does
@@ -68,11 +68,11 @@ returns-in-Jmpcn c = arm_keeps (op_told c.of.ensures c.in-Some.is c.in-Jmpcn.is)
 
 pub returns-in-S : goal.returns-in-S
 unfolding op_number ops does
-returns-in-S c = let wrote = c.write_if.ensures in arm (op_told c.of.ensures c.in-Some.is c.in-S.is) S refl c.after-in-S.ensures wrote (sum_if_few _ _ _ _ _ wrote) (λ pc q. rw q refl)
+returns-in-S c = let wrote = c.write_if.ensures.changed in arm (op_told c.of.ensures c.in-Some.is c.in-S.is) S refl c.after-in-S.ensures wrote (sum_if_few _ _ _ _ _ wrote) (λ pc q. rw q refl)
 
 pub returns-in-R : goal.returns-in-R
 unfolding op_number ops does
-returns-in-R c = let wrote = c.write_if-in-R.ensures in arm (op_told c.of.ensures c.in-Some.is c.in-R.is) R refl c.after-in-R.ensures wrote (sum_if_few _ _ _ _ _ wrote) (λ pc q. rw q refl)
+returns-in-R c = let wrote = c.write_if-in-R.ensures.changed in arm (op_told c.of.ensures c.in-Some.is c.in-R.is) R refl c.after-in-R.ensures wrote (sum_if_few _ _ _ _ _ wrote) (λ pc q. rw q refl)
 
 pub returns-in-Ton : goal.returns-in-Ton
 unfolding op_number ops does

@@ -1,8 +1,8 @@
--- `table::State::value` meets its contract: the byte's truth, and false past the end, as `get_or` gives 0 there.
+-- `table::State::value` meets its contract.
 use Rattle.std.proofs.Common.{rules}
-use Rattle.table.specs.State.{value, value_at}
+use Rattle.table.specs.State.{value}
 use Rattle.table.proofs.State.value.Goals as goal
 
 pub returns : goal.returns
-unfolding value value_at
+unfolding value
 returns c = search rules

@@ -1,9 +1,9 @@
--- `timers::Columns::pack` meets its contract. The loop's invariant: the numbers of the records from `i` on, over what is written, are the whole.
+-- `timers::pack` meets its contract. The loop's invariant: the numbers of the records from `i` on, over what is written, are the whole.
 use Rattle.std.proofs.Common.{◌*◌, ◌∙◌, ap}
 use Rattle.std.proofs.lemmas.List.Edits.{sets}
 use Rattle.table.specs.TimerRecords.{numbers_of}
 use Rattle.timers.proofs.Packing.{packing_start, packing_more, packing_end}
-use Rattle.timers.proofs.Columns.pack.Goals as goal
+use Rattle.timers.proofs.pack.Goals as goal
 
 pub loop-i-init : goal.loop-i-init
 loop-i-init c = packing_start _ _ c.requires
