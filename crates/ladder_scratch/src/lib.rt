@@ -57,7 +57,7 @@ fn front_scratch(words: &[u32], at: usize) -> Taken
             let second = front_scratch(words, first.next);
             let joined = join_scratch(words, first.next, second.bytes + 1);
             Taken {
-                bytes: first.bytes.max(joined),
+                bytes: rungs::larger(first.bytes, joined),
                 next: second.next,
             }
         }
@@ -83,7 +83,7 @@ fn rear_scratch(words: &[u32], at: usize) -> Taken
             let joined = join_scratch(words, at + 1, front.bytes + 1);
             let rear = rear_scratch(words, front.next);
             Taken {
-                bytes: joined.max(rear.bytes),
+                bytes: rungs::larger(joined, rear.bytes),
                 next: rear.next,
             }
         }
@@ -91,7 +91,7 @@ fn rear_scratch(words: &[u32], at: usize) -> Taken
             let first = rear_scratch(words, at + 1);
             let second = rear_scratch(words, first.next);
             Taken {
-                bytes: (first.bytes + 1).max(second.bytes),
+                bytes: rungs::larger(first.bytes + 1, second.bytes),
                 next: second.next,
             }
         }
@@ -105,7 +105,7 @@ fn rung_scratch(words: &[u32], at: usize) -> usize
 {
     let front = front_scratch(words, at);
     let rear = rear_scratch(words, front.next);
-    front.bytes.max(rear.bytes)
+    rungs::larger(front.bytes, rear.bytes)
 }
 
 // Whether the rung whose words begin at a position, as many as its length says, takes at most 32 scratch bytes. A rung of few words does.

@@ -28,8 +28,8 @@ pub fn factor(
         rung.old rung.new }
 {
     match rungs::at_or(text, at, 0) {
-        b'c' => part::leaf(text, at, Kind::Contact, rung, put),
-        b'n' => part::leaf(text, at, Kind::NegatedContact, rung, put),
+        b'c' => part::leaf(text, at, Kind::Contact as u32, rung, put),
+        b'n' => part::leaf(text, at, Kind::NegatedContact as u32, rung, put),
         b'(' if 0 < depth => {
             let inner = front(text, at + 1, depth - 1, rung, put)?;
             let next = part::after(text, inner.next, b')')?;

@@ -50,7 +50,7 @@ impl Sizes {
         Sizes {
             words: self.words + count,
             rungs: self.rungs + 1,
-            longest: self.longest.max(count),
+            longest: rungs::larger(self.longest, count),
         }
     }
 }

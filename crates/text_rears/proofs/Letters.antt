@@ -6,14 +6,34 @@ use Prim.Native.Nat.{ℕ, ◌<◌}
 use native.Mathlib.Omega.{arith}
 use lib.ListN.{length, get_or}
 use Rattle.std.specs.Prelude.{Some, None}
-use Rattle.rungs.specs.Words.{word}
+use Rattle.rungs.specs.Words.{operands, word}
 use Rattle.ladder_definitions.specs.Tree.{Output, output}
 use Rattle.ladder_definitions.specs.Kept.{output_kind, output_word, rear_words}
+use Rattle.ladder_kinds.specs.Kinds.{kind_number}
+use Rattle.ladder_kinds.specs.declared.Kind.{Kind}
+use Rattle.ladder_kinds.specs.declared.Kind.TheVariants as the_kind
 use Rattle.text_grammar.specs.Reader.{output_at}
 use Rattle.text_grammar.proofs.Laws.Letters.{Letter, letter, known_letter}
 use Rattle.text_grammar.proofs.Laws.Spans.{inside}
 use Rattle.text_fronts.specs.Parts.{one_word}
 use Rattle.text_rears.specs.Letters.{letter_kind}
+
+-- a kind has 16 bits
+pub kind_few : (kind : Kind) → kind_number kind < operands
+unfolding kind_number
+kind_few the_kind.Contact = omega arith
+kind_few the_kind.NegatedContact = omega arith
+kind_few the_kind.FrontAnd = omega arith
+kind_few the_kind.FrontOr = omega arith
+kind_few the_kind.Coil = omega arith
+kind_few the_kind.NegatedCoil = omega arith
+kind_few the_kind.Jump = omega arith
+kind_few the_kind.NegatedJump = omega arith
+kind_few the_kind.RearAnd = omega arith
+kind_few the_kind.RearOr = omega arith
+kind_few the_kind.SetCoil = omega arith
+kind_few the_kind.ResetCoil = omega arith
+kind_few the_kind.Timer = omega arith
 
 -- the word of what a letter of kind k makes of a number
 pub letter_words : {b k : ℕ} {make : ℕ → Output} → Letter b make → k ≡ output_kind (make 0) → (v : ℕ) → rear_words (output (make v)) ≡ one_word (word k v)

@@ -61,7 +61,7 @@ fn rear_end(
 {
     let byte = rungs::at_or(text, at, 0);
     if let Some(kind) = output_kind(byte) {
-        return part::leaf(text, at, kind, rung, put);
+        return part::leaf(text, at, kind.number(), rung, put);
     }
     if byte != b'[' || depth == 0 {
         return Err(Stuck { place: at });

@@ -29,7 +29,7 @@ returns-in-Contact t c = measured_input _ _ _ refl (told _ _ c.in-Some.ensures _
 
 pub returns-in-Joined : goal.returns-in-Joined
 unfolding case_sort sort_in
-returns-in-Joined t c = measured_parts _ _ _ refl _ _ _ _ (told _ _ c.in-Some.ensures _ (arm c.in-Joined.is)) c.front_scratch-first.ensures c.front_scratch-second.ensures c.join_scratch-joined.ensures c.max.ensures
+returns-in-Joined t c = measured_parts _ _ _ refl _ _ _ _ (told _ _ c.in-Some.ensures _ (arm c.in-Joined.is)) c.front_scratch-first.ensures c.front_scratch-second.ensures c.join_scratch-joined.ensures c.larger.ensures
 
 pub returns-in_default-sort : goal.returns-in_default-sort
 returns-in_default-sort t c = measured_none _ _ _ refl (not_front _ _ c.in-Some.ensures (other_arm c.in_default-sort.not-Contact) (other_arm c.in_default-sort.not-Joined))

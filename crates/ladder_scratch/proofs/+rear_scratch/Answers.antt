@@ -37,11 +37,11 @@ returns-in-Output t c = measured_output _ _ _ refl (told _ _ c.in-Some.ensures _
 
 pub returns-in-RearAnd : goal.returns-in-RearAnd
 unfolding case_sort sort_in
-returns-in-RearAnd t c = measured_rear_and _ _ _ refl _ _ _ _ (told _ _ c.in-Some.ensures _ (arm c.in-RearAnd.is)) c.front_scratch-front.ensures c.join_scratch-joined.ensures c.rear_scratch-rear.ensures c.max.ensures
+returns-in-RearAnd t c = measured_rear_and _ _ _ refl _ _ _ _ (told _ _ c.in-Some.ensures _ (arm c.in-RearAnd.is)) c.front_scratch-front.ensures c.join_scratch-joined.ensures c.rear_scratch-rear.ensures c.larger.ensures
 
 pub returns-in-RearOr : goal.returns-in-RearOr
 unfolding case_sort sort_in
-returns-in-RearOr t c = measured_rear_or _ _ _ refl _ _ _ (told _ _ c.in-Some.ensures _ (arm c.in-RearOr.is)) c.rear_scratch-first.ensures c.rear_scratch-second.ensures c.max-in-RearOr.ensures
+returns-in-RearOr t c = measured_rear_or _ _ _ refl _ _ _ (told _ _ c.in-Some.ensures _ (arm c.in-RearOr.is)) c.rear_scratch-first.ensures c.rear_scratch-second.ensures c.larger-in-RearOr.ensures
 
 pub returns-in_default-sort : goal.returns-in_default-sort
 returns-in_default-sort t c = measured_no_rear _ _ _ refl (not_rear _ _ c.in-Some.ensures (other_arm c.in_default-sort.not-Output) (other_arm c.in_default-sort.not-RearAnd) (other_arm c.in_default-sort.not-RearOr))

@@ -3,7 +3,7 @@
 use mathlib.Core.Path.{◌∙◌}
 use native.Mathlib.Omega.{arith}
 use Rattle.text_fronts.proofs.Parts.{error_is, closed, not_closed, inner_stuck}
-use Rattle.text_rears.proofs.Letters.{letter_within}
+use Rattle.text_rears.proofs.Letters.{kind_few, letter_within}
 use Rattle.text_rears.proofs.Ends.{branch_law, rear_law, end_output, end_refused, end_open}
 use Rattle.text_rears.proofs.Rears.{prefix_none, branch_more, branch_short, branch_stuck, branch_end, branch_end_stuck, rear_more, rear_last, rear_stuck}
 use Rattle.text_rears.proofs.+branch_rear_rear_end.Goals as goal
@@ -54,10 +54,10 @@ rear-loop-part-preserved t c =
     (c.insert.auto.words ∙ c.branch-text.auto.rung) c.insert.ensures (omega arith)
 
 pub rear_end-leaf-requires : goal.rear_end-leaf-requires
-rear_end-leaf-requires t c = letter_within _ _ c.in-Some.ensures c.args.text.now _ c.at_or-byte.ensures
+rear_end-leaf-requires t c = (letter_within _ _ c.in-Some.ensures c.args.text.now _ c.at_or-byte.ensures, rw c.number.ensures (kind_few _))
 
 pub rear_end-returns-in-Some : goal.rear_end-returns-in-Some
-rear_end-returns-in-Some t c = end_output _ _ _ c.at_or-byte.ensures _ _ c.in-Some.ensures _ _ _ _ c.leaf.ensures
+rear_end-returns-in-Some t c = end_output _ _ _ c.at_or-byte.ensures _ _ c.in-Some.ensures _ _ _ _ (rw c.number.ensures at c.leaf.ensures)
 
 pub rear_end-returns-then-byte-ne91 : goal.rear_end-returns-then-byte-ne91
 rear_end-returns-then-byte-ne91 t c = end_refused _ _ _ c.at_or-byte.ensures _ c.in_default.ensures c.then-byte-ne91.either _ _ _

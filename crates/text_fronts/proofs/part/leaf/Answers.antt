@@ -6,4 +6,4 @@ pub returns-in_default : goal.returns-in_default
 returns-in_default c = leaf_stuck _ _ _ _ _ _ c.in_default.ensures
 
 pub returns : goal.returns
-returns c = leaf_read _ _ _ _ _ _ _ c.in-Some.ensures (rw c.word.ensures at c.put.ensures)
+returns c = leaf_read _ _ _ _ _ _ _ c.in-Some.ensures c.put.ensures
