@@ -16,7 +16,7 @@ const MOST_TICK: u32 = 4294967295;
 
 // What the bytes of a field so far are: none, a number, or no number. Three states of a reader, of which no two are one Option.
 #[derive(Clone, Copy, PartialEq, Eq)]
-enum Digits {
+pub enum Digits {
     Empty,
     Value(u32),
     Wrong,
@@ -25,10 +25,10 @@ enum Digits {
 // A field that is a number: which; whether a space ended it; and where the next begins, or the line's end stands. `spaced` says nothing of the
 // number: both stand always.
 #[derive(Clone, Copy)]
-struct Field {
-    value: u32,
-    spaced: bool,
-    at: usize,
+pub struct Field {
+    pub value: u32,
+    pub spaced: bool,
+    pub at: usize,
 }
 
 impl Digits {
@@ -137,13 +137,13 @@ pub fn take_now(input: &[u8], from: usize) -> NowTaken
 
 // A line `timer PRESET START VARIABLE RUNNING DONE`, and where the next begins.
 #[derive(Clone, Copy)]
-struct TimerLine {
-    preset: u32,
-    start: u32,
-    variable: u32,
-    running: u32,
-    done: u32,
-    at: usize,
+pub struct TimerLine {
+    pub preset: u32,
+    pub start: u32,
+    pub variable: u32,
+    pub running: u32,
+    pub done: u32,
+    pub at: usize,
 }
 
 // The line of a timer, if it is one.

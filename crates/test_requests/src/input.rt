@@ -39,7 +39,7 @@ impl Stop {
 }
 
 // The chunk holds what was read from standard input and not yet taken, and `stop` is what ended the number read last.
-#[derive(Drop)]
+#[derive(Clone, Copy)]
 pub struct Input {
     stdin: Stdin,
     chunk: [u8; CHUNK],

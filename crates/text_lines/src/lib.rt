@@ -19,10 +19,10 @@ const MOST_BRACKETS: usize = 15;
 
 // A line's label, the position after it, and how many words its rung makes.
 #[derive(Clone, Copy)]
-struct LineParsed {
-    label: u16,
-    next: usize,
-    count: usize,
+pub struct LineParsed {
+    pub label: u16,
+    pub next: usize,
+    pub count: usize,
 }
 
 // What the rungs that were read take: words, records, and words of the longest.
@@ -35,9 +35,9 @@ pub struct Sizes {
 
 // The position after a line that was kept, and what all rungs so far take.
 #[derive(Clone, Copy)]
-struct LineKept {
-    next: usize,
-    sizes: Sizes,
+pub struct LineKept {
+    pub next: usize,
+    pub sizes: Sizes,
 }
 
 impl Sizes {
