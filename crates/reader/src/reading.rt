@@ -1,5 +1,5 @@
 // The lines of a list's text, kept as words and records. Document 02, Req 05.
-ghost use Rattle.std.specs.Prelude.{suc, ◌+◌, ◌<◌, ◌≤◌, ◌^◌, ◌≡◌, length};
+ghost use Rattle.std.specs.Prelude.{suc, ◌+◌, ◌<◌, ◌≤◌, ◌^◌, ◌≡◌, length, min};
 ghost use Rattle.questions.specs.Questions.{most_variables};
 ghost use Rattle.rungs.specs.Buffers.{columns_of, buffers_in, SameLoans};
 ghost use Rattle.text_grammar.specs.Grammar.{most_number};
@@ -12,9 +12,9 @@ use text_grammar::MOST_NUMBER;
 
 // The position after some instruction lines, and how many they are.
 #[derive(Clone, Copy)]
-struct CodeAt {
-    next: usize,
-    count: usize,
+pub struct CodeAt {
+    pub next: usize,
+    pub count: usize,
 }
 
 // What the rungs that were read take: instructions, records, and instructions of the longest.
@@ -27,9 +27,9 @@ pub struct Sizes {
 
 // The position after a rung that was kept, and what all rungs so far take.
 #[derive(Clone, Copy)]
-struct RungAt {
-    next: usize,
-    sizes: Sizes,
+pub struct RungAt {
+    pub next: usize,
+    pub sizes: Sizes,
 }
 
 impl Sizes {
@@ -42,7 +42,7 @@ impl Sizes {
         Sizes {
             instructions: self.instructions + count,
             rungs: self.rungs + 1,
-            longest: self.longest.max(count),
+            longest: rungs::larger(self.longest, count),
         }
     }
 }
@@ -72,11 +72,11 @@ fn code(
     Some(CodeAt { next, count })
 }
 
-// A number of 16 bits as it is; no list that is accepted has a larger one.
+// A number of 16 bits as it is, a larger one as the largest of these; no list that is accepted has a larger one.
 fn narrow(n: usize) -> u32
-    ensures { n ≤ most_number → result ≡ n }
+    ensures { result ≡ min n most_number }
 {
-    u32::try_from(n).unwrap_or(MOST_NUMBER)
+    n.min(MOST_NUMBER as usize) as u32
 }
 
 // A label line and its instruction lines, kept after the rungs before.

@@ -20,10 +20,10 @@ const SCRATCH: u32 = SCRATCH_BYTES as u32;
 
 // An operand: its sort, its number, and the position after it.
 #[derive(Clone, Copy)]
-struct OperandAt {
-    sort: OperandSort,
-    number: u32,
-    next: usize,
+pub struct OperandAt {
+    pub sort: OperandSort,
+    pub number: u32,
+    pub next: usize,
 }
 
 // An instruction word and the position after its line.
@@ -54,25 +54,21 @@ fn letters(text: &[u8], at: usize) -> usize
     next
 }
 
-// The bytes of an op's name, by its place in a table. A table may be shorter than its names.
-fn name_at(table: &[u8], place: usize) -> &[u8]
-    requires { place < 1000 }
-    ensures { result.now ≡ take name_bytes (drop (name_bytes * place) table.now) }
+// Whether a word is the name that stands in a table from a position on, which zeros may follow. It ends at the first byte that differs.
+fn is_named(table: &[u8], from: usize, word: &[u8]) -> bool
+    requires { from < 1000 }
+    ensures { result ≡ same_bytes (trimmed (take name_bytes (drop from table.now))) word.now }
 {
-    let from = (NAME_BYTES * place).min(table.len());
-    let rest = &table[from..];
-    &rest[..NAME_BYTES.min(rest.len())]
-}
-
-// Whether a name, which zeros may follow, is a word.
-fn is_named(name: &[u8], word: &[u8]) -> bool
-    ensures { result ≡ same_bytes (trimmed name.now) word.now }
-{
-    let count = name
-        .iter()
-        .position(|byte| *byte == 0)
-        .unwrap_or(name.len());
-    &name[..count] == word
+    for place in 0..NAME_BYTES {
+        let byte = rungs::at_or(table, from + place, 0);
+        if byte == 0 {
+            return place == word.len();
+        }
+        if rungs::at_or(word, place, 0) != byte {
+            return false;
+        }
+    }
+    NAME_BYTES == word.len()
 }
 
 // The op whose name a word is.
@@ -80,7 +76,7 @@ fn op_named(table: &[u8], word: &[u8]) -> Option<Op>
     ensures { OpFound (names_in table.now) word.now result }
 {
     for place in 0..MOST_OP {
-        if is_named(name_at(table, place), word) {
+        if is_named(table, NAME_BYTES * place, word) {
             return Op::of(place as u32 + 1);
         }
     }
