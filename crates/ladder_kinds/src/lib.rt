@@ -43,7 +43,9 @@ pub enum KindSort {
 }
 
 impl Kind {
-    // The kind with a number, if one has it.
+    // The kind with a number, if one has it. Always inlined: else the compiler first makes a test and a difference of it, each match on the kind
+    // tests again, and Translate of a ladder with many jumps takes a third more instructions.
+    #[inline(always)]
     #[tactic(auto, unfolding(crate::specs::Kinds::kind_number))]
     pub fn of(number: u32) -> Option<Kind>
         ensures { MatchOption result (kind_sort number ≡ no_sort) (λ kind. kind_number kind ≡ number) }
@@ -87,17 +89,19 @@ impl Kind {
         ensures { case_sort result ≡ kind_sort (kind_number self) }
     {
         match self {
-            Kind::Contact | Kind::NegatedContact => KindSort::Contact,
-            Kind::FrontAnd | Kind::FrontOr => KindSort::Joined,
+            Kind::Contact => KindSort::Contact,
+            Kind::NegatedContact => KindSort::Contact,
+            Kind::FrontAnd => KindSort::Joined,
+            Kind::FrontOr => KindSort::Joined,
+            Kind::Coil => KindSort::Output,
+            Kind::NegatedCoil => KindSort::Output,
+            Kind::Jump => KindSort::Output,
+            Kind::NegatedJump => KindSort::Output,
             Kind::RearAnd => KindSort::RearAnd,
             Kind::RearOr => KindSort::RearOr,
-            Kind::Coil
-            | Kind::NegatedCoil
-            | Kind::Jump
-            | Kind::NegatedJump
-            | Kind::SetCoil
-            | Kind::ResetCoil
-            | Kind::Timer => KindSort::Output,
+            Kind::SetCoil => KindSort::Output,
+            Kind::ResetCoil => KindSort::Output,
+            Kind::Timer => KindSort::Output,
         }
     }
 }

@@ -34,7 +34,7 @@ pub fn lay_out(vars: u32, ladder: Slices, starts: &mut [u16]) -> Layout
             &mut [],
             instructions,
         );
-        longest = longest.max(after.put - instructions);
+        longest = rungs::larger(longest, after.put - instructions);
         instructions = after.put;
     }
     Layout {
