@@ -33,7 +33,9 @@ pub enum Op {
 }
 
 impl Op {
-    // The op that has a number.
+    // The op that has a number. Inlined before all else, so that a match on the op is one table of arms on the number: else the number is
+    // tested, and then the op again.
+    #[inline(always)]
     #[tactic(auto, unfolding(crate::specs::Ops::numbered, crate::specs::Ops::cases))]
     pub fn of(number: u32) -> Option<Op>
         ensures { result ≡ numbered number }
