@@ -13,7 +13,7 @@ ghost use Rattle.translation_definitions.specs.BothAgree.{BothPromise, PairedPro
 ghost use Rattle.both_parts.specs.Parts.{memory_in, copied_memory, SameMemory};
 ghost use Rattle.both_scans.specs.Parts.{lent_to, chosen_watchdog, ScansRun};
 
-use both_parts::Memory;
+pub use both_parts::Memory;
 use questions::Refusal;
 use rungs::{Buffers, Slices};
 use table::Halt;

@@ -7,8 +7,7 @@ ghost use Rattle.translation_definitions.specs.BothScans.{lends, paired_scans, B
 ghost use Rattle.program_definitions.specs.Outcome.{Done, PlacedWithin};
 ghost use Rattle.program_definitions.specs.Scanout.{most_report, kept_scanned, text_scanned, rest_scanned, outcome};
 
-use both_parts::Memory;
-use both_scans::paired_scans;
+use both_scans::{Memory, paired_scans};
 use ladder_kinds::MOST_WORDS;
 use list_ops::MOST_INSTRUCTIONS;
 use program_numbers::{MOST_KEPT, kept_end, take_number};
