@@ -1,12 +1,14 @@
 -- Laws of an instruction by its op and operand, and of an instruction line. Assumes nothing.
 use Prim.Native.Nat.{ℕ, ◌+◌, ◌*◌, ◌≤◌}
 use native.Mathlib.Omega.{arith}
-use mathlib.Core.Path.{◌≡◌, refl, sym, ap, ◌∙◌}
+use mathlib.Core.Path.{◌≡◌, refl, sym, ap, subst, ◌∙◌}
+use mathlib.Core.Bool.{Bool, true, false}
 use mathlib.Core.Option.{none, some}
 use mathlib.Core.List.{List}
 use borrow.Author.Tests.{eq-eqb, ne_eqb}
 use lib.ListN.{get_or}
-use lib.Dec.{lt→ltb}
+use lib.Dec.{T, eqb, eqb→eq, lt→ltb}
+use denote.Enum.Bare.{sameb}
 use Rattle.rungs.specs.Words.{operands}
 use Rattle.rungs.proofs.Laws.Numbers.{Firsts, ◌then◌, past, every}
 use Rattle.text_grammar.specs.Grammar.{most_number}
@@ -21,6 +23,7 @@ use Rattle.list_ops.specs.Ops.{op_number}
 use Rattle.list_ops.specs.Sorts.{sort_in}
 use Rattle.list_ops.specs.declared.Op.{Op}
 use Rattle.list_ops.specs.declared.Op.TheVariants as the_op
+use Rattle.list_ops.specs.contracts.OperandSort.{the_type}
 use Rattle.list_ops.specs.declared.OperandSort.{OperandSort}
 use Rattle.list_ops.specs.declared.OperandSort.TheVariants.{Table, Nothing, Instruction, Timer}
 use Rattle.reader_lines.specs.Parts.{LettersRead, OpFound, sort_case, operand_case, OperandParsed, line_case, LineParsed}
@@ -130,6 +133,36 @@ one_sort Timer Table e = absurd (omega arith)
 one_sort Timer Nothing e = absurd (omega arith)
 one_sort Timer Instruction e = absurd (omega arith)
 one_sort Timer Timer e = refl
+
+-- the enum's test for equality is that of sorts
+pub same_case : (a b : OperandSort) (r : Bool) → r ≡ sameb the_type a b → r ≡ same_sort (sort_in (Some a)) (sort_in (Some b))
+unfolding same_sort sort_in sort_number
+same_case Table Table r e = e
+same_case Table Nothing r e = e
+same_case Table Instruction r e = e
+same_case Table Timer r e = e
+same_case Nothing Table r e = e
+same_case Nothing Nothing r e = e
+same_case Nothing Instruction r e = e
+same_case Nothing Timer r e = e
+same_case Instruction Table r e = e
+same_case Instruction Nothing r e = e
+same_case Instruction Instruction r e = e
+same_case Instruction Timer r e = e
+same_case Timer Table r e = e
+same_case Timer Nothing r e = e
+same_case Timer Instruction r e = e
+same_case Timer Timer r e = e
+
+pub takes_true : (a b : OperandSort) (r : Bool) → r ≡ same_sort (sort_in (Some a)) (sort_in (Some b)) → r ≡ true → a ≡ b
+unfolding same_sort
+takes_true a b r e t = one_sort a b (eqb→eq (sort_number (sort_in (Some a))) (sort_number (sort_in (Some b))) (subst T (sym t ∙ e) tt))
+
+pub takes_false : (a b : OperandSort) (r : Bool) → r ≡ same_sort (sort_in (Some a)) (sort_in (Some b)) → r ≡ false → a ≡ b → ⊥
+unfolding same_sort
+takes_false a b r e f q =
+    let z : eqb (sort_number (sort_in (Some a))) (sort_number (sort_in (Some b))) ≡ true = eq-eqb _ _ (ap (λ c. sort_number (sort_in (Some c))) q) in
+    subst T (sym z ∙ sym e ∙ f) tt
 
 -- ---- an instruction line
 

@@ -1,10 +1,12 @@
 // One line of a list's text. Document 02, Req 05 and Req 06.
 #![tactic(auto)]
 
-ghost use Rattle.std.specs.Prelude.{◌*◌, ◌<◌, ◌≤◌, ◌≡◌, length, take, drop};
+ghost use Rattle.std.specs.Prelude.{◌<◌, ◌≤◌, ◌≡◌, Some, length, take, drop};
 ghost use Rattle.questions.specs.Bytes.{same_bytes};
 ghost use Rattle.questions.specs.Questions.{most_variables};
+ghost use Rattle.list_definitions.specs.Instruction.{same_sort};
 ghost use Rattle.list_definitions.specs.Names.{trimmed, name_bytes, names_in};
+ghost use Rattle.list_ops.specs.Sorts.{sort_in};
 ghost use Rattle.text_grammar.specs.Grammar.{most_number};
 ghost use Rattle.reader_definitions.specs.Reader.{between, lettered, operand_from, instruction_from, label_from, opens_label};
 ghost use Rattle.reader_lines.specs.Parts.{LettersRead, OpFound, LetterParsed, OperandParsed, LineParsed, LabelParsed};
@@ -135,6 +137,14 @@ fn operand(text: &[u8], at: usize, vars: u32) -> Option<OperandAt>
     lettered(letter, numeral, vars)
 }
 
+// Whether an op that takes operands of a sort takes one of another: only of its own.
+#[tactic(auto, using(crate::proofs::Lines::same_case))]
+fn takes(sort: OperandSort, given: OperandSort) -> bool
+    ensures { result ≡ same_sort (sort_in (Some sort)) (sort_in (Some given)) }
+{
+    sort == given
+}
+
 // An instruction line, in the names of a table.
 pub fn instruction(table: &[u8], text: &[u8], at: usize, vars: u32) -> Option<LineAt>
     requires { (vars ≤ most_variables) × (at ≤ length text.now) }
@@ -145,7 +155,7 @@ pub fn instruction(table: &[u8], text: &[u8], at: usize, vars: u32) -> Option<Li
     let op = op_named(table, &text[at..to])?;
     let operand = operand(text, to, vars)?;
     let sort = list_ops::operand_sort(op.number())?;
-    if sort != operand.sort {
+    if !takes(sort, operand.sort) {
         return None;
     }
     let next = text_grammar::after(text, operand.next, b'\n')?;
