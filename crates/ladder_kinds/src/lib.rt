@@ -43,8 +43,8 @@ pub enum KindSort {
 }
 
 impl Kind {
-    // The kind with a number, if one has it. Always inlined: else the compiler first makes a test and a difference of it, each match on the kind
-    // tests again, and Translate of a ladder with many jumps takes a third more instructions.
+    // The kind with a number, if one has it. Always inlined, so that a match on the kind is one table of arms on the number: else each
+    // match tests again, and Translate of a ladder with many jumps takes a third more instructions.
     #[inline(always)]
     #[tactic(auto, unfolding(crate::specs::Kinds::kind_number))]
     pub fn of(number: u32) -> Option<Kind>

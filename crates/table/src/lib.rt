@@ -76,8 +76,8 @@ impl State<'_> {
     // Writes a byte, and counts where that turns a variable over. Every number of the timer records stays.
     pub fn write(&mut self, index: usize, b: bool)
         requires { self.old.moved + 1 < 2 ^ 32 }
-        ensures changed { Changed self.old self.new (λ s. write s index b) }
         ensures timers { self.new.timers.now ≡ self.old.timers.now }
+        ensures changed { Changed self.old self.new (λ s. write s index b) }
     {
         self.moved = write(self.vars, self.table, index, b, self.moved);
     }
@@ -85,8 +85,8 @@ impl State<'_> {
     // With power as write, and without power nothing.
     pub fn write_if(&mut self, index: usize, power: bool, b: bool)
         requires { self.old.moved + 1 < 2 ^ 32 }
-        ensures changed { Changed self.old self.new (λ s. write_if power s index b) }
         ensures timers { self.new.timers.now ≡ self.old.timers.now }
+        ensures changed { Changed self.old self.new (λ s. write_if power s index b) }
     {
         self.moved = write_if(self.vars, self.table, index, power, b, self.moved);
     }
