@@ -35,17 +35,26 @@ op_known w i e = go (number_of w) refl (dec_le (length ops) (number_of w))
     go zero q (no h) = absurd (none_some (rw q at e))
     go (suc k) q (no h) = (omega arith, omega arith)
 
+module _ (w : ℕ) (v : Bool) (straight : ℕ) (before after : StateStruct) (r : Effect) (change : State → State) where
+  -- an op that makes the instruction `make x` of its operand x: what the word's instruction does
+  pub arm_same : {k : ℕ} → number_of w ≡ k → (make : ℕ → Instr) → get_or ops k no_op (operand_of w) ≡ some (make (operand_of w))
+      → {a : Bool} {j : ℕ} → r ≡ record { accumulator = a; index = j } → state_in after ≡ change (state_in before)
+      → ((pc : ℕ) → straight ≡ pc + 1 → does (make (operand_of w)) v (state_in before) pc ≡ record { accumulator = a; state = change (state_in before); index = j })
+      → (i : Instr) → decode_instr w ≡ some i → (pc : ℕ) → straight ≡ pc + 1
+      → does i v (state_in before) pc ≡ record { accumulator = r.accumulator; state = state_in after; index = r.index }
+  unfolding decode_instr
+  arm_same e make m f changed h i d pc q =
+      let z : make (operand_of w) ≡ i = cc (rw e at d) in
+      rw (← z, f, changed) (h pc q)
+
 module _ {w : ℕ} {v : Bool} {straight : ℕ} {before after : StateStruct} {r : Effect} where
-  -- an op that makes the instruction `make x` of its operand x
+  -- and all that the word does
   pub arm : {k : ℕ} → number_of w ≡ k → (make : ℕ → Instr) → get_or ops k no_op (operand_of w) ≡ some (make (operand_of w))
       → {a : Bool} {j : ℕ} {change : State → State} → r ≡ record { accumulator = a; index = j } → Changed before after change → after.moved ≤ before.moved + 1
       → ((pc : ℕ) → straight ≡ pc + 1 → does (make (operand_of w)) v (state_in before) pc ≡ record { accumulator = a; state = change (state_in before); index = j })
       → Did w v straight before r after
-  unfolding decode_instr
-  arm e make m f changed few h = record {
-    same = λ i d pc q.
-        let z : make (operand_of w) ≡ i = cc (rw e at d) in
-        rw (← z, f, changed.same) (h pc q);
+  arm {k = k} e make m {a = a} {j = j} {change = change} f changed few h = record {
+    same = arm_same w v straight before after r change e make m f changed.same h;
     few = few;
     same_table = changed.same_table;
     same_timers = changed.same_timers;

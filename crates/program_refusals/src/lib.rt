@@ -174,13 +174,19 @@ pub fn finish(printed: Result<usize, Refusal>, out: &mut [u8]) -> usize
     }
 }
 
-// Standard error, where nothing can be done if it takes no bytes: the program's name and what is wrong, of each at most 100 bytes, in one
-// write, so that a reader gets the line whole.
+// Standard error, where nothing can be done if it takes no bytes: the program's name and what is wrong. Where neither has more than 100
+// bytes they are one write, so that a reader gets the line whole; a longer line is written in three parts.
 #[tactic(auto, unfolding(questions::specs::Bytes::bytes))]
 pub fn complain(stderr: Stderr, name: &[u8], what: &[u8]) {
+    if name.len() > 100 || what.len() > 100 {
+        let _ = stderr.write_all(name);
+        let _ = stderr.write_all(b": ");
+        let _ = stderr.write_all(what);
+        return;
+    }
     let mut line = [0; 202];
-    let named = put_name(&mut line, 0, &name[..name.len().min(100)]);
-    let end = printing::put_text(&mut line, named, &what[..what.len().min(100)]);
+    let named = put_name(&mut line, 0, name);
+    let end = printing::put_text(&mut line, named, what);
     let _ = stderr.write_all(&line[..end]);
 }
 

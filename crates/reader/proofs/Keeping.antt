@@ -20,8 +20,7 @@ use Rattle.list_definitions.specs.Names.{Names}
 use Rattle.reader_definitions.specs.Form.{ListRung, list_of_rungs}
 use Rattle.reader_definitions.specs.ReadList.{words_of}
 use Rattle.reader_definitions.specs.Reader.{label_from, code_from, list_rung, rung_from, rungs_from, list_text_of}
-use Rattle.std.specs.Prelude.{Some, None, min}
-use Rattle.std.proofs.Math.Nat.{min-eq_left}
+use Rattle.std.specs.Prelude.{Some, None}
 use Rattle.reader_lines.specs.Parts.{label_case, LabelParsed}
 use Rattle.reader_lines.specs.declared.LabelAt.{LabelAt}
 use Rattle.reader.specs.Parts.{code_case, CodeParsed, with_rung, put_rung, rung_case, RungIsKept, sizes_of, list_columns, RungsAreKept}
@@ -71,7 +70,7 @@ module _ (names : Names) (vars : ℕ) (s : List ℕ) (at : ℕ) (z : Sizes) wher
 
     module _ (c : CodeAt) (g : CodeParsed (code_from names vars s (suc (length s)) l.next) s l.next (Some c) z.instructions e x) where
       pub rung_kept : z.instructions ≤ at → z.rungs ≤ at → (ls os ns ls' os' ns' : List ℕ) (o n : ℕ)
-          → o ≡ min z.instructions most_number → n ≡ min c.count most_number
+          → (z.instructions ≤ most_number → o ≡ z.instructions) → (c.count ≤ most_number → n ≡ c.count)
           → ls' ≡ set ls z.rungs l.label → os' ≡ set os z.rungs o → ns' ≡ set ns z.rungs n
           → (y : Sizes) → y ≡ with_rung z c.count
           → RungIsKept (rung_from names vars s at) s at z (Some (record { next = c.next; sizes = y }))
@@ -94,7 +93,7 @@ module _ (names : Names) (vars : ℕ) (s : List ℕ) (at : ℕ) (z : Sizes) wher
                 let uc : is ≡ h.code = ap (λ (q : ListRung). q.code) u in
                 let un : c.count ≡ length h.code = sym p.2 ∙ ap length uc in
                 four (g.out c.next is p.1 ∙ ap (λ d. sets e z.instructions (map instr_word d)) uc) (kl ∙ ap (set ls z.rungs) ul)
-                (ko ∙ ap (set os z.rungs) (same_o ∙ min-eq_left (omega arith))) (kn ∙ ap (set ns z.rungs) (same_n ∙ min-eq_left (omega arith) ∙ un));
+                (ko ∙ ap (set os z.rungs) (same_o (omega arith))) (kn ∙ ap (set ns z.rungs) (same_n (omega arith) ∙ un));
           }
         where
           four : {ws ws' ds ds' bs bs' cs cs' : List ℕ} → ws ≡ ws' → ds ≡ ds' → bs ≡ bs' → cs ≡ cs'

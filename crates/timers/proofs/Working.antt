@@ -44,10 +44,10 @@ module _ (old new : StateStruct) (number : ℕ) (power : Bool) where
   pub runs : (u : Timer) (ms : List ℕ) → number * 5 + 5 ≤ length old.timers.now
       → u ≡ powered old.tick power (timer_at old.timers.now (number * 5)) → ms ≡ sets old.timers.now (number * 5) (numbers_of u)
       → state_in new ≡ write (state_with old.vars old.table.now (timers_in ms) old.tick old.moved) u.variable (truth u.done)
-      → new.table.ghost_name ≡ old.table.ghost_name → new.timers.ghost_name ≡ old.timers.ghost_name → new.vars ≡ old.vars → new.tick ≡ old.tick
+      → new.table.ghost_name ≡ old.table.ghost_name → new.timers.ghost_name ≡ old.timers.ghost_name
       → Changed old new (λ s. run_timer s number power)
-  unfolding set_timer
-  runs u ms h is put wrote a b v n =
+  unfolding set_timer write
+  runs u ms h is put wrote a b =
       let was = timer_at old.timers.now (number * 5) in
       let s = state_in old in
       let same : timers_in ms ≡ slice_set s.timers number u = ap timers_in put ∙ record_put old.timers.now number u h in
@@ -61,6 +61,6 @@ module _ (old new : StateStruct) (number : ℕ) (power : Bool) where
             ∙ sym (timer_some s number power was old.tick (record_there old.timers.now number h) refl);
         same_table = a;
         same_timers = b;
-        vars = v;
-        tick = n;
+        vars = ap (λ s. s.vars) wrote;
+        tick = ap (λ s. s.now) wrote;
       }
