@@ -175,7 +175,7 @@ pub fn finish(printed: Result<usize, Refusal>, out: &mut [u8]) -> usize
 }
 
 // Standard error, where nothing can be done if it takes no bytes: the program's name and what is wrong. Where neither has more than 100
-// bytes they are one write, so that a reader gets the line whole; a longer line is written in three parts.
+// bytes they are one write, so that a reader gets the line whole; else its three parts are written one after the other.
 #[tactic(auto, unfolding(questions::specs::Bytes::bytes))]
 pub fn complain(stderr: Stderr, name: &[u8], what: &[u8]) {
     if name.len() > 100 || what.len() > 100 {

@@ -1,5 +1,5 @@
-// Gives the functions by which ladder-list and ladder-scan complain names and texts that one write holds, and longer ones, and writes an output
-// under a longer name. The gate compares standard output; examples/check compares standard error, with a full device too.
+// Gives the functions by which ladder-list and ladder-scan complain names and texts that one write holds, and longer ones, and writes an
+// output under a longer name. The gate compares standard output; examples/check compares standard error, with a full device too.
 #![tactic(auto)]
 
 fn main(rt: HostRuntime) {
